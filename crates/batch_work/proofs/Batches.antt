@@ -6,7 +6,7 @@ use Rattle.std.specs.Option.{option_map_or}
 use Rattle.std.proofs.lemmas.Bool.{ltb-false}
 use Rattle.entry_book.specs.declared.kept.KeptBatch.{KeptBatch}
 use Rattle.entry_book.specs.declared.limit.Limit.{Limit}
-use Rattle.entry_book.specs.declared.reply.Outcome.TheVariants.{Refused}
+use Rattle.entry_book.specs.declared.reply.ReplyOutcome.TheVariants.{Refused}
 use Rattle.entry_book.specs.declared.reply.Refusal.TheVariants.{Full}
 use Rattle.entry_book.specs.Rows.{Bytes}
 use Rattle.entry_book.specs.Order.{first}
@@ -19,7 +19,7 @@ use Rattle.entry_book.specs.Limits.{limit_passed}
 use Rattle.entry_book.specs.History.{Verdict, batch_writes, kept_under, verdict, verdict_when, verdict_again, adds_within, adds, reply_with, is_committed, last_book, place_of, book_for}
 use Rattle.entry_book.proofs.PastPages.{changes_newest}
 use Rattle.version_book.specs.Marks.{Agree}
-use Rattle.version_book.specs.CommittedRows.{State, book_of}
+use Rattle.version_book.specs.CommittedRows.{VersionState, book_of}
 use Rattle.version_book.proofs.Applying.{run_may_apply}
 use Rattle.version_book.proofs.NamedRows.{book_after}
 use Rattle.version_book.proofs.Histories.{batch_commits}
@@ -63,7 +63,7 @@ batch_decided batch b c u v h =
 
 -- ---- at its place, if its token isn't in use
 
-pub verdict_there : (batch : Batch) (s : State) (t : RunEffect) → batch.after ≤ s.number → kept_under batch.token (book_of s.rows) ≡ None → is_query batch.ops ≡ false → run batch.domain batch.ops (book_of s.rows) ≡ Ok t → verdict batch s.number (Some (book_of s.rows)) ≡ adds_within (limit_passed s.number (after (batch_writes batch (s.number + 1) t) (book_of s.rows))) t.replies (after (batch_writes batch (s.number + 1) t) (book_of s.rows))
+pub verdict_there : (batch : Batch) (s : VersionState) (t : RunEffect) → batch.after ≤ s.number → kept_under batch.token (book_of s.rows) ≡ None → is_query batch.ops ≡ false → run batch.domain batch.ops (book_of s.rows) ≡ Ok t → verdict batch s.number (Some (book_of s.rows)) ≡ adds_within (limit_passed s.number (after (batch_writes batch (s.number + 1) t) (book_of s.rows))) t.replies (after (batch_writes batch (s.number + 1) t) (book_of s.rows))
 verdict_there batch s t a k q r =
     verdict_by_case batch s.number (Some (book_of s.rows))
     ∙ (ap (verdict_in batch s.number) (runs_there batch s.number (book_of s.rows) a k)
@@ -127,11 +127,11 @@ pub late : (m n : ℕ) → nat_lt m n ≡ false → n ≤ m
 late m n h = ltb-false m n h
 
 pub awaits_said : AwaitsAsSaid
-awaits_said own batch books made = (
+awaits_said own_domain batch books made = (
   λ h.
       let w = waits batch (case_of batch books) h in
       let r = of_runs (nat_lt (place_of books) batch.after) batch (book_for (past_place batch.ops) books) w.0 w.1 in
-      let newest : past_place batch.ops ≡ None = changes_newest own batch made w.2 in
+      let newest : past_place batch.ops ≡ None = changes_newest own_domain batch made w.2 in
       let same : w.0 ≡ last_book books = last_read w.0 (last_book books) (sym r.1 ∙ ap (λ o. book_for o books) newest) in
       record {
         in_time = late (place_of books) batch.after r.0;

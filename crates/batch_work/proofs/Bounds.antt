@@ -31,7 +31,7 @@ use Rattle.entry_book.proofs.Unfaulted.{entry_faults}
 use Rattle.version_book.specs.declared.mark.MarkKind.TheVariants as mark
 use Rattle.version_book.specs.declared.mark.MarkKind.{MarkKind}
 use Rattle.batch_work.specs.Bounds.{identity_put, identities_put, identities_of, count_of_identities, sets_bundle, count_of_sets, most_reads, IsBounded, OpReadsBounded, BatchReadsBounded, ReadsAreFew, ReadsAreFewAnywhere}
-use Rattle.batch_work.specs.Reads.{early, gone, kept, runs, case_on, text_set, bundle_marks, marks_beside, put_marks, create_marks, update_marks_when, update_marks, walk, walk_marks, for_agent_marks, domains_of, trust_marks, drop_marks, marks_of, marks_after, marks_of_ops, token_marks, footprint_in}
+use Rattle.batch_work.specs.Reads.{early, gone, kept, runs, case_on, text_set, bundle_marks, marks_unless_similar, put_marks, create_marks, update_marks_when, update_marks, walk, walk_marks, for_agent_marks, domains_of, trust_marks, drop_marks, marks_of, marks_after, marks_of_ops, token_marks, footprint_in}
 use Rattle.batch_work.proofs.Counts.{no_longer, once}
 use Rattle.batch_work.proofs.Deciding.{split_all}
 use Rattle.batch_work.proofs.Names.{domain_set, IsNamed, PutsNamed, named_after_op, named_after_run}
@@ -44,12 +44,12 @@ bundle_marks_few : (ds : List Bytes) (b : Book) → length (bundle_marks ds b) �
 bundle_marks_few [] b = omega arith
 bundle_marks_few (d ∷ ds) b = let r = bundle_marks_few ds b in elim (is_some (bundle_at d b)) as (λ t. suc (length (cond t (bundle_marks ds b) [])) ≤ suc (length ds)) [ true ↦ omega arith | false ↦ omega arith ]
 
-beside_few : (o : Option Entry) (e : Entry) (b : Book) → length (marks_beside o e b) ≤ length e.domains
-beside_few (Some o) e b = omega arith
-beside_few None e b = bundle_marks_few e.domains b
+unless_similar_few : (o : Option Entry) (e : Entry) (b : Book) → length (marks_unless_similar o e b) ≤ length e.domains
+unless_similar_few (Some o) e b = omega arith
+unless_similar_few None e b = bundle_marks_few e.domains b
 
 put_few : (e : Entry) (b : Book) → length (put_marks e b) ≤ 1 + length e.domains
-put_few e b = let r = beside_few (similar e b) e b in omega arith
+put_few e b = let r = unless_similar_few (similar e b) e b in omega arith
 
 create_few : (o : Option Entry) (e : Entry) (b : Book) → length (create_marks o e b) ≤ 1 + length e.domains
 create_few (Some o) e b = omega arith
@@ -63,8 +63,8 @@ update_few : (o : Option Entry) (e : NewEntry) (expected : Option ℕ) (b : Book
 update_few None e expected b = omega arith
 update_few (Some old) e expected b = update_few_when (is_stale expected old) (at_revision (old.revision + 1) e) b
 
-few_domains : (own : Bytes) (e : NewEntry) → IsProperEntry e → entry_fault own e ≡ None → length e.domains ≤ 8
-few_domains own e p f = ((entry_faults own e p).0 f).domains
+few_domains : (own_domain : Bytes) (e : NewEntry) → IsProperEntry e → entry_fault own_domain e ≡ None → length e.domains ≤ 8
+few_domains own_domain e p f = ((entry_faults own_domain e p).0 f).domains
 
 -- ---- authorised entries and their bundles
 
@@ -85,9 +85,9 @@ module _ (is ds : List Bytes) (s : Bytes) (a : Agent) (b : Book) (h : IsNamed is
   walk_marks_few : length (walk_marks s a b) ≤ 2 + length is
   walk_marks_few = let l = walk_few in let m = length-map (walk (length b.entries) s a [] b) mark.Children in omega arith
 
-  trust_marks_few : (own : Bytes) (most : ℕ) → Lawful own most b → length (trust_marks s a b) ≤ 2 + length is + length ds
+  trust_marks_few : (own_domain : Bytes) (most : ℕ) → Lawful own_domain most b → length (trust_marks s a b) ≤ 2 + length is + length ds
   unfolding authorised
-  trust_marks_few own most l =
+  trust_marks_few own_domain most l =
       let w = walk_marks_few in
       let named : List Bytes = domains_of (authorised s a b) in
       let d = no_longer named ds (once named (text_set-ascending _)) (λ x v.
@@ -101,35 +101,35 @@ module _ (is ds : List Bytes) (s : Bytes) (a : Agent) (b : Book) (h : IsNamed is
 -- ---- one operation
 
 module _ (is ds : List Bytes) (k : ℕ) (few : length ds ≤ k) (room : 7 ≤ k) where
-  marks_few : (own : Bytes) (most : ℕ) (op : Op) (b : Book) → IsProperOp op → op_fault own op ≡ None → Lawful own most b → IsNamed is ds b → length (marks_of own op b) ≤ 3 + length is + k
-  marks_few own most (Create e) b p f l h = let d = few_domains own e p f in let r = create_few (entry_at e.id b) (at_revision 0 e) b in omega arith
-  marks_few own most (Update e expected) b p f l h = let d = few_domains own e p f in let r = update_few (entry_at e.id b) e expected b in omega arith
-  marks_few own most (Delete x expected) b p f l h = omega arith
-  marks_few own most (Show x) b p f l h = omega arith
-  marks_few own most (ShowAgent x) b p f l h = omega arith
-  marks_few own most (ShowBundle x) b p f l h = omega arith
-  marks_few own most (Children x) b p f l h = omega arith
-  marks_few own most (Page q) b p f l h = omega arith
-  marks_few own most (Authorised x) b p f l h = let r = for_agent_few (2 + length is) (agent_at x b) (λ a. walk_marks (server_text own) a b) (λ a. walk_marks_few is ds (server_text own) a b h) in omega arith
-  marks_few own most (Trust x) b p f l h = let r = for_agent_few (2 + length is + length ds) (agent_at x b) (λ a. trust_marks (server_text own) a b) (λ a. trust_marks_few is ds (server_text own) a b h own most l) in omega arith
-  marks_few own most (Prune moment) b p f l h = omega arith
-  marks_few own most (SetAgent x) b p f l h = omega arith
-  marks_few own most (DropAgent x) b p f l h = omega arith
-  marks_few own most (SetBundle d text) b p f l h = omega arith
-  marks_few own most (DropBundle d m) b p f l h = let r = drop_few (bundle_at d b) d in omega arith
+  marks_few : (own_domain : Bytes) (most : ℕ) (op : Op) (b : Book) → IsProperOp op → op_fault own_domain op ≡ None → Lawful own_domain most b → IsNamed is ds b → length (marks_of own_domain op b) ≤ 3 + length is + k
+  marks_few own_domain most (Create e) b p f l h = let d = few_domains own_domain e p f in let r = create_few (entry_at e.id b) (at_revision 0 e) b in omega arith
+  marks_few own_domain most (Update e expected) b p f l h = let d = few_domains own_domain e p f in let r = update_few (entry_at e.id b) e expected b in omega arith
+  marks_few own_domain most (Delete x expected) b p f l h = omega arith
+  marks_few own_domain most (Show x) b p f l h = omega arith
+  marks_few own_domain most (ShowAgent x) b p f l h = omega arith
+  marks_few own_domain most (ShowBundle x) b p f l h = omega arith
+  marks_few own_domain most (Children x) b p f l h = omega arith
+  marks_few own_domain most (Page q) b p f l h = omega arith
+  marks_few own_domain most (Authorised x) b p f l h = let r = for_agent_few (2 + length is) (agent_at x b) (λ a. walk_marks (server_text own_domain) a b) (λ a. walk_marks_few is ds (server_text own_domain) a b h) in omega arith
+  marks_few own_domain most (Trust x) b p f l h = let r = for_agent_few (2 + length is + length ds) (agent_at x b) (λ a. trust_marks (server_text own_domain) a b) (λ a. trust_marks_few is ds (server_text own_domain) a b h own_domain most l) in omega arith
+  marks_few own_domain most (Prune moment) b p f l h = omega arith
+  marks_few own_domain most (SetAgent x) b p f l h = omega arith
+  marks_few own_domain most (DropAgent x) b p f l h = omega arith
+  marks_few own_domain most (SetBundle d text) b p f l h = omega arith
+  marks_few own_domain most (DropBundle d m) b p f l h = let r = drop_few (bundle_at d b) d in omega arith
 
   -- ---- operations one after another
 
-  footprint_few : (own : Bytes) (most : ℕ) (ops : List Op) (b : Book) → AllByRecursion IsProperOp ops → AllByRecursion (λ op. op_fault own op ≡ None) ops → AllByRecursion (PutsNamed is ds) ops → Lawful own most b → IsNamed is ds b → length (marks_of_ops own ops b) ≤ length ops * (3 + length is + k)
-  footprint_few own most [] b p f q l h = omega arith
-  footprint_few own most (op ∷ ops) b p f q l h =
-      let first = marks_few own most op b p.0 f.0 l h in
-      let rest = rest_few (op_of own op b) (op_keeps own most op b p.0 f.0 l) (named_after_op is ds own op b q.0 h) (λ d m n. footprint_few own (most + 1) ops (after d.writes b) p.1 f.1 q.1 m n) in
-      let both = length-append (marks_of own op b) (marks_after (op_of own op b) (λ d. marks_of_ops own ops (after d.writes b))) in
+  footprint_few : (own_domain : Bytes) (most : ℕ) (ops : List Op) (b : Book) → AllByRecursion IsProperOp ops → AllByRecursion (λ op. op_fault own_domain op ≡ None) ops → AllByRecursion (PutsNamed is ds) ops → Lawful own_domain most b → IsNamed is ds b → length (marks_of_ops own_domain ops b) ≤ length ops * (3 + length is + k)
+  footprint_few own_domain most [] b p f q l h = omega arith
+  footprint_few own_domain most (op ∷ ops) b p f q l h =
+      let first = marks_few own_domain most op b p.0 f.0 l h in
+      let rest = rest_few (op_of own_domain op b) (op_keeps own_domain most op b p.0 f.0 l) (named_after_op is ds own_domain op b q.0 h) (λ d m n. footprint_few own_domain (most + 1) ops (after d.writes b) p.1 f.1 q.1 m n) in
+      let both = length-append (marks_of own_domain op b) (marks_after (op_of own_domain op b) (λ d. marks_of_ops own_domain ops (after d.writes b))) in
       let times = suc-mul (length ops) (3 + length is + k) in
       omega arith
     where
-      rest_few : (o : OpResult) → IfOk o (λ d. Lawful own (most + 1) (after d.writes b)) → IfOk o (λ d. IsNamed is ds (after d.writes b)) → ((d : OpEffect) → Lawful own (most + 1) (after d.writes b) → IsNamed is ds (after d.writes b) → length (marks_of_ops own ops (after d.writes b)) ≤ length ops * (3 + length is + k)) → length (marks_after o (λ d. marks_of_ops own ops (after d.writes b))) ≤ length ops * (3 + length is + k)
+      rest_few : (o : OpResult) → IfOk o (λ d. Lawful own_domain (most + 1) (after d.writes b)) → IfOk o (λ d. IsNamed is ds (after d.writes b)) → ((d : OpEffect) → Lawful own_domain (most + 1) (after d.writes b) → IsNamed is ds (after d.writes b) → length (marks_of_ops own_domain ops (after d.writes b)) ≤ length ops * (3 + length is + k)) → length (marks_after o (λ d. marks_of_ops own_domain ops (after d.writes b))) ≤ length ops * (3 + length is + k)
       rest_few (Ok d) m n g = g d m n
       rest_few (Err r) m n g = omega arith
 
@@ -171,7 +171,7 @@ ok_is : {X E : Type 0} (P : X → Type 0) (r : Result X E) (x : X) → r ≡ Ok 
 ok_is {E = E} P r x e h = let k : IfOk {E = E} (Ok x) P = subst (λ r. IfOk r P) e h in k
 
 pub op_reads_bounded : OpReadsBounded
-op_reads_bounded own most batch b before op later t made l few e ran =
+op_reads_bounded own_domain most batch b before op later t made l few e ran =
     let d : Bytes = batch.domain in
     let faultless : AreFaultless d batch.ops = no_fault d batch.ops batch.token made.no_fault in
     let proper = split_all IsProperOp before (op ∷ later) (subst (AllByRecursion IsProperOp) e made.proper) in
@@ -192,7 +192,7 @@ case_few batch b (Some k) = omega arith
 case_few batch b None = let a = length-append (token_marks batch.token) (marks_of_ops batch.domain batch.ops b) in omega arith
 
 pub batch_reads_bounded : BatchReadsBounded
-batch_reads_bounded own most batch b made l few =
+batch_reads_bounded own_domain most batch b made l few =
     let d : Bytes = batch.domain in
     let faultless : AreFaultless d batch.ops = no_fault d batch.ops batch.token made.no_fault in
     let l' : Lawful d most b = subst (λ o. Lawful o most b) (sym made.domain_is) l in
@@ -227,8 +227,8 @@ one_token None = omega arith
 one_token (Some k) = omega arith
 
 pub reads_are_few : ReadsAreFew
-reads_are_few own batch b made bounded =
-    let r = batch_reads_bounded own bounded.most batch b made bounded.lawful bounded.bundles in
+reads_are_few own_domain batch b made bounded =
+    let r = batch_reads_bounded own_domain bounded.most batch b made bounded.lawful bounded.bundles in
     let faultless : AreFaultless batch.domain batch.ops = no_fault batch.domain batch.ops batch.token made.no_fault in
     let n = faultless.few in
     let e = bounded.entries in
@@ -239,12 +239,12 @@ reads_are_few own batch b made bounded =
     let t = one_token batch.token in
     omega arith
 
-few_read : (own : Bytes) (batch : Batch) (b : Option Book) → IsMadeFor own batch → IfSome b (IsBounded own) → length (footprint_in batch (option_map_or (case_on batch) b gone)) ≤ 2 ^ 21
-few_read own batch None made bounded = omega arith
-few_read own batch (Some b) made bounded = reads_are_few own batch b made bounded
+few_read : (own_domain : Bytes) (batch : Batch) (b : Option Book) → IsMadeFor own_domain batch → IfSome b (IsBounded own_domain) → length (footprint_in batch (option_map_or (case_on batch) b gone)) ≤ 2 ^ 21
+few_read own_domain batch None made bounded = omega arith
+few_read own_domain batch (Some b) made bounded = reads_are_few own_domain batch b made bounded
 
 pub reads_are_few_anywhere : ReadsAreFewAnywhere
-reads_are_few_anywhere own batch place b made bounded = elim (nat_lt place batch.after) as (λ t. length (footprint_in batch (cond t early (option_map_or (case_on batch) b gone))) ≤ 2 ^ 21) [
+reads_are_few_anywhere own_domain batch place b made bounded = elim (nat_lt place batch.after) as (λ t. length (footprint_in batch (cond t early (option_map_or (case_on batch) b gone))) ≤ 2 ^ 21) [
   | true ↦ omega arith
-  | false ↦ few_read own batch b made bounded
+  | false ↦ few_read own_domain batch b made bounded
 ]

@@ -14,9 +14,9 @@ walked_next a e es m w m' w' f f' p q r = rw (p, q, r) refl
 
 -- ---- whether an identity is pending at the end
 
-text_stands : (x : Bytes) (xs : List Bytes) → is_empty (with_text x xs) ≡ false
+text_is_there : (x : Bytes) (xs : List Bytes) → is_empty (with_text x xs) ≡ false
 unfolding with_row
-text_stands x xs = elim (filter (λ t. is_before t x) xs) as (λ l. is_empty (l ++ x ∷ filter (λ t. is_before x t) xs) ≡ false) [
+text_is_there x xs = elim (filter (λ t. is_before t x) xs) as (λ l. is_empty (l ++ x ∷ filter (λ t. is_before x t) xs) ≡ false) [
   | [] ↦ refl
   | y ∷ ys ↦ refl
 ]
@@ -25,7 +25,7 @@ pub still_waits : (es : List Entry) (w : WalkState) → is_empty w.waiting ≡ f
 still_waits [] w h = h
 still_waits (e ∷ es) w h = still_waits es (with_found e w) (elim (is_one_of e.identity w.met) as (λ t. is_empty (met_when t e.identity w.waiting) ≡ false) [
   | true ↦ h
-  | false ↦ text_stands e.identity w.waiting
+  | false ↦ text_is_there e.identity w.waiting
 ])
 
 -- if none is pending, none is after the entries exactly if the identities of all were met
@@ -33,7 +33,7 @@ pub ends_when : (es : List Entry) (w : WalkState) → is_empty w.waiting ≡ tru
 ends_when [] w h = h
 ends_when (e ∷ es) w h = elim (is_one_of e.identity w.met) as (λ t. is_one_of e.identity w.met ≡ t → is_empty (walked es (record w { met = met_when t e.identity w.met; waiting = met_when t e.identity w.waiting; found = with_row entry_key e.id (Some e) w.found })).waiting ≡ (t && list_all (λ (e : Entry). is_one_of e.identity w.met) es)) [
   | true ↦ λ q. ends_when es (record w { found = with_row entry_key e.id (Some e) w.found }) h
-  | false ↦ λ q. still_waits es (record w { met = with_text e.identity w.met; waiting = with_text e.identity w.waiting; found = with_row entry_key e.id (Some e) w.found }) (text_stands e.identity w.waiting)
+  | false ↦ λ q. still_waits es (record w { met = with_text e.identity w.met; waiting = with_text e.identity w.waiting; found = with_row entry_key e.id (Some e) w.found }) (text_is_there e.identity w.waiting)
 ] refl
 
 pub empty_below : (xs : List Bytes) → length xs < 1 → is_empty xs ≡ true

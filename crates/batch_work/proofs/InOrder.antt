@@ -27,26 +27,26 @@ effect_is t u e = cc
 abbrev effect : List OpReply → List RowWrite → RunEffect
 effect replies writes = record { replies = replies; writes = writes }
 
-module _ (own : Bytes) (op : Op) (later : List Op) where
+module _ (own_domain : Bytes) (op : Op) (later : List Op) where
   abbrev Splits : List Op → Book → RunEffect → Type 0
-  Splits before b t = marks_of_ops own (before ++ op ∷ later) b ≡ marks_of_ops own before b ++ marks_of_ops own (op ∷ later) (after t.writes b)
+  Splits before b t = marks_of_ops own_domain (before ++ op ∷ later) b ≡ marks_of_ops own_domain before b ++ marks_of_ops own_domain (op ∷ later) (after t.writes b)
 
-  over_run : (before : List Op) (d : OpEffect) (b : Book) (r : RunResult) (t : RunEffect) → ((u : RunEffect) → r ≡ Ok u → Splits before (after d.writes b) u) → onto d r ≡ Ok t → marks_of_ops own (before ++ op ∷ later) (after d.writes b) ≡ marks_of_ops own before (after d.writes b) ++ marks_of_ops own (op ∷ later) (after t.writes b)
+  over_run : (before : List Op) (d : OpEffect) (b : Book) (r : RunResult) (t : RunEffect) → ((u : RunEffect) → r ≡ Ok u → Splits before (after d.writes b) u) → onto d r ≡ Ok t → marks_of_ops own_domain (before ++ op ∷ later) (after d.writes b) ≡ marks_of_ops own_domain before (after d.writes b) ++ marks_of_ops own_domain (op ∷ later) (after t.writes b)
   over_run before d b (Err s) t ih e = cc
   over_run before d b (Ok u) t ih e =
       let q = ap (λ r. r.writes) (effect_is (effect (d.reply ∷ u.replies) (d.writes ++ u.writes)) t e) in
-      ih u refl ∙ ap (λ c. marks_of_ops own before (after d.writes b) ++ marks_of_ops own (op ∷ later) c) (sym (after-append d.writes u.writes b) ∙ ap (λ ws. after ws b) q)
+      ih u refl ∙ ap (λ c. marks_of_ops own_domain before (after d.writes b) ++ marks_of_ops own_domain (op ∷ later) c) (sym (after-append d.writes u.writes b) ∙ ap (λ ws. after ws b) q)
 
-  over_op : (front : List MarkKind) (before : List Op) (b : Book) (o : OpResult) (t : RunEffect) → ((d : OpEffect) (u : RunEffect) → run own before (after d.writes b) ≡ Ok u → Splits before (after d.writes b) u) → then_run o (λ d. run own before (after d.writes b)) ≡ Ok t → front ++ marks_after o (λ d. marks_of_ops own (before ++ op ∷ later) (after d.writes b)) ≡ (front ++ marks_after o (λ d. marks_of_ops own before (after d.writes b))) ++ marks_of_ops own (op ∷ later) (after t.writes b)
+  over_op : (front : List MarkKind) (before : List Op) (b : Book) (o : OpResult) (t : RunEffect) → ((d : OpEffect) (u : RunEffect) → run own_domain before (after d.writes b) ≡ Ok u → Splits before (after d.writes b) u) → then_run o (λ d. run own_domain before (after d.writes b)) ≡ Ok t → front ++ marks_after o (λ d. marks_of_ops own_domain (before ++ op ∷ later) (after d.writes b)) ≡ (front ++ marks_after o (λ d. marks_of_ops own_domain before (after d.writes b))) ++ marks_of_ops own_domain (op ∷ later) (after t.writes b)
   over_op front before b (Err r) t ih e = cc
-  over_op front before b (Ok d) t ih e = ap (λ l. front ++ l) (over_run before d b (run own before (after d.writes b)) t (ih d) e) ∙ sym (append_assoc front (marks_of_ops own before (after d.writes b)) (marks_of_ops own (op ∷ later) (after t.writes b)))
+  over_op front before b (Ok d) t ih e = ap (λ l. front ++ l) (over_run before d b (run own_domain before (after d.writes b)) t (ih d) e) ∙ sym (append_assoc front (marks_of_ops own_domain before (after d.writes b)) (marks_of_ops own_domain (op ∷ later) (after t.writes b)))
 
-  splits : (before : List Op) (b : Book) (t : RunEffect) → run own before b ≡ Ok t → Splits before b t
-  splits [] b t e = ap (λ r. marks_of_ops own (op ∷ later) (after r.writes b)) (effect_is (effect [] []) t e)
-  splits (x ∷ xs) b t e = over_op (marks_of own x b) xs b (op_of own x b) t (λ d u q. splits xs (after d.writes b) u q) e
+  splits : (before : List Op) (b : Book) (t : RunEffect) → run own_domain before b ≡ Ok t → Splits before b t
+  splits [] b t e = ap (λ r. marks_of_ops own_domain (op ∷ later) (after r.writes b)) (effect_is (effect [] []) t e)
+  splits (x ∷ xs) b t e = over_op (marks_of own_domain x b) xs b (op_of own_domain x b) t (λ d u q. splits xs (after d.writes b) u q) e
 
 pub reads_in_order : ReadsInOrder
-reads_in_order own before op later b t e = splits own op later before b t e
+reads_in_order own_domain before op later b t e = splits own_domain op later before b t e
 
 -- the case that a batch meets on a book that stores this under its token
 meets : (batch : Batch) (b : Book) (k : Bytes) (o : Option KeptBatch) → batch.token ≡ Some k → token_at k b ≡ o → case_on batch b ≡ option_map_or kept o (runs b)

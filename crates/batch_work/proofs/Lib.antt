@@ -8,11 +8,11 @@ pub mod InOrder
 pub mod Looking
 pub mod Names
 pub mod NextMarks
-pub mod Places
+pub mod Ranks
 pub mod Plays
 pub mod Questions
 pub mod Ready
-pub mod Standing
+pub mod WorkInvariants
 pub mod Statuses
 pub mod Taking
 pub mod TextSets

@@ -12,22 +12,22 @@ use Rattle.entry_book.proofs.Faults.{no_fault}
 use Rattle.entry_book.proofs.Sets.{from_within_filter}
 use Rattle.version_book.specs.declared.mark.MarkKind.{MarkKind}
 use Rattle.version_book.specs.Marks.{names_entry, names_bundle, reads}
-use Rattle.version_book.specs.CommittedRows.{State, book_of}
+use Rattle.version_book.specs.CommittedRows.{VersionState, book_of}
 use Rattle.batch_work.specs.declared.phase.Phase.{Phase}
 use Rattle.batch_work.specs.declared.phase.Next.{Next}
 use Rattle.entry_book.specs.Lawful.{CanGrow}
 use Rattle.batch_work.specs.Steps.{mark_of, advance}
 use Rattle.batch_work.specs.Working.{Base, version_read}
-use Rattle.batch_work.specs.Standing.{book_now, Going, Looked}
-use Rattle.batch_work.proofs.Standing.{is_below, looks}
+use Rattle.batch_work.specs.WorkInvariants.{book_now, Going, Looked}
+use Rattle.batch_work.proofs.WorkInvariants.{is_below, looks}
 
-can_grow : (m : MarkKind) (own : Bytes) (most : ℕ) (b : Book) → most ≤ 2 ^ 62 → Lawful own most b → CanGrow (reads m b)
-can_grow m own most b low l = record {
+can_grow : (m : MarkKind) (own_domain : Bytes) (most : ℕ) (b : Book) → most ≤ 2 ^ 62 → Lawful own_domain most b → CanGrow (reads m b)
+can_grow m own_domain most b low l = record {
   revisions = λ e w. let h = l.revisions e (from_within_filter (names_entry m) b.entries e w).0 in omega arith;
   sequences = λ d w. let h = l.sequences d (from_within_filter (names_bundle m) b.bundles d w).0 in omega arith;
 }
 
-same_version : (v s : State) → Some v ≡ Some s → v ≡ s
+same_version : (v s : VersionState) → Some v ≡ Some s → v ≡ s
 same_version v s e = cc
 
 pub op_is : (ops : List Op) (n : ℕ) (x op : Op) (rest : List Op) → drop n ops ≡ op ∷ rest → x ≡ get_or ops n x → op ≡ x
@@ -36,13 +36,13 @@ op_is [] (suc n) x op rest h e = cc
 op_is (y ∷ ys) zero x op rest h e = let q : y ≡ op = cc in sym q ∙ sym e
 op_is (y ∷ ys) (suc n) x op rest h e = op_is ys n x op rest h e
 
-module _ (batch : Batch) (base : Base) (marks : List MarkKind) (changes : List RowWrite) (replies : List OpReply) (n : ℕ) (p : Phase) (g : Going batch base marks changes replies n p) (v : State) (found : Some v ≡ version_read (past_place batch.ops) base) where
+module _ (batch : Batch) (base : Base) (marks : List MarkKind) (changes : List RowWrite) (replies : List OpReply) (n : ℕ) (p : Phase) (g : Going batch base marks changes replies n p) (v : VersionState) (found : Some v ≡ version_read (past_place batch.ops) base) where
   version_is : v ≡ g.at_hand.s
   version_is = same_version v g.at_hand.s (found ∙ g.at_hand.read_is)
 
   pub grows : IsMadeFor batch.domain batch → (m : MarkKind) (reading : Book) → reading ≡ reads m (after changes (book_of v.rows)) → CanGrow reading
   grows made m reading e =
-      let s : State = g.at_hand.s in
+      let s : VersionState = g.at_hand.s in
       let below = is_below batch.ops n g.at_hand.op g.at_hand.rest g.at_hand.here in
       let few = (no_fault batch.domain batch.ops batch.token made.no_fault).few in
       let low = g.at_hand.low in

@@ -13,7 +13,7 @@ use Rattle.entry_book.specs.Rows.{Bytes, Entry, at_revision, entry_key, bundle_k
 use Rattle.entry_book.specs.Order.{Within, with_row}
 use Rattle.entry_book.specs.Book.{Book, entry_at, agent_at, bundle_at, names, users_of, expired_before}
 use Rattle.entry_book.specs.Writes.{RowWrite, wrote_entry, wrote_agent, wrote_bundle, wrote_token, after, after_write}
-use Rattle.entry_book.specs.Ops.{OpEffect, OpResult, similar, lacking, put_named, put_beside, create_over, is_stale, update_when, update_over, removed, delete_when, delete_over, for_agent, agent_dropped, bundle_removed, freed, drop_in, drop_over, op_of}
+use Rattle.entry_book.specs.Ops.{OpEffect, OpResult, similar, lacking, put_named, put_unless_similar, create_over, is_stale, update_when, update_over, removed, delete_when, delete_over, for_agent, agent_dropped, bundle_removed, freed, drop_in, drop_over, op_of}
 use Rattle.entry_book.specs.Runs.{RunResult, onto, then_run, run}
 use Rattle.entry_book.proofs.Changed.{after-append}
 use Rattle.entry_book.proofs.Keys.{from_with_row}
@@ -70,17 +70,17 @@ module _ (is ds : List Bytes) where
   put (Some d) old e h = tt
   put None old e h = (h, tt)
 
-  beside : (p old : Option Entry) (e : Entry) (b : Book) → Within is e.identity → Answers (put_beside p old e b)
-  beside (Some o) old e b h = tt
-  beside None old e b h = put (lacking e.domains b) old e h
+  unless_similar : (p old : Option Entry) (e : Entry) (b : Book) → Within is e.identity → Answers (put_unless_similar p old e b)
+  unless_similar (Some o) old e b h = tt
+  unless_similar None old e b h = put (lacking e.domains b) old e h
 
   create : (o : Option Entry) (e : Entry) (b : Book) → Within is e.identity → Answers (create_over o e b)
   create (Some o) e b h = tt
-  create None e b h = beside (similar e b) None e b h
+  create None e b h = unless_similar (similar e b) None e b h
 
   updated : (stale : Bool) (old : Entry) (e : NewEntry) (b : Book) → Within is e.identity → Answers (update_when stale old e b)
   updated true old e b h = tt
-  updated false old e b h = beside (similar (at_revision (old.revision + 1) e) b) (Some old) (at_revision (old.revision + 1) e) b h
+  updated false old e b h = unless_similar (similar (at_revision (old.revision + 1) e) b) (Some old) (at_revision (old.revision + 1) e) b h
 
   update : (o : Option Entry) (e : NewEntry) (expected : Option ℕ) (b : Book) → Within is e.identity → Answers (update_over o e expected b)
   update None e expected b h = tt
@@ -121,22 +121,22 @@ module _ (is ds : List Bytes) where
     pub identity : AllByRecursion (Within is) (identity_put op)
     pub domain : AllByRecursion (Within ds) (domain_set op)
 
-  op_puts : (own : Bytes) (op : Op) (b : Book) → PutsNamed op → IsNamed b → Answers (op_of own op b)
-  op_puts own (Create e) b p h = create (entry_at e.id b) (at_revision 0 e) b (p.identity).0
-  op_puts own (Update e expected) b p h = update (entry_at e.id b) e expected b (p.identity).0
-  op_puts own (Delete k expected) b p h = delete (entry_at k b) expected
-  op_puts own (Show k) b p h = tt
-  op_puts own (ShowAgent k) b p h = tt
-  op_puts own (ShowBundle k) b p h = tt
-  op_puts own (Children k) b p h = tt
-  op_puts own (Page q) b p h = tt
-  op_puts own (Authorised k) b p h = of_agent (agent_at k b) _ (λ a. tt)
-  op_puts own (Trust k) b p h = of_agent (agent_at k b) _ (λ a. tt)
-  op_puts own (Prune moment) b p h = all_removed (expired_before moment b)
-  op_puts own (SetAgent a) b p h = (tt, tt)
-  op_puts own (DropAgent k) b p h = of_agent (agent_at k b) agent_dropped (λ a. (tt, tt))
-  op_puts own (SetBundle d text) b p h = ((p.domain).0, tt)
-  op_puts own (DropBundle d m) b p h = drop (bundle_at d b) d m b h
+  op_puts : (own_domain : Bytes) (op : Op) (b : Book) → PutsNamed op → IsNamed b → Answers (op_of own_domain op b)
+  op_puts own_domain (Create e) b p h = create (entry_at e.id b) (at_revision 0 e) b (p.identity).0
+  op_puts own_domain (Update e expected) b p h = update (entry_at e.id b) e expected b (p.identity).0
+  op_puts own_domain (Delete k expected) b p h = delete (entry_at k b) expected
+  op_puts own_domain (Show k) b p h = tt
+  op_puts own_domain (ShowAgent k) b p h = tt
+  op_puts own_domain (ShowBundle k) b p h = tt
+  op_puts own_domain (Children k) b p h = tt
+  op_puts own_domain (Page q) b p h = tt
+  op_puts own_domain (Authorised k) b p h = of_agent (agent_at k b) _ (λ a. tt)
+  op_puts own_domain (Trust k) b p h = of_agent (agent_at k b) _ (λ a. tt)
+  op_puts own_domain (Prune moment) b p h = all_removed (expired_before moment b)
+  op_puts own_domain (SetAgent a) b p h = (tt, tt)
+  op_puts own_domain (DropAgent k) b p h = of_agent (agent_at k b) agent_dropped (λ a. (tt, tt))
+  op_puts own_domain (SetBundle d text) b p h = ((p.domain).0, tt)
+  op_puts own_domain (DropBundle d m) b p h = drop (bundle_at d b) d m b h
 
   -- the book after an operation, and after a run
 
@@ -144,8 +144,8 @@ module _ (is ds : List Bytes) where
   after_op (Ok d) b p h = named_after d.writes b p h
   after_op (Err r) b p h = tt
 
-  pub named_after_op : (own : Bytes) (op : Op) (b : Book) → PutsNamed op → IsNamed b → IfOk (op_of own op b) (λ d. IsNamed (after d.writes b))
-  named_after_op own op b p h = after_op (op_of own op b) b (op_puts own op b p h) h
+  pub named_after_op : (own_domain : Bytes) (op : Op) (b : Book) → PutsNamed op → IsNamed b → IfOk (op_of own_domain op b) (λ d. IsNamed (after d.writes b))
+  named_after_op own_domain op b p h = after_op (op_of own_domain op b) b (op_puts own_domain op b p h) h
 
   onto_named : (d : OpEffect) (b : Book) (r : RunResult) → IfOk r (λ t. IsNamed (after t.writes (after d.writes b))) → IfOk (onto d r) (λ t. IsNamed (after t.writes b))
   onto_named d b (Ok t) h = rw (after-append d.writes t.writes b) h
@@ -155,6 +155,6 @@ module _ (is ds : List Bytes) where
   then_named (Ok d) f b h k = onto_named d b (f d) (k d h)
   then_named (Err r) f b h k = tt
 
-  pub named_after_run : (own : Bytes) (ops : List Op) (b : Book) → AllByRecursion PutsNamed ops → IsNamed b → IfOk (run own ops b) (λ t. IsNamed (after t.writes b))
-  named_after_run own [] b p h = h
-  named_after_run own (op ∷ ops) b p h = then_named (op_of own op b) (λ d. run own ops (after d.writes b)) b (named_after_op own op b p.0 h) (λ d k. named_after_run own ops (after d.writes b) p.1 k)
+  pub named_after_run : (own_domain : Bytes) (ops : List Op) (b : Book) → AllByRecursion PutsNamed ops → IsNamed b → IfOk (run own_domain ops b) (λ t. IsNamed (after t.writes b))
+  named_after_run own_domain [] b p h = h
+  named_after_run own_domain (op ∷ ops) b p h = then_named (op_of own_domain op b) (λ d. run own_domain ops (after d.writes b)) b (named_after_op own_domain op b p.0 h) (λ d k. named_after_run own_domain ops (after d.writes b) p.1 k)

@@ -17,9 +17,9 @@ use Rattle.batch_work.specs.declared.stage.Found.TheVariants as found
 use Rattle.batch_work.specs.Reads.{footprint_in}
 use Rattle.batch_work.specs.Steps.{Plays, mark_of}
 use Rattle.batch_work.specs.Working.{Base, footprint_there, version_read}
-use Rattle.batch_work.specs.Standing.{AtStart, AtToken, Going, InTime, StandsRead, later_marks}
+use Rattle.batch_work.specs.WorkInvariants.{AtStart, AtToken, Going, InTime, FoundInvariant, later_marks}
 use Rattle.batch_work.proofs.Looking.{op_is}
-use Rattle.batch_work.proofs.Standing.{meets_none, token_first}
+use Rattle.batch_work.proofs.WorkInvariants.{meets_none, token_first}
 
 -- the item after these
 at_length : {X : Type 0} (xs : List X) (y : X) (ys : List X) → slice_get (xs ++ y ∷ ys) (length xs) ≡ Some y
@@ -44,7 +44,7 @@ module _ (batch : Batch) (base : Base) (marks : List MarkKind) where
         behind (mark.Token k) read.0 (ap (λ l. l ++ mark.Token k ∷ read.0) a.no_marks ∙ sym read.1)
 
     -- a read that was made and is to be recorded
-    pub next_read : (m : MarkKind) (f : Found) → StandsRead m f batch base marks changes replies → slice_get (footprint_there batch base) (length marks) ≡ Some m
+    pub next_read : (m : MarkKind) (f : Found) → FoundInvariant m f batch base marks changes replies → slice_get (footprint_there batch base) (length marks) ≡ Some m
     next_read m (found.Op n next) l = behind m (l.left ++ later_marks l.at_hand) l.reads_are
     next_read m (found.Kept o) h = next_token h.1.0 h.0 h.1.1 ∙ ap Some (sym h.1.2)
     next_read m found.Gone h = next_gone h.0.in_time h.1 h.0.no_marks ∙ ap Some (sym h.2)

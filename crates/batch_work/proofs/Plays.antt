@@ -16,7 +16,7 @@ use Rattle.entry_book.specs.Rows.{Bytes, Entry, at_revision, bundle_key}
 use Rattle.entry_book.specs.Order.{Within, first}
 use Rattle.entry_book.specs.Book.{Book, AscendingBook, entry_at, agent_at, bundle_at, children_of, users_of}
 use Rattle.entry_book.specs.Authorised.{authorised}
-use Rattle.entry_book.specs.Ops.{OpResult, done, similar, lacking, put_named, put_beside, create_over, is_stale, update_when, update_over, delete_when, delete_over, for_agent, agent_dropped, bundles_of, drop_in, drop_over, op_of}
+use Rattle.entry_book.specs.Ops.{OpResult, done, similar, lacking, put_named, put_unless_similar, create_over, is_stale, update_when, update_over, delete_when, delete_over, for_agent, agent_dropped, bundles_of, drop_in, drop_over, op_of}
 use Rattle.entry_book.proofs.Keys.{at_row}
 use Rattle.entry_book.specs.Authorised.{holds}
 use Rattle.entry_book.specs.Pages.{listed, next_of}
@@ -24,20 +24,20 @@ use Rattle.entry_book.proofs.Sets.{length_filter_le, from_within_filter}
 use Rattle.version_book.proofs.NamedRows.{reads_all}
 use Rattle.version_book.specs.declared.mark.MarkKind.{MarkKind}
 use Rattle.version_book.specs.declared.mark.MarkKind.TheVariants as mark
-use Rattle.batch_work.specs.declared.phase.Asked.{Asked}
-use Rattle.batch_work.specs.declared.phase.Asked.TheVariants as asked
+use Rattle.batch_work.specs.declared.phase.WalkFor.{WalkFor}
+use Rattle.batch_work.specs.declared.phase.WalkFor.TheVariants as asked
 use Rattle.batch_work.specs.declared.phase.Phase.TheVariants as phase
 use Rattle.batch_work.specs.declared.phase.Next.{Next}
-use Rattle.batch_work.specs.declared.phase.Next.TheVariants.{Goes, Ends}
-use Rattle.batch_work.specs.Reads.{bundle_marks, marks_beside, create_marks, update_marks_when, update_marks, drop_marks, found, unread, least_then, walk, walk_marks, for_agent_marks, domains_of, trust_marks, marks_of}
-use Rattle.batch_work.specs.Steps.{next_bundle, bundles_next, bundle_next, beside_next, create_next, update_next_when, update_next, delete_next_when, delete_next, for_agent_next, drop_next, users_next, next_trusted, trusted_next, agent_gone, walk_end, identity_next, walk_next, GoesOn, Plays}
+use Rattle.batch_work.specs.declared.phase.Next.TheVariants.{Continues, Ends}
+use Rattle.batch_work.specs.Reads.{bundle_marks, marks_unless_similar, create_marks, update_marks_when, update_marks, drop_marks, found, unread, least_then, walk, walk_marks, for_agent_marks, domains_of, trust_marks, marks_of}
+use Rattle.batch_work.specs.Steps.{next_bundle, bundles_next, bundle_next, unless_similar_next, create_next, update_next_when, update_next, delete_next_when, delete_next, for_agent_next, drop_next, users_next, next_trusted, trusted_next, agent_gone, walk_end, identity_next, walk_next, ContinuesWith, Plays}
 use Rattle.batch_work.specs.WalkStates.{WalkState, first_walk, walked}
 use Rattle.batch_work.proofs.Walks.{Known, found_inside, known_more, walk_gives, waiting, fewer}
 use Rattle.batch_work.proofs.WalkStates.{Reached, reached_first, all_found_in, waiting_is, one_read}
 use Rattle.batch_work.proofs.TrustedBundles.{named_bundles}
 
 abbrev Turn : Bytes → Op → Book → Next → List MarkKind → OpResult → Type 0
-Turn s op b n ms o = GoesOn n ms o (λ q. Plays s op q b ms o)
+Turn s op b n ms o = ContinuesWith n ms o (λ q. Plays s op q b ms o)
 
 -- ---- lists by index
 
@@ -68,17 +68,17 @@ module _ (s : Bytes) (op : Op) (b : Book) where
       ] in
       subst (λ x. Turn s op b (next_bundle x old e n) (bundle_marks (d ∷ ds) b) (put_named (lacking (d ∷ ds) b) old e)) (sym k.0) (refl, rest (is_some (bundle_at d b)) refl)
 
-  beside_turn : (p : Option Entry) (old : Option Entry) (e : Entry) → Turn s op b (beside_next p old e) (marks_beside p e b) (put_beside p old e b)
-  beside_turn (Some o) old e = (refl, refl)
-  beside_turn None old e = bundles_turn old e e.domains 0 refl
+  unless_similar_turn : (p : Option Entry) (old : Option Entry) (e : Entry) → Turn s op b (unless_similar_next p old e) (marks_unless_similar p e b) (put_unless_similar p old e b)
+  unless_similar_turn (Some o) old e = (refl, refl)
+  unless_similar_turn None old e = bundles_turn old e e.domains 0 refl
 
   create_turn : (o : Option Entry) (e : NewEntry) → Turn s op b (create_next o e) (create_marks o (at_revision 0 e) b) (create_over o (at_revision 0 e) b)
   create_turn (Some o) e = (refl, refl)
-  create_turn None e = (refl, beside_turn (similar (at_revision 0 e) b) None (at_revision 0 e))
+  create_turn None e = (refl, unless_similar_turn (similar (at_revision 0 e) b) None (at_revision 0 e))
 
   update_turn_when : (t : Bool) (old : Entry) (e : NewEntry) → Turn s op b (update_next_when t old e) (update_marks_when t (at_revision (old.revision + 1) e) b) (update_when t old e b)
   update_turn_when true old e = (refl, refl)
-  update_turn_when false old e = (refl, beside_turn (similar (at_revision (old.revision + 1) e) b) (Some old) (at_revision (old.revision + 1) e))
+  update_turn_when false old e = (refl, unless_similar_turn (similar (at_revision (old.revision + 1) e) b) (Some old) (at_revision (old.revision + 1) e))
 
   update_turn : (o : Option Entry) (e : NewEntry) (expected : Option ℕ) → Turn s op b (update_next o e expected) (update_marks o e expected b) (update_over o e expected b)
   update_turn None e expected = (refl, refl)
@@ -115,7 +115,7 @@ module _ (s : Bytes) (op : Op) (b : Book) where
       subst (λ x. Turn s op b (next_trusted x ds n bs) (mark.Bundle d ∷ map mark.Bundle rest) (done (replied.Bundles (bs ++ (rows ++ all))) [])) (sym k.0)
       (refl, subst (λ l. Turn s op b (trusted_next ds (n + 1) (bs ++ rows)) (map mark.Bundle rest) (done (replied.Bundles l) [])) (append_assoc bs rows all) (trusted_turn rest ds (n + 1) (bs ++ rows) k.1))
 
-  module _ (ordered : AscendingBook b) (a : Agent) (ask : Asked) (tail : List MarkKind) (o : OpResult) (ending : Turn s op b (walk_end ask (authorised s a b)) tail o) where
+  module _ (ordered : AscendingBook b) (a : Agent) (ask : WalkFor) (tail : List MarkKind) (o : OpResult) (ending : Turn s op b (walk_end ask (authorised s a b)) tail o) where
     child_inside : (p : Bytes) (e : Entry) → Within (children_of p b) e → Within b.entries e
     child_inside p e w = (from_within_filter (λ x. bytes_eq x.parent p) b.entries e w).0
 
@@ -123,8 +123,8 @@ module _ (s : Bytes) (op : Op) (b : Book) where
     ended rs w r k u = subst (λ es. Turn s op b (walk_end ask es) tail o) (sym (walk_gives s a b ordered.entries rs k u w.found r.found_order r.from_found r.into_found)) ending
 
     -- the children of one more identity were read
-    goes_on : (rs : List Bytes) (w : WalkState) (i : Bytes) (is : List Bytes) → Reached a rs (found s a rs b) w → w.waiting ≡ i ∷ is → Reached a (i ∷ rs) (found s a (i ∷ rs) b) (walked (children_of i b) (record w { waiting = is }))
-    goes_on rs w i is r h = all_found_in a b.entries ordered.entries (i ∷ rs) (children_of i b) (found s a rs b) (record w { waiting = is }) (one_read a rs (found s a rs b) w i is r h) (found_inside s a b rs) (child_inside i)
+    continues : (rs : List Bytes) (w : WalkState) (i : Bytes) (is : List Bytes) → Reached a rs (found s a rs b) w → w.waiting ≡ i ∷ is → Reached a (i ∷ rs) (found s a (i ∷ rs) b) (walked (children_of i b) (record w { waiting = is }))
+    continues rs w i is r h = all_found_in a b.entries ordered.entries (i ∷ rs) (children_of i b) (found s a rs b) (record w { waiting = is }) (one_read a rs (found s a rs b) w i is r h) (found_inside s a b rs) (child_inside i)
 
     walk_turn : (n : ℕ) (rs : List Bytes) (w : WalkState) → Reached a rs (found s a rs b) w → AllByRecursion (Known s a b) rs → length (waiting s a b rs) ≤ n → Turn s op b (walk_next ask w) (map mark.Children (walk n s a rs b) ++ tail) o
     walk_turn zero rs w r k l = none w.waiting refl
@@ -134,7 +134,7 @@ module _ (s : Bytes) (op : Op) (b : Book) where
         none (i ∷ is) e = let f = fewer s a b rs i is (sym (waiting_is a rs (found s a rs b) w r) ∙ e) in absurd (omega arith)
     walk_turn (suc n) rs w r k l =
         subst (λ us. Turn s op b (walk_next ask w) (map mark.Children (least_then (first us) (λ i. walk n s a (i ∷ rs) b)) ++ tail) o) (waiting_is a rs (found s a rs b) w r)
-        (some w.waiting refl (λ i is e. let u = sym (waiting_is a rs (found s a rs b) w r) ∙ e in walk_turn n (i ∷ rs) (walked (children_of i b) (record w { waiting = is })) (goes_on rs w i is r e) (known_more s a b rs i is k u) (let f = fewer s a b rs i is u in omega arith)))
+        (some w.waiting refl (λ i is e. let u = sym (waiting_is a rs (found s a rs b) w r) ∙ e in walk_turn n (i ∷ rs) (walked (children_of i b) (record w { waiting = is })) (continues rs w i is r e) (known_more s a b rs i is k u) (let f = fewer s a b rs i is u in omega arith)))
       where
         some : (us : List Bytes) → w.waiting ≡ us → ((i : Bytes) (is : List Bytes) → w.waiting ≡ i ∷ is → Turn s op b (walk_next ask (walked (children_of i b) (record w { waiting = is }))) (map mark.Children (walk n s a (i ∷ rs) b) ++ tail) o) → Turn s op b (identity_next us ask w) (map mark.Children (least_then (first us) (λ i. walk n s a (i ∷ rs) b)) ++ tail) o
         some [] e further = ended rs w r k (sym (waiting_is a rs (found s a rs b) w r) ∙ e)
@@ -146,30 +146,30 @@ module _ (s : Bytes) (op : Op) (b : Book) where
     held_inside : (e : Entry) → Within held e → Within b.entries e
     held_inside e w = child_inside s e (from_within_filter (holds s a) (children_of s b) e w).0
 
-    own_turn : (w : WalkState) → Reached a [] held w → length (waiting s a b []) ≤ length b.entries → Plays s op (phase.Own ask w) b (mark.Children a.id ∷ (map mark.Children (walk (length b.entries) s a [] b) ++ tail)) o
+    own_turn : (w : WalkState) → Reached a [] held w → length (waiting s a b []) ≤ length b.entries → Plays s op (phase.OfAgent ask w) b (mark.Children a.id ∷ (map mark.Children (walk (length b.entries) s a [] b) ++ tail)) o
     own_turn w r l = (
       ap (λ x. mark.Children x.id) (sym r.agent_is),
       subst (λ x. Turn s op b (walk_next ask (walked (children_of x.id b) w)) (map mark.Children (walk (length b.entries) s a [] b) ++ tail) o) (sym r.agent_is)
           (walk_turn (length b.entries) [] (walked (children_of a.id b) w) (all_found_in a b.entries ordered.entries [] (children_of a.id b) held w r held_inside (child_inside a.id)) tt l),
     )
 
-    server_turn : length (waiting s a b []) ≤ length b.entries → Turn s op b (Goes (phase.Server ask a)) (walk_marks s a b ++ tail) o
+    server_turn : length (waiting s a b []) ≤ length b.entries → Turn s op b (Continues (phase.Server ask a)) (walk_marks s a b ++ tail) o
     server_turn l = (refl, own_turn (walked held (first_walk a)) (all_found_in a b.entries ordered.entries [] held [] (first_walk a) (reached_first a) (λ e w. absurd w) held_inside) l)
 
   all_inside : (a : Agent) → length (waiting s a b []) ≤ length b.entries
   all_inside a = length_filter_le _ b.entries
 
-  walk_plays : AscendingBook b → (a : Agent) (ask : Asked) (tail : List MarkKind) (o : OpResult) → Turn s op b (walk_end ask (authorised s a b)) tail o → Turn s op b (Goes (phase.Server ask a)) (walk_marks s a b ++ tail) o
+  walk_plays : AscendingBook b → (a : Agent) (ask : WalkFor) (tail : List MarkKind) (o : OpResult) → Turn s op b (walk_end ask (authorised s a b)) tail o → Turn s op b (Continues (phase.Server ask a)) (walk_marks s a b ++ tail) o
   walk_plays ordered a ask tail o ending = server_turn ordered a ask tail o ending (all_inside a)
 
-  agent_turn : (ask : Asked) (f : Agent → OpResult) (m : Agent → List MarkKind) → ((a : Agent) → Turn s op b (Goes (phase.Server ask a)) (m a) (f a)) → (o : Option Agent) → Turn s op b (for_agent_next o (λ a. Goes (phase.Server ask a))) (for_agent_marks o m) (for_agent o f)
+  agent_turn : (ask : WalkFor) (f : Agent → OpResult) (m : Agent → List MarkKind) → ((a : Agent) → Turn s op b (Continues (phase.Server ask a)) (m a) (f a)) → (o : Option Agent) → Turn s op b (for_agent_next o (λ a. Continues (phase.Server ask a))) (for_agent_marks o m) (for_agent o f)
   agent_turn ask f m h None = (refl, refl)
   agent_turn ask f m h (Some a) = h a
 
-  authorised_turn : AscendingBook b → (a : Agent) → Turn s op b (Goes (phase.Server asked.Entries a)) (walk_marks s a b) (done (replied.Entries (authorised s a b)) [])
-  authorised_turn ordered a = subst (λ ms. Turn s op b (Goes (phase.Server asked.Entries a)) ms (done (replied.Entries (authorised s a b)) [])) (append-nil (walk_marks s a b)) (walk_plays ordered a asked.Entries [] (done (replied.Entries (authorised s a b)) []) (refl, refl))
+  authorised_turn : AscendingBook b → (a : Agent) → Turn s op b (Continues (phase.Server asked.Entries a)) (walk_marks s a b) (done (replied.Entries (authorised s a b)) [])
+  authorised_turn ordered a = subst (λ ms. Turn s op b (Continues (phase.Server asked.Entries a)) ms (done (replied.Entries (authorised s a b)) [])) (append-nil (walk_marks s a b)) (walk_plays ordered a asked.Entries [] (done (replied.Entries (authorised s a b)) []) (refl, refl))
 
-  trust_turn : AscendingBook b → (a : Agent) → Turn s op b (Goes (phase.Server asked.Bundles a)) (trust_marks s a b) (done (replied.Bundles (bundles_of (authorised s a b) b)) [])
+  trust_turn : AscendingBook b → (a : Agent) → Turn s op b (Continues (phase.Server asked.Bundles a)) (trust_marks s a b) (done (replied.Bundles (bundles_of (authorised s a b) b)) [])
   trust_turn ordered a =
       let ds : List Bytes = domains_of (authorised s a b) in
       walk_plays ordered a asked.Bundles (map mark.Bundle ds) (done (replied.Bundles (bundles_of (authorised s a b) b)) [])
@@ -180,19 +180,19 @@ module _ (s : Bytes) (op : Op) (b : Book) where
   dropped_turn (Some a) = (refl, refl)
 
 -- each operation, from its first read on
-pub plays : (own : Bytes) (op : Op) (b : Book) → AscendingBook b → Plays (server_text own) op phase.First b (marks_of own op b) (op_of own op b)
-plays own (Create e) b ordered = (refl, create_turn (server_text own) (Create e) b (entry_at e.id b) e)
-plays own (Update e expected) b ordered = (refl, update_turn (server_text own) (Update e expected) b (entry_at e.id b) e expected)
-plays own (Delete k expected) b ordered = (refl, delete_turn (server_text own) (Delete k expected) b (entry_at k b) expected)
-plays own (Show k) b ordered = (refl, (refl, refl))
-plays own (ShowAgent k) b ordered = (refl, (refl, refl))
-plays own (ShowBundle d) b ordered = (refl, (refl, refl))
-plays own (Children p) b ordered = (refl, (refl, refl))
-plays own (Page q) b ordered = (refl, (refl, sym (ap (λ r. done (replied.Page (listed q r) (next_of q r)) []) (reads_all b))))
-plays own (Authorised k) b ordered = (refl, agent_turn (server_text own) (Authorised k) b asked.Entries _ _ (authorised_turn (server_text own) (Authorised k) b ordered) (agent_at k b))
-plays own (Trust k) b ordered = (refl, agent_turn (server_text own) (Trust k) b asked.Bundles _ _ (trust_turn (server_text own) (Trust k) b ordered) (agent_at k b))
-plays own (Prune moment) b ordered = (refl, (refl, refl))
-plays own (SetAgent a) b ordered = (refl, (refl, refl))
-plays own (DropAgent k) b ordered = (refl, dropped_turn (server_text own) (DropAgent k) b (agent_at k b))
-plays own (SetBundle d text) b ordered = (refl, (refl, refl))
-plays own (DropBundle d m) b ordered = (refl, drop_turn (server_text own) (DropBundle d m) b (bundle_at d b) d m (λ x e. (at_row bundle_key d b.bundles x e).1))
+pub plays : (own_domain : Bytes) (op : Op) (b : Book) → AscendingBook b → Plays (server_text own_domain) op phase.First b (marks_of own_domain op b) (op_of own_domain op b)
+plays own_domain (Create e) b ordered = (refl, create_turn (server_text own_domain) (Create e) b (entry_at e.id b) e)
+plays own_domain (Update e expected) b ordered = (refl, update_turn (server_text own_domain) (Update e expected) b (entry_at e.id b) e expected)
+plays own_domain (Delete k expected) b ordered = (refl, delete_turn (server_text own_domain) (Delete k expected) b (entry_at k b) expected)
+plays own_domain (Show k) b ordered = (refl, (refl, refl))
+plays own_domain (ShowAgent k) b ordered = (refl, (refl, refl))
+plays own_domain (ShowBundle d) b ordered = (refl, (refl, refl))
+plays own_domain (Children p) b ordered = (refl, (refl, refl))
+plays own_domain (Page q) b ordered = (refl, (refl, sym (ap (λ r. done (replied.Page (listed q r) (next_of q r)) []) (reads_all b))))
+plays own_domain (Authorised k) b ordered = (refl, agent_turn (server_text own_domain) (Authorised k) b asked.Entries _ _ (authorised_turn (server_text own_domain) (Authorised k) b ordered) (agent_at k b))
+plays own_domain (Trust k) b ordered = (refl, agent_turn (server_text own_domain) (Trust k) b asked.Bundles _ _ (trust_turn (server_text own_domain) (Trust k) b ordered) (agent_at k b))
+plays own_domain (Prune moment) b ordered = (refl, (refl, refl))
+plays own_domain (SetAgent a) b ordered = (refl, (refl, refl))
+plays own_domain (DropAgent k) b ordered = (refl, dropped_turn (server_text own_domain) (DropAgent k) b (agent_at k b))
+plays own_domain (SetBundle d text) b ordered = (refl, (refl, refl))
+plays own_domain (DropBundle d m) b ordered = (refl, drop_turn (server_text own_domain) (DropBundle d m) b (bundle_at d b) d m (λ x e. (at_row bundle_key d b.bundles x e).1))

@@ -10,7 +10,7 @@ use Rattle.entry_book.specs.declared.op.Op.{Op}
 use Rattle.entry_book.specs.declared.reply.OpReply.{OpReply}
 use Rattle.entry_book.specs.declared.reply.OpRefusal.{OpRefusal}
 use Rattle.entry_book.specs.declared.reply.OpRefusal.TheVariants.{VersionGone}
-use Rattle.entry_book.specs.declared.reply.Outcome.TheVariants.{Answered, Refused}
+use Rattle.entry_book.specs.declared.reply.ReplyOutcome.TheVariants.{Answered, Refused}
 use Rattle.entry_book.specs.declared.reply.Refusal.{Refusal}
 use Rattle.entry_book.specs.declared.reply.Refusal.TheVariants.{NotYet, TokenReused, OfOp, Full}
 use Rattle.entry_book.specs.Authorised.{authorised, holds}
@@ -25,14 +25,14 @@ use Rattle.entry_book.specs.Writes.{after}
 use Rattle.entry_book.proofs.Faults.{not_refused}
 use Rattle.entry_book.proofs.Keys.{rows_at}
 use Rattle.entry_book.proofs.Sets.{from_within_filter, length_filter_le}
-use Rattle.version_book.specs.CommittedRows.{State}
+use Rattle.version_book.specs.CommittedRows.{VersionState}
 use Rattle.batch_work.specs.Questions.{answered, all_answered, bundles_at, walk_begun}
 use Rattle.batch_work.specs.Reads.{found, unread}
-use Rattle.batch_work.specs.Standing.{ReadsNone, going_on}
+use Rattle.batch_work.specs.WorkInvariants.{ReadsNone, going_on}
 use Rattle.batch_work.specs.WalkStates.{WalkState, first_walk, walked}
 use Rattle.batch_work.specs.Windows.{book_in}
 use Rattle.batch_work.specs.Working.{Base, reply_there, version_read}
-use Rattle.batch_work.proofs.Standing.{early_settles, going_more, gone_settles}
+use Rattle.batch_work.proofs.WorkInvariants.{early_settles, going_more, gone_settles}
 use Rattle.batch_work.proofs.Walks.{Known, fewer, found_inside, known_more, waiting, walk_gives}
 use Rattle.batch_work.proofs.WalkStates.{Reached, all_found_in, one_read, reached_first, waiting_is}
 
@@ -86,7 +86,7 @@ no_token None h = refl
 no_token (Some k) h = let q = h refl in cc
 
 -- on the version that it reads, if this is there and the batch may run
-pub asked_there : (batch : Batch) (base : Base) (s : State) → IsMadeFor batch.domain batch → is_query batch.ops ≡ true → nat_lt base.newest.number batch.after ≡ false → Some s ≡ version_read (past_place batch.ops) base → reply_there batch base ≡ reply_with base.newest.number (verdict_run batch base.newest.number (book_in s))
+pub asked_there : (batch : Batch) (base : Base) (s : VersionState) → IsMadeFor batch.domain batch → is_query batch.ops ≡ true → nat_lt base.newest.number batch.after ≡ false → Some s ≡ version_read (past_place batch.ops) base → reply_there batch base ≡ reply_with base.newest.number (verdict_run batch base.newest.number (book_in s))
 asked_there batch base s made query early e =
     let n = base.newest.number in
     let b = book_in s in
@@ -106,7 +106,7 @@ refused_there batch base (OfOp n reason) none =
 refused_there batch base (Full limit) none = absurd none
 
 -- the version that it reads has the trust domain of the newest one
-pub domain_read : (asked : Option ℕ) (base : Base) (s : State) → IfSome base.earlier (λ earlier. earlier.domain ≡ base.newest.domain) → Some s ≡ version_read asked base → s.domain ≡ base.newest.domain
+pub domain_read : (asked : Option ℕ) (base : Base) (s : VersionState) → IfSome base.earlier (λ earlier. earlier.domain ≡ base.newest.domain) → Some s ≡ version_read asked base → s.domain ≡ base.newest.domain
 domain_read None base s same e = let q : s ≡ base.newest = cc in ap (λ s. s.domain) q
 domain_read (Some n) base s same e = subst (λ o. IfSome o (λ earlier. earlier.domain ≡ base.newest.domain)) (sym e) same
 
@@ -155,8 +155,8 @@ module _ (s : Bytes) (a : Agent) (b : Book) where
     unread_is : (n : ℕ) (w : WalkState) (is : List Bytes) (k : Walking n w) → w.waiting ≡ is → unread a k.read (found s a k.read b) ≡ is
     unread_is n w is k e = sym (waiting_is a k.read (found s a k.read b) w k.reached) ∙ e
 
-    pub walk_goes_on : (n : ℕ) (w : WalkState) (i : Bytes) (is : List Bytes) → Walking n w → w.waiting ≡ i ∷ is → Walking (n + 1) (walked (children_of i b) (record w { waiting = is }))
-    walk_goes_on n w i is k e =
+    pub walk_extends : (n : ℕ) (w : WalkState) (i : Bytes) (is : List Bytes) → Walking n w → w.waiting ≡ i ∷ is → Walking (n + 1) (walked (children_of i b) (record w { waiting = is }))
+    walk_extends n w i is k e =
         let u = unread_is n w (i ∷ is) k e in
         record {
           read = i ∷ k.read;

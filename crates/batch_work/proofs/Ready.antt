@@ -41,13 +41,13 @@ not_running : (batch : Batch) (base : Base) (n : ℕ) → status_on batch base n
 not_running batch base n e f = cc
 
 pub ready_has_read : ReadyHasRead
-ready_has_read own w made e =
+ready_has_read own_domain w made e =
     let b = begun w.base w.batch w.steps e in
     let base : Base = b.0 in
     let r = of_ready (nat_lt w.steps (length (footprint_there w.batch base))) (awaits_there w.batch base) b.2 in
     let wait = waits w.batch (case_there w.batch base) r.1 in
     let runs_on = of_runs (nat_lt base.newest.number w.batch.after) w.batch (book_read w.batch base) wait.0 wait.1 in
-    let newest : past_place w.batch.ops ≡ None = changes_newest own w.batch made wait.2 in
+    let newest : past_place w.batch.ops ≡ None = changes_newest own_domain w.batch made wait.2 in
     let meets : case_there w.batch base ≡ case_on w.batch (book_in base.newest) = ap (λ t. cond t early (option_map_or (case_on w.batch) (book_read w.batch base) gone)) runs_on.0 ∙ ap (λ o. option_map_or (case_on w.batch) (option_map book_in (version_read o base)) gone) newest in
     record {
       base = base;
@@ -79,11 +79,11 @@ of_ok : (P : RunEffect → Type 0) (r : RunResult) (t : RunEffect) → r ≡ Ok 
 of_ok P r t e h = subst (λ r. IfOk r P) e h
 
 pub ready_turns : ReadyTurns
-ready_turns own w base writes made ready base_is h =
+ready_turns own_domain w base writes made ready base_is h =
     let s = base.newest in
     let b = book_in s in
     let next = s.number + 1 in
-    let read = ready_has_read own w made ready in
+    let read = ready_has_read own_domain w made ready in
     let same : read.base ≡ base = one_base read.base base (sym read.base_is ∙ base_is) in
     let accepted : IsAccepted w.batch b h.0 writes = subst (λ o. IsAcceptedOn o w.batch h.0 writes) base_is h.1 in
     let t = accepted.effect in

@@ -20,9 +20,9 @@ use Rattle.batch_work.specs.declared.status.Status.TheVariants.{Running, Ready, 
 use Rattle.batch_work.specs.Reads.{footprint_in}
 use Rattle.batch_work.specs.Windows.{book_in}
 use Rattle.batch_work.specs.Working.{Base, version_read, footprint_there, end_status, status_on, status_from, IsAccepted, IsAcceptedOn}
-use Rattle.batch_work.specs.Standing.{InOps, AtStart, AtToken, IsReady, IsNew, StandsRead, StandsAt, Stands, base_of, book_now, later_marks}
+use Rattle.batch_work.specs.WorkInvariants.{InOps, AtStart, AtToken, IsReady, IsNewStage, FoundInvariant, StageInvariant, WorkInvariant, base_of, book_now, later_marks}
 use Rattle.batch_work.specs.Steps.{Plays}
-use Rattle.batch_work.proofs.Standing.{meets_none, token_first}
+use Rattle.batch_work.proofs.WorkInvariants.{meets_none, token_first}
 
 -- ---- more reads are to be made
 
@@ -48,7 +48,7 @@ module _ (batch : Batch) (base : Base) (marks : List MarkKind) (changes : List R
       let read = token_first batch base start.in_time t.s t.read_is k t.token_is in
       at_first marks (mark.Token k) read.0 (footprint_there batch base) start.no_marks read.1
 
-  found_more : (m : MarkKind) (f : Found) → StandsRead m f batch base marks changes replies → nat_lt (length marks) (length (footprint_there batch base)) ≡ true
+  found_more : (m : MarkKind) (f : Found) → FoundInvariant m f batch base marks changes replies → nat_lt (length marks) (length (footprint_there batch base)) ≡ true
   found_more m (found.Op n next) h = more marks m (h.left ++ later_marks h.at_hand) (footprint_there batch base) h.reads_are
   found_more m (found.Kept o) h = token_more h.1.0 h.0 h.1.1
   found_more m found.Gone h = gone_more h.0 h.1
@@ -63,7 +63,7 @@ module _ (batch : Batch) (base : Base) (marks : List MarkKind) (changes : List R
   not_ready : nat_lt (length marks) (length (footprint_there batch base)) ≡ true → status_on batch base (length marks) ≡ Ready → ⊥
   not_ready h e = both_ways _ (of_ready _ _ e).0 h
 
-  ready_at : (g : Stage) → StandsAt g batch base marks changes replies → status_on batch base (length marks) ≡ Ready → (all : List OpReply) × IsAccepted batch (book_in base.newest) all changes
+  ready_at : (g : Stage) → StageInvariant g batch base marks changes replies → status_on batch base (length marks) ≡ Ready → (all : List OpReply) × IsAccepted batch (book_in base.newest) all changes
   ready_at stage.New h e = absurd h
   ready_at (stage.Token k) h e = absurd (not_ready (token_more k h.0 h.1) e)
   ready_at stage.Gone h e = absurd (not_ready (gone_more h.0 h.1) e)
@@ -73,14 +73,14 @@ module _ (batch : Batch) (base : Base) (marks : List MarkKind) (changes : List R
   ready_at (stage.Settled reply) h e = absurd (both_ways _ h.done (of_ready _ _ e).1)
 
 -- the writes of a ready work
-pub ready_writes : (begun : Option Begun) (g : Stage) (batch : Batch) (marks : List MarkKind) (changes : List RowWrite) (replies : List OpReply) → Stands begun g batch marks changes replies → status_from (option_map base_of begun) batch (length marks) ≡ Ready → (all : List OpReply) × IsAcceptedOn (option_map base_of begun) batch all changes
+pub ready_writes : (begun : Option Begun) (g : Stage) (batch : Batch) (marks : List MarkKind) (changes : List RowWrite) (replies : List OpReply) → WorkInvariant begun g batch marks changes replies → status_from (option_map base_of begun) batch (length marks) ≡ Ready → (all : List OpReply) × IsAcceptedOn (option_map base_of begun) batch all changes
 ready_writes None g batch marks changes replies h e = cc
 ready_writes (Some begun) g batch marks changes replies h e = ready_at batch (base_of begun) marks changes replies g h.1 e
 
 -- and its replies
-pub ready_replies : (begun : Option Begun) (g : Stage) (batch : Batch) (marks : List MarkKind) (changes : List RowWrite) (replies all : List OpReply) → Stands begun g batch marks changes replies → g ≡ stage.Ready all → (writes : List RowWrite) × IsAcceptedOn (option_map base_of begun) batch all writes
-ready_replies None g batch marks changes replies all h e = let n : IsNew (stage.Ready all) = subst IsNew e h.0 in absurd n
-ready_replies (Some begun) g batch marks changes replies all h e = let r : IsReady batch (base_of begun) marks changes all = subst (λ g. StandsAt g batch (base_of begun) marks changes replies) e h.1 in (changes, r.accepted)
+pub ready_replies : (begun : Option Begun) (g : Stage) (batch : Batch) (marks : List MarkKind) (changes : List RowWrite) (replies all : List OpReply) → WorkInvariant begun g batch marks changes replies → g ≡ stage.Ready all → (writes : List RowWrite) × IsAcceptedOn (option_map base_of begun) batch all writes
+ready_replies None g batch marks changes replies all h e = let n : IsNewStage (stage.Ready all) = subst IsNewStage e h.0 in absurd n
+ready_replies (Some begun) g batch marks changes replies all h e = let r : IsReady batch (base_of begun) marks changes all = subst (λ g. StageInvariant g batch (base_of begun) marks changes replies) e h.1 in (changes, r.accepted)
 
 -- ---- settled
 
@@ -93,7 +93,7 @@ module _ (batch : Batch) (base : Base) (marks : List MarkKind) (changes : List R
   not_settled : nat_lt (length marks) (length (footprint_there batch base)) ≡ true → status_on batch base (length marks) ≡ Settled → ⊥
   not_settled h e = both_ways _ (of_settled _ _ e).0 h
 
-  settled_at : (g : Stage) → StandsAt g batch base marks changes replies → ((r : Reply) → g ≡ stage.Settled r → ⊥) → status_on batch base (length marks) ≡ Settled → ⊥
+  settled_at : (g : Stage) → StageInvariant g batch base marks changes replies → ((r : Reply) → g ≡ stage.Settled r → ⊥) → status_on batch base (length marks) ≡ Settled → ⊥
   settled_at stage.New h f e = absurd h
   settled_at (stage.Token k) h f e = not_settled (token_more batch base marks changes replies k h.0 h.1) e
   settled_at stage.Gone h f e = not_settled (gone_more batch base marks changes replies h.0 h.1) e
@@ -103,6 +103,6 @@ module _ (batch : Batch) (base : Base) (marks : List MarkKind) (changes : List R
   settled_at (stage.Settled reply) h f e = f reply refl
 
 -- a work at another stage isn't settled
-pub unsettled : (begun : Option Begun) (g : Stage) (batch : Batch) (marks : List MarkKind) (changes : List RowWrite) (replies : List OpReply) → Stands begun g batch marks changes replies → ((r : Reply) → g ≡ stage.Settled r → ⊥) → status_from (option_map base_of begun) batch (length marks) ≡ Settled → ⊥
+pub unsettled : (begun : Option Begun) (g : Stage) (batch : Batch) (marks : List MarkKind) (changes : List RowWrite) (replies : List OpReply) → WorkInvariant begun g batch marks changes replies → ((r : Reply) → g ≡ stage.Settled r → ⊥) → status_from (option_map base_of begun) batch (length marks) ≡ Settled → ⊥
 unsettled None g batch marks changes replies h f e = cc
 unsettled (Some begun) g batch marks changes replies h f e = settled_at batch (base_of begun) marks changes replies g h.1 f e

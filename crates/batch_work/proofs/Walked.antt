@@ -15,7 +15,7 @@ use Rattle.entry_book.proofs.Keys.{at_row, row_alone}
 use Rattle.entry_book.proofs.Sets.{All-within, before-irrefl, before-trans, length_filter_le, text_is, text_same, within_filter, within_right, from_within_filter, from_within_append}
 use Rattle.version_book.specs.declared.mark.MarkKind.TheVariants as mark
 use Rattle.batch_work.specs.Reads.{found, is_one_of, unread, least_then, walk, walk_marks, trust_marks, for_agent_marks, domains_of}
-use Rattle.batch_work.specs.Walked.{IsAuthorised, IsFound, IsUnread, IsNext, IsWalk, WalkAsSaid, OneWalk, TrustedAsSaid, AuthorisedReads, TrustReads, MissingReads}
+use Rattle.batch_work.specs.Walked.{IsAuthorised, IsFound, IsUnread, IsNextIdentity, IsWalk, WalkAsSaid, OneWalk, TrustedAsSaid, AuthorisedReads, TrustReads, MissingReads}
 use Rattle.batch_work.proofs.Plays.{cons_apart}
 use Rattle.batch_work.proofs.TextSets.{text_set-ascending, from_text_set, within_text_set, within_map, from_within_map, within_flat, from_within_flat, one_of, from_one_of, not_one_of}
 use Rattle.batch_work.proofs.Walks.{Known, found_inside, found_start, found_child, read_all, all_found, known_more, waiting, fewer}
@@ -86,7 +86,7 @@ module _ (s : Bytes) (a : Agent) (b : Book) where
       (subst (Within (map (λ e. e.identity) (found s a rs b))) u.identity (within_map (λ e. e.identity) (found s a rs b) u.entry (found_is rs u.entry u.found)))
       (not_from_false _ (not_one_of i (a.id ∷ rs) (λ v. ⊎_elim (λ q. u.not_own (sym q)) (λ w. u.new w) v))))
 
-  next_least : (rs : List Bytes) (i : Bytes) (is : List Bytes) → unread a rs (found s a rs b) ≡ i ∷ is → IsNext s a b rs i
+  next_least : (rs : List Bytes) (i : Bytes) (is : List Bytes) → unread a rs (found s a rs b) ≡ i ∷ is → IsNextIdentity s a b rs i
   next_least rs i is h =
       let order : Ascending (λ t. t) (i ∷ is) = subst (Ascending (λ t. t)) h (text_set-ascending _) in
       record {
@@ -94,19 +94,19 @@ module _ (s : Bytes) (a : Agent) (b : Book) where
         least = λ j u. ⊎_elim (λ q. inl q) (λ v. inr (All-within (λ y. is_before i y ≡ true) is j order.0 v)) (subst (λ l. Within l j) h (unread_is rs j u));
       }
 
-  reads_next : (before : List Bytes) (n : ℕ) (rs : List Bytes) (i : Bytes) (later : List Bytes) → walk n s a rs b ≡ before ++ i ∷ later → IsNext s a b (back before rs) i
+  reads_next : (before : List Bytes) (n : ℕ) (rs : List Bytes) (i : Bytes) (later : List Bytes) → walk n s a rs b ≡ before ++ i ∷ later → IsNextIdentity s a b (back before rs) i
   reads_next [] zero rs i later e = let z : ⊥ = cons_apart i later e in absurd z
   reads_next (x ∷ xs) zero rs i later e = let z : ⊥ = cons_apart x (xs ++ i ∷ later) e in absurd z
   reads_next [] (suc n) rs i later e = go (unread a rs (found s a rs b)) refl e
     where
-      go : (us : List Bytes) → unread a rs (found s a rs b) ≡ us → least_then (first us) (λ j. walk n s a (j ∷ rs) b) ≡ i ∷ later → IsNext s a b rs i
+      go : (us : List Bytes) → unread a rs (found s a rs b) ≡ us → least_then (first us) (λ j. walk n s a (j ∷ rs) b) ≡ i ∷ later → IsNextIdentity s a b rs i
       go [] u e = let z : ⊥ = cons_apart i later e in absurd z
-      go (j ∷ js) u e = let q = cons_head j i (walk n s a (j ∷ rs) b) later e in subst (IsNext s a b rs) q (next_least rs j js u)
+      go (j ∷ js) u e = let q = cons_head j i (walk n s a (j ∷ rs) b) later e in subst (IsNextIdentity s a b rs) q (next_least rs j js u)
   reads_next (x ∷ xs) (suc n) rs i later e = go (unread a rs (found s a rs b)) (λ j q. reads_next xs n (j ∷ rs) i later q) e
     where
-      go : (us : List Bytes) → ((j : Bytes) → walk n s a (j ∷ rs) b ≡ xs ++ i ∷ later → IsNext s a b (back xs (j ∷ rs)) i) → least_then (first us) (λ j. walk n s a (j ∷ rs) b) ≡ x ∷ (xs ++ i ∷ later) → IsNext s a b (back xs (x ∷ rs)) i
+      go : (us : List Bytes) → ((j : Bytes) → walk n s a (j ∷ rs) b ≡ xs ++ i ∷ later → IsNextIdentity s a b (back xs (j ∷ rs)) i) → least_then (first us) (λ j. walk n s a (j ∷ rs) b) ≡ x ∷ (xs ++ i ∷ later) → IsNextIdentity s a b (back xs (x ∷ rs)) i
       go [] ih e = let z : ⊥ = cons_apart x (xs ++ i ∷ later) e in absurd z
-      go (j ∷ js) ih e = let q = cons_head j x (walk n s a (j ∷ rs) b) (xs ++ i ∷ later) e in subst (λ y. IsNext s a b (back xs (y ∷ rs)) i) q (ih j (cons_tail j x (walk n s a (j ∷ rs) b) (xs ++ i ∷ later) e))
+      go (j ∷ js) ih e = let q = cons_head j x (walk n s a (j ∷ rs) b) (xs ++ i ∷ later) e in subst (λ y. IsNextIdentity s a b (back xs (y ∷ rs)) i) q (ih j (cons_tail j x (walk n s a (j ∷ rs) b) (xs ++ i ∷ later) e))
 
   -- the order in which the identities read are listed doesn't matter
   same_unread : (xs ys : List Bytes) (i : Bytes) → ((j : Bytes) → Within xs j → Within ys j) → ((j : Bytes) → Within ys j → Within xs j) → IsUnread s a b xs i → IsUnread s a b ys i
@@ -118,10 +118,10 @@ module _ (s : Bytes) (a : Agent) (b : Book) where
     new = λ w. u.new (g i w);
   }
 
-  same_next : (xs ys : List Bytes) (i : Bytes) → ((j : Bytes) → Within xs j → Within ys j) → ((j : Bytes) → Within ys j → Within xs j) → IsNext s a b xs i → IsNext s a b ys i
+  same_next : (xs ys : List Bytes) (i : Bytes) → ((j : Bytes) → Within xs j → Within ys j) → ((j : Bytes) → Within ys j → Within xs j) → IsNextIdentity s a b xs i → IsNextIdentity s a b ys i
   same_next xs ys i f g n = record { unread = same_unread xs ys i f g n.unread; least = λ j u. n.least j (same_unread ys xs j g f u) }
 
-  least_first : (n : ℕ) (before : List Bytes) (i : Bytes) (later : List Bytes) → walk n s a [] b ≡ before ++ i ∷ later → IsNext s a b before i
+  least_first : (n : ℕ) (before : List Bytes) (i : Bytes) (later : List Bytes) → walk n s a [] b ≡ before ++ i ∷ later → IsNextIdentity s a b before i
   least_first n before i later e = same_next (back before []) before i
       (λ j w. ⊎_elim (λ v. v) (λ v. absurd v) (from_back before [] j w))
       (λ j w. into_back before [] j (inl w))
@@ -188,7 +188,7 @@ trusted_as_said s a b = record {
 
 module _ (s : Bytes) (a : Agent) (b : Book) where
   -- what was read determines what is read next
-  one_next : (rs : List Bytes) (i j : Bytes) → IsNext s a b rs i → IsNext s a b rs j → i ≡ j
+  one_next : (rs : List Bytes) (i j : Bytes) → IsNextIdentity s a b rs i → IsNextIdentity s a b rs j → i ≡ j
   one_next rs i j m n = ⊎_elim (λ q. q) (λ f. ⊎_elim (λ q. sym q) (λ g. absurd (before-irrefl i (before-trans i j i f g))) (n.least i m.unread)) (m.least j n.unread)
 
   -- a walk that has ended doesn't go on
@@ -217,16 +217,16 @@ agent_is : (k : Bytes) (a : Agent) (b : Book) → AscendingBook b → Within b.a
 agent_is k a b ordered w e = ap first (row_alone agent_key k b.agents a ordered.agents w e)
 
 pub authorised_reads : AuthorisedReads
-authorised_reads own k a b ordered w e = (walk (length b.entries) (server_text own) a [] b, walk_as_said (server_text own) a b, ap (λ o. mark.Agent k ∷ for_agent_marks o (λ a. walk_marks (server_text own) a b)) (agent_is k a b ordered w e))
+authorised_reads own_domain k a b ordered w e = (walk (length b.entries) (server_text own_domain) a [] b, walk_as_said (server_text own_domain) a b, ap (λ o. mark.Agent k ∷ for_agent_marks o (λ a. walk_marks (server_text own_domain) a b)) (agent_is k a b ordered w e))
 
 pub trust_reads : TrustReads
-trust_reads own k a b ordered w e = (walk (length b.entries) (server_text own) a [] b, domains_of (authorised (server_text own) a b), walk_as_said (server_text own) a b, trusted_as_said (server_text own) a b, ap (λ o. mark.Agent k ∷ for_agent_marks o (λ a. trust_marks (server_text own) a b)) (agent_is k a b ordered w e))
+trust_reads own_domain k a b ordered w e = (walk (length b.entries) (server_text own_domain) a [] b, domains_of (authorised (server_text own_domain) a b), walk_as_said (server_text own_domain) a b, trusted_as_said (server_text own_domain) a b, ap (λ o. mark.Agent k ∷ for_agent_marks o (λ a. trust_marks (server_text own_domain) a b)) (agent_is k a b ordered w e))
 
 no_agent : (k : Bytes) (b : Book) → (HasAgent b k → ⊥) → (o : Option Agent) → agent_at k b ≡ o → o ≡ None
 no_agent k b n None e = refl
 no_agent k b n (Some a) e = let r = at_row agent_key k b.agents a e in absurd (n (a, r.0, r.1))
 
 pub missing_reads : MissingReads
-missing_reads own k b n =
+missing_reads own_domain k b n =
     let q : agent_at k b ≡ None = no_agent k b n (agent_at k b) refl in
-    (ap (λ o. mark.Agent k ∷ for_agent_marks o (λ a. walk_marks (server_text own) a b)) q, ap (λ o. mark.Agent k ∷ for_agent_marks o (λ a. trust_marks (server_text own) a b)) q)
+    (ap (λ o. mark.Agent k ∷ for_agent_marks o (λ a. walk_marks (server_text own_domain) a b)) q, ap (λ o. mark.Agent k ∷ for_agent_marks o (λ a. trust_marks (server_text own_domain) a b)) q)

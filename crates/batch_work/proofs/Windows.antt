@@ -13,10 +13,10 @@ use Rattle.entry_book.proofs.Sets.{from_within_filter}
 use Rattle.entry_book.specs.Batches.{past_place}
 use Rattle.entry_book.specs.History.{among_last, book_for, last_book, last_of, place_of, reply_with, verdict}
 use Rattle.entry_book.proofs.Histories.{last-snoc}
-use Rattle.version_book.specs.CommittedRows.{State}
-use Rattle.batch_work.specs.Laws.{WindowBegins, WindowGoesOn, WindowLast, WindowStands}
+use Rattle.version_book.specs.CommittedRows.{VersionState}
+use Rattle.batch_work.specs.Laws.{WindowBegins, WindowExtends, WindowLast, WindowRepresentsBooks}
 use Rattle.batch_work.specs.Reads.{case_at, footprint_in, awaits_in}
-use Rattle.batch_work.specs.Windows.{Counted, IsNext, StandsFor, Window, book_in, ending, pushed, version_at, versions}
+use Rattle.batch_work.specs.Windows.{Counted, IsNextVersion, WindowRepresents, Window, book_in, ending, pushed, version_at, versions}
 use Rattle.batch_work.specs.Working.{earlier_in, version_read}
 
 -- ---- lists
@@ -37,40 +37,40 @@ slice_get-last (y ∷ ys) x = slice_get-last ys x
 
 -- ---- versions whose numbers follow one another
 
-pub counted_drop : (n : ℕ) (ss : List State) → Counted ss → Counted (drop n ss)
+pub counted_drop : (n : ℕ) (ss : List VersionState) → Counted ss → Counted (drop n ss)
 counted_drop zero ss c = c
 counted_drop (suc n) [] c = c
 counted_drop (suc n) (s ∷ ss) c = counted_drop n ss c.1
 
-pub counted_more : (ss : List State) (s t : State) → Counted (ss ++ s ∷ []) → IsNext s t → Counted ((ss ++ s ∷ []) ++ t ∷ [])
+pub counted_more : (ss : List VersionState) (s t : VersionState) → Counted (ss ++ s ∷ []) → IsNextVersion s t → Counted ((ss ++ s ∷ []) ++ t ∷ [])
 counted_more [] s t c e = (e, (tt, tt))
 counted_more (r ∷ []) s t c e = (c.0, counted_more [] s t c.1 e)
 counted_more (r ∷ q ∷ ss) s t c e = (c.0, counted_more (q ∷ ss) s t c.1 e)
 
 -- the numbers of the oldest and the newest version differ by the number of steps between them
-last_number : (r : State) (ss : List State) (s : State) → Counted (r ∷ (ss ++ s ∷ [])) → r.number + suc (length ss) ≡ s.number
+last_number : (r : VersionState) (ss : List VersionState) (s : VersionState) → Counted (r ∷ (ss ++ s ∷ [])) → r.number + suc (length ss) ≡ s.number
 last_number r [] s c = let e = c.0.number in omega arith
 last_number r (q ∷ ss) s c = let e = c.0.number in let i = last_number q ss s c.1 in omega arith
 
-is_other : (n : ℕ) (s : State) → (s.number < n → nat_eq s.number n ≡ false) × (n < s.number → nat_eq s.number n ≡ false)
+is_other : (n : ℕ) (s : VersionState) → (s.number < n → nat_eq s.number n ≡ false) × (n < s.number → nat_eq s.number n ≡ false)
 is_other n s = (λ l. grind (arith, nat_tests, l), λ l. grind (arith, nat_tests, l))
 
 -- no version below the oldest is found
-found_below : (n : ℕ) (s : State) (ss : List State) → Counted (s ∷ ss) → n < s.number → first (filter (λ t. nat_eq t.number n) (s ∷ ss)) ≡ None
+found_below : (n : ℕ) (s : VersionState) (ss : List VersionState) → Counted (s ∷ ss) → n < s.number → first (filter (λ t. nat_eq t.number n) (s ∷ ss)) ≡ None
 found_below n s [] c l = rw ((is_other n s).1 l) refl
 found_below n s (t ∷ ts) c l = let e = c.0.number in rw ((is_other n s).1 l) (found_below n t ts c.1 (omega arith))
 
 -- and from there on, each is found by its index
-found_from : (n i : ℕ) (s : State) (ss : List State) → Counted (s ∷ ss) → n ≡ s.number + i → first (filter (λ t. nat_eq t.number n) (s ∷ ss)) ≡ slice_get (s ∷ ss) i
+found_from : (n i : ℕ) (s : VersionState) (ss : List VersionState) → Counted (s ∷ ss) → n ≡ s.number + i → first (filter (λ t. nat_eq t.number n) (s ∷ ss)) ≡ slice_get (s ∷ ss) i
 found_from n zero s ss c e = let q : nat_eq s.number n ≡ true = grind (arith, nat_tests, e) in rw q refl
 found_from n (suc i) s [] c e = rw ((is_other n s).0 (omega arith)) refl
 found_from n (suc i) s (t ∷ ts) c e = let k = c.0.number in rw ((is_other n s).0 (omega arith)) (found_from n i t ts c.1 (omega arith))
 
-found_at : (n i : ℕ) (older : List State) (s : State) → Counted (older ++ s ∷ []) → n + length older ≡ s.number + i → first (filter (λ t. nat_eq t.number n) (older ++ s ∷ [])) ≡ slice_get (older ++ s ∷ []) i
+found_at : (n i : ℕ) (older : List VersionState) (s : VersionState) → Counted (older ++ s ∷ []) → n + length older ≡ s.number + i → first (filter (λ t. nat_eq t.number n) (older ++ s ∷ [])) ≡ slice_get (older ++ s ∷ []) i
 found_at n i [] s c e = found_from n i s [] c (omega arith)
 found_at n i (r ∷ rs) s c e = let k = last_number r rs s c in found_from n i r (rs ++ s ∷ []) c (omega arith)
 
-found_gone : (n : ℕ) (older : List State) (s : State) → Counted (older ++ s ∷ []) → n + length older < s.number → first (filter (λ t. nat_eq t.number n) (older ++ s ∷ [])) ≡ None
+found_gone : (n : ℕ) (older : List VersionState) (s : VersionState) → Counted (older ++ s ∷ []) → n + length older < s.number → first (filter (λ t. nat_eq t.number n) (older ++ s ∷ [])) ≡ None
 found_gone n [] s c l = found_below n s [] c (omega arith)
 found_gone n (r ∷ rs) s c l = let k = last_number r rs s c in found_below n r (rs ++ s ∷ []) c (omega arith)
 
@@ -99,7 +99,7 @@ under a b x y l = grind (arith, nat_tests, l)
 not_under : {X : Type 0} (a b : ℕ) (x y : X) → b ≤ a → cond (nat_lt a b) x y ≡ y
 not_under a b x y l = grind (arith, nat_tests, l)
 
-module _ (w : Window) (books : List Book) (s : StandsFor w books) where
+module _ (w : Window) (books : List Book) (s : WindowRepresents w books) where
   place_is : w.newest.number ≡ place_of books
   place_is = let k = s.count in omega arith
 
@@ -148,7 +148,7 @@ module _ (w : Window) (books : List Book) (s : StandsFor w books) where
   book_is (Some n) = among_is n (nat_lt (place_of books) (n + 64)) refl
 
   -- one more book
-  kept_more : (t : State) → map book_in (versions (pushed t w)) ≡ last_of 64 (books ++ book_in t ∷ [])
+  kept_more : (t : VersionState) → map book_in (versions (pushed t w)) ≡ last_of 64 (books ++ book_in t ∷ [])
   kept_more t =
       let d = length books - 64 in
       let n = length (versions w) - 63 in
@@ -160,7 +160,7 @@ module _ (w : Window) (books : List Book) (s : StandsFor w books) where
       ∙ (ap (λ l. l ++ book_in t ∷ []) (sym (drop-map book_in n (versions w)) ∙ (ap (drop n) s.kept ∙ drop-drop n d books))
       ∙ sym (ap (λ m. drop m (books ++ book_in t ∷ [])) all ∙ drop-append-le (d + n) books (book_in t ∷ []) (omega arith)))
 
-pub counted_pushed : (w : Window) (s : State) → Counted (versions w) → IsNext w.newest s → Counted (versions (pushed s w))
+pub counted_pushed : (w : Window) (s : VersionState) → Counted (versions w) → IsNextVersion w.newest s → Counted (versions (pushed s w))
 counted_pushed w s c e =
     let n = length (versions w) - 63 in
     subst Counted (drop-append-le n (versions w) (s ∷ []) (omega arith)) (counted_drop n (versions w ++ s ∷ []) (counted_more w.older w.newest s c e))
@@ -170,8 +170,8 @@ counted_pushed w s c e =
 pub window_begins : WindowBegins
 window_begins s e = record { count = omega arith; kept = refl; counted = (tt, tt) }
 
-pub window_goes_on : WindowGoesOn
-window_goes_on w s books h e =
+pub window_extends : WindowExtends
+window_extends w s books h e =
     let k = h.count in
     let a = length-append books (book_in s ∷ []) in
     let n = e.number in
@@ -180,8 +180,8 @@ window_goes_on w s books h e =
 pub window_last : WindowLast
 window_last w books h = record { book = sym (last_is w books h); place = sym (place_is w books h) }
 
-pub window_stands : WindowStands
-window_stands batch w books h =
+pub window_represents : WindowRepresentsBooks
+window_represents batch w books h =
     let book = book_is w books h (past_place batch.ops) in
     let place = place_is w books h in
     let meets = ap (case_at batch w.newest.number) book ∙ ap (λ n. case_at batch n (book_for (past_place batch.ops) books)) place in
@@ -193,11 +193,11 @@ window_stands batch w books h =
 
 -- ---- the versions of a window are of one server, and none is newer than the newest
 
-module _ (s : State) where
-  abbrev IsBefore : State → Type 0
+module _ (s : VersionState) where
+  abbrev IsBefore : VersionState → Type 0
   IsBefore t = (t.domain ≡ s.domain) × (t.number ≤ s.number)
 
-  not_newer : (ss : List State) → Counted (ss ++ s ∷ []) → (t : State) → Within (ss ++ s ∷ []) t → IsBefore t
+  not_newer : (ss : List VersionState) → Counted (ss ++ s ∷ []) → (t : VersionState) → Within (ss ++ s ∷ []) t → IsBefore t
   not_newer [] c t w = ⊎_elim (λ q. subst IsBefore q (refl, omega arith)) (λ n. absurd n) w
   not_newer (r ∷ []) c t w =
       let n = (c.0).number in
@@ -208,13 +208,13 @@ module _ (s : State) where
       let l = k.1 in
       ⊎_elim (λ e. subst IsBefore e (sym (c.0).domain ∙ k.0, omega arith)) (λ v. not_newer (q ∷ ss) c.1 t v) w
 
-pub found_before : (n : ℕ) (w : Window) (t : State) → Counted (versions w) → version_at n w ≡ Some t → (t.domain ≡ w.newest.domain) × (t.number ≤ w.newest.number)
+pub found_before : (n : ℕ) (w : Window) (t : VersionState) → Counted (versions w) → version_at n w ≡ Some t → (t.domain ≡ w.newest.domain) × (t.number ≤ w.newest.number)
 found_before n w t c e = not_newer w.newest w.older c t (from_within_filter (λ s. nat_eq s.number n) (versions w) t (first_within (λ s. s.domain) _ t e)).0
 
-pub is_before_newest : (n : ℕ) (w : Window) → Counted (versions w) → (found : Option (Bor State)) → option_copied found ≡ version_at n w → IfSome found (λ t. (t.now.domain ≡ w.newest.domain) × (t.now.number ≤ w.newest.number))
+pub is_before_newest : (n : ℕ) (w : Window) → Counted (versions w) → (found : Option (Bor VersionState)) → option_copied found ≡ version_at n w → IfSome found (λ t. (t.now.domain ≡ w.newest.domain) × (t.now.number ≤ w.newest.number))
 is_before_newest n w c None e = tt
 is_before_newest n w c (Some t) e = found_before n w t.now c (sym e)
 
-pub earlier_domain : (s : State) (found : Option (Bor State)) → IfSome found (λ t. (t.now.domain ≡ s.domain) × (t.now.number ≤ s.number)) → IfSome (option_copied found) (λ t. t.domain ≡ s.domain)
+pub earlier_domain : (s : VersionState) (found : Option (Bor VersionState)) → IfSome found (λ t. (t.now.domain ≡ s.domain) × (t.now.number ≤ s.number)) → IfSome (option_copied found) (λ t. t.domain ≡ s.domain)
 earlier_domain s None h = tt
 earlier_domain s (Some t) h = h.0

@@ -40,7 +40,7 @@ count_of_sets ops = length (filter sets_bundle ops)
 
 -- the reads of operations are those of the first ones, followed by those of the others on the book that the first ones left
 abbrev pub ReadsInOrder : Type 0
-ReadsInOrder = (own : Bytes) (before : List Op) (op : Op) (later : List Op) (b : Book) (t : RunEffect) → run own before b ≡ Ok t → marks_of_ops own (before ++ op ∷ later) b ≡ marks_of_ops own before b ++ marks_of_ops own (op ∷ later) (after t.writes b)
+ReadsInOrder = (own_domain : Bytes) (before : List Op) (op : Op) (later : List Op) (b : Book) (t : RunEffect) → run own_domain before b ≡ Ok t → marks_of_ops own_domain (before ++ op ∷ later) b ≡ marks_of_ops own_domain before b ++ marks_of_ops own_domain (op ∷ later) (after t.writes b)
 
 -- a token is read before the first operation; if it isn't in use, the reads of the operations follow
 abbrev pub TokenReadFirst : Type 0
@@ -58,23 +58,23 @@ most_reads batch before b = 3 + count_of_identities batch.ops b + 1024 + count_o
 
 -- for each operation of a batch, on the book that the operations before it left of a lawful book with at most 1,024 bundles
 abbrev pub OpReadsBounded : Type 0
-OpReadsBounded = (own : Bytes) (most : ℕ) (batch : Batch) (b : Book) (before : List Op) (op : Op) (later : List Op) (t : RunEffect) → IsMadeFor own batch → Lawful own most b → length b.bundles ≤ 1024 → batch.ops ≡ before ++ op ∷ later → run batch.domain before b ≡ Ok t → length (marks_of batch.domain op (after t.writes b)) ≤ most_reads batch before b
+OpReadsBounded = (own_domain : Bytes) (most : ℕ) (batch : Batch) (b : Book) (before : List Op) (op : Op) (later : List Op) (t : RunEffect) → IsMadeFor own_domain batch → Lawful own_domain most b → length b.bundles ≤ 1024 → batch.ops ≡ before ++ op ∷ later → run batch.domain before b ≡ Ok t → length (marks_of batch.domain op (after t.writes b)) ≤ most_reads batch before b
 
 -- for the whole batch: this maximum for each operation, after all of them, and one more read if the batch has a token
 abbrev pub BatchReadsBounded : Type 0
-BatchReadsBounded = (own : Bytes) (most : ℕ) (batch : Batch) (b : Book) → IsMadeFor own batch → Lawful own most b → length b.bundles ≤ 1024 → length (footprint_in batch (case_on batch b)) ≤ length (option_to_list batch.token) + length batch.ops * most_reads batch batch.ops b
+BatchReadsBounded = (own_domain : Bytes) (most : ℕ) (batch : Batch) (b : Book) → IsMadeFor own_domain batch → Lawful own_domain most b → length b.bundles ≤ 1024 → length (footprint_in batch (case_on batch b)) ≤ length (option_to_list batch.token) + length batch.ops * most_reads batch batch.ops b
 
 -- a lawful book within the limits on entries and bundles
-pub record IsBounded (own : Bytes) (b : Book) : Type 0 where
+pub record IsBounded (own_domain : Bytes) (b : Book) : Type 0 where
   pub most : ℕ
-  pub lawful : Lawful own most b
+  pub lawful : Lawful own_domain most b
   pub entries : length b.entries ≤ 16384
   pub bundles : length b.bundles ≤ 1024
 
 -- on such a book, a batch makes at most 2^21 reads
 abbrev pub ReadsAreFew : Type 0
-ReadsAreFew = (own : Bytes) (batch : Batch) (b : Book) → IsMadeFor own batch → IsBounded own b → length (footprint_in batch (case_on batch b)) ≤ 2 ^ 21
+ReadsAreFew = (own_domain : Bytes) (batch : Batch) (b : Book) → IsMadeFor own_domain batch → IsBounded own_domain b → length (footprint_in batch (case_on batch b)) ≤ 2 ^ 21
 
 -- the same holds at any place, and if the book of the batch's page is missing
 abbrev pub ReadsAreFewAnywhere : Type 0
-ReadsAreFewAnywhere = (own : Bytes) (batch : Batch) (place : ℕ) (b : Option Book) → IsMadeFor own batch → IfSome b (IsBounded own) → length (footprint_in batch (case_at batch place b)) ≤ 2 ^ 21
+ReadsAreFewAnywhere = (own_domain : Bytes) (batch : Batch) (place : ℕ) (b : Option Book) → IsMadeFor own_domain batch → IfSome b (IsBounded own_domain) → length (footprint_in batch (case_at batch place b)) ≤ 2 ^ 21

@@ -4,7 +4,7 @@ use Rattle.std.specs.List.{AllByRecursion}
 use Rattle.entry_book.specs.declared.limit.Limit.{Limit}
 use Rattle.entry_book.specs.declared.op.Op.{Op}
 use Rattle.entry_book.specs.declared.reply.OpReply.{OpReply}
-use Rattle.entry_book.specs.declared.reply.Outcome.TheVariants.{Refused}
+use Rattle.entry_book.specs.declared.reply.ReplyOutcome.TheVariants.{Refused}
 use Rattle.entry_book.specs.declared.reply.Refusal.TheVariants.{Full}
 use Rattle.entry_book.specs.Rows.{Bytes}
 use Rattle.entry_book.specs.Book.{Book, AscendingBook}
@@ -17,11 +17,11 @@ use Rattle.entry_book.specs.Laws.{IsWithinLimits}
 use Rattle.entry_book.specs.History.{batch_writes, kept_under, verdict, adds, adds_within, refuses, last_book, place_of, reply_to, commits}
 use Rattle.version_book.specs.Applying.{MayApply}
 use Rattle.version_book.specs.Marks.{Agree}
-use Rattle.version_book.specs.CommittedRows.{State, book_of, next_state}
-use Rattle.version_book.specs.History.{Commits, IsLast, state_with}
+use Rattle.version_book.specs.CommittedRows.{VersionState, book_of, next_state}
+use Rattle.version_book.specs.History.{CommitsOn, IsLast, version_with}
 use Rattle.version_book.specs.Written.{placed}
 use Rattle.batch_work.specs.Reads.{marks_of_ops, case_on, case_at, footprint_in, awaits_in, verdict_in, footprint_of, awaits_commit}
-use Rattle.batch_work.specs.Windows.{Window, IsNext, StandsFor, book_in, pushed}
+use Rattle.batch_work.specs.Windows.{Window, IsNextVersion, WindowRepresents, book_in, pushed}
 use Rattle.batch_work.specs.declared.status.Status.TheVariants.{Ready, Running}
 use Rattle.batch_work.specs.Working.{Base, HasReplies, HasWrites, Work, base_in, footprint_there, awaits_there, marks_so_far, reply_there, status_of, status_on}
 
@@ -36,7 +36,7 @@ VerdictByCase = (batch : Batch) (place : ℕ) (b : Option Book) → verdict batc
 -- Let two books read the same at each mark that operations read on the first. Then the operations have the same run and the
 -- same reads on both.
 abbrev pub ReadsDecide : Type 0
-ReadsDecide = (own : Bytes) (ops : List Op) (b c : Book) → AscendingBook b → AscendingBook c → AllByRecursion (Agree b c) (marks_of_ops own ops b) → (run own ops b ≡ run own ops c) × (marks_of_ops own ops b ≡ marks_of_ops own ops c)
+ReadsDecide = (own_domain : Bytes) (ops : List Op) (b c : Book) → AscendingBook b → AscendingBook c → AllByRecursion (Agree b c) (marks_of_ops own_domain ops b) → (run own_domain ops b ≡ run own_domain ops c) × (marks_of_ops own_domain ops b ≡ marks_of_ops own_domain ops c)
 
 -- The two books are the same for a batch. They store the same under its token, and it has the same reads on both. If nothing is
 -- stored, its operations have the same run. It awaits a commit on both or on neither.
@@ -54,16 +54,16 @@ BatchReadsDecide = (batch : Batch) (b c : Book) → AscendingBook b → Ascendin
 
 -- The outcome of a batch of changes with this run on the newest version: its writes may be applied; and the specification adds
 -- the book of the version after it, or refuses the batch for the first limit that is passed.
-pub record ComesTo (batch : Batch) (s : State) (t : RunEffect) : Type 0 where
+pub record ResultsIn (batch : Batch) (s : VersionState) (t : RunEffect) : Type 0 where
   pub ran : run batch.domain batch.ops (book_of s.rows) ≡ Ok t
   pub may : MayApply (batch_writes batch (s.number + 1) t) (s.number + 1) s
-  pub commits : limit_passed s.number (after (batch_writes batch (s.number + 1) t) (book_of s.rows)) ≡ None → Commits batch s × (state_with batch s ≡ next_state (batch_writes batch (s.number + 1) t) s) × (verdict batch s.number (Some (book_of s.rows)) ≡ adds t.replies (book_of (state_with batch s).rows))
+  pub commits : limit_passed s.number (after (batch_writes batch (s.number + 1) t) (book_of s.rows)) ≡ None → CommitsOn batch s × (version_with batch s ≡ next_state (batch_writes batch (s.number + 1) t) s) × (verdict batch s.number (Some (book_of s.rows)) ≡ adds t.replies (book_of (version_with batch s).rows))
   pub is_full : (limit : Limit) → limit_passed s.number (after (batch_writes batch (s.number + 1) t) (book_of s.rows)) ≡ Some limit → verdict batch s.number (Some (book_of s.rows)) ≡ refuses (Full limit)
 
 -- Let a batch await its commit on `base`. Let `newest` be lawful, within the limits and not too early for the batch, and read
 -- the same at each mark of its footprint. Then the batch has the same run on `newest`, with this outcome.
 abbrev pub CommitCheck : Type 0
-CommitCheck = (batch : Batch) (base newest : State) (t : RunEffect) → IsMadeFor newest.domain batch → batch.after ≤ newest.number → Lawful newest.domain (64 * newest.number) (book_of newest.rows) → IsWithinLimits (book_of newest.rows) → AscendingBook (book_of base.rows) → AllByRecursion (Agree (book_of base.rows) (book_of newest.rows)) (footprint_in batch (case_on batch (book_of base.rows))) → awaits_in batch (case_on batch (book_of base.rows)) ≡ true → run batch.domain batch.ops (book_of base.rows) ≡ Ok t → ComesTo batch newest t
+CommitCheck = (batch : Batch) (base newest : VersionState) (t : RunEffect) → IsMadeFor newest.domain batch → batch.after ≤ newest.number → Lawful newest.domain (64 * newest.number) (book_of newest.rows) → IsWithinLimits (book_of newest.rows) → AscendingBook (book_of base.rows) → AllByRecursion (Agree (book_of base.rows) (book_of newest.rows)) (footprint_in batch (case_on batch (book_of base.rows))) → awaits_in batch (case_on batch (book_of base.rows)) ≡ true → run batch.domain batch.ops (book_of base.rows) ≡ Ok t → ResultsIn batch newest t
 
 -- The batch has changes that await their commit: it may run, and on the last book; its token isn't in use there; it isn't
 -- read-only; and its operations are accepted.
@@ -76,7 +76,7 @@ pub record HasChanges (batch : Batch) (books : List Book) : Type 0 where
   pub ran : run batch.domain batch.ops (last_book books) ≡ Ok effect
 
 abbrev pub AwaitsAsSaid : Type 0
-AwaitsAsSaid = (own : Bytes) (batch : Batch) (books : List Book) → IsMadeFor own batch → (awaits_commit batch books ≡ true) ↔ HasChanges batch books
+AwaitsAsSaid = (own_domain : Bytes) (batch : Batch) (books : List Book) → IsMadeFor own_domain batch → (awaits_commit batch books ≡ true) ↔ HasChanges batch books
 
 -- a batch that doesn't await its commit isn't committed, and no limit refuses it
 abbrev pub OthersDontCommit : Type 0
@@ -91,21 +91,21 @@ pub record OnBooks (batch : Batch) (w : Window) (books : List Book) : Type 0 whe
   pub wait : awaits_there batch (base_in batch w) ≡ awaits_commit batch books
   pub reply : reply_there batch (base_in batch w) ≡ reply_to batch books
 
-abbrev pub WindowStands : Type 0
-WindowStands = (batch : Batch) (w : Window) (books : List Book) → StandsFor w books → OnBooks batch w books
+abbrev pub WindowRepresentsBooks : Type 0
+WindowRepresentsBooks = (batch : Batch) (w : Window) (books : List Book) → WindowRepresents w books → OnBooks batch w books
 
 -- A history begins with one version, with the number 0. The window of this version alone represents the list of its book.
 abbrev pub WindowBegins : Type 0
-WindowBegins = (s : State) → s.number ≡ 0 → StandsFor (record { older = []; newest = s }) (book_in s ∷ [])
+WindowBegins = (s : VersionState) → s.number ≡ 0 → WindowRepresents (record { older = []; newest = s }) (book_in s ∷ [])
 
 -- If a window represents a list of books, then with the next version pushed it represents the list followed by that version's
 -- book.
-abbrev pub WindowGoesOn : Type 0
-WindowGoesOn = (w : Window) (s : State) (books : List Book) → StandsFor w books → IsNext w.newest s → StandsFor (pushed s w) (books ++ book_in s ∷ [])
+abbrev pub WindowExtends : Type 0
+WindowExtends = (w : Window) (s : VersionState) (books : List Book) → WindowRepresents w books → IsNextVersion w.newest s → WindowRepresents (pushed s w) (books ++ book_in s ∷ [])
 
 -- its newest version has the last book, and its number
 abbrev pub WindowLast : Type 0
-WindowLast = (w : Window) (books : List Book) → StandsFor w books → IsLast w.newest books
+WindowLast = (w : Window) (books : List Book) → WindowRepresents w books → IsLast w.newest books
 
 -- ---- works
 
@@ -120,11 +120,11 @@ pub record HasRead (w : Work) : Type 0 where
   pub awaits : awaits_in w.batch (case_on w.batch (book_in base.newest)) ≡ true
 
 abbrev pub ReadyHasRead : Type 0
-ReadyHasRead = (own : Bytes) (w : Work) → IsMadeFor own w.batch → status_of w ≡ Ready → HasRead w
+ReadyHasRead = (own_domain : Bytes) (w : Work) → IsMadeFor own_domain w.batch → status_of w ≡ Ready → HasRead w
 
 -- A ready work's changes, with their place set, turn the book on which the work began into `next`. The specification commits
 -- the batch with the work's replies as this book, or refuses it for the first limit that the book passes.
-pub record TurnsBook (w : Work) (s : State) (writes : List RowWrite) : Type 0 where
+pub record TurnsBook (w : Work) (s : VersionState) (writes : List RowWrite) : Type 0 where
   pub replies : List OpReply
   pub of_work : HasReplies w replies
   pub next : Book
@@ -132,7 +132,7 @@ pub record TurnsBook (w : Work) (s : State) (writes : List RowWrite) : Type 0 wh
   pub verdict_is : verdict w.batch s.number (Some (book_in s)) ≡ adds_within (limit_passed s.number next) replies next
 
 abbrev pub ReadyTurns : Type 0
-ReadyTurns = (own : Bytes) (w : Work) (base : Base) (writes : List RowWrite) → IsMadeFor own w.batch → status_of w ≡ Ready → w.base ≡ Some base → HasWrites w writes → TurnsBook w base.newest writes
+ReadyTurns = (own_domain : Bytes) (w : Work) (base : Base) (writes : List RowWrite) → IsMadeFor own_domain w.batch → status_of w ≡ Ready → w.base ≡ Some base → HasWrites w writes → TurnsBook w base.newest writes
 
 -- if a batch has no more to read after n reads, these are its whole footprint
 abbrev pub EndHasRead : Type 0

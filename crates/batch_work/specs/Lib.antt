@@ -1,10 +1,10 @@
 pub mod Bounds
 pub mod Laws
-pub mod LentReplies
-pub mod Places
+pub mod BorrowedReplies
+pub mod Ranks
 pub mod Questions
 pub mod Reads
-pub mod Standing
+pub mod WorkInvariants
 pub mod Steps
 pub mod Walked
 pub mod WalkStates

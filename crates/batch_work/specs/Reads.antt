@@ -37,12 +37,12 @@ abbrev pub bundle_marks : List Bytes → Book → List MarkKind
 bundle_marks [] b = []
 bundle_marks (d ∷ ds) b = mark.Bundle d ∷ (if is_some (bundle_at d b) then bundle_marks ds b else [])
 
-abbrev pub marks_beside : Option Entry → Entry → Book → List MarkKind
-marks_beside (Some o) e b = []
-marks_beside None e b = bundle_marks e.domains b
+abbrev pub marks_unless_similar : Option Entry → Entry → Book → List MarkKind
+marks_unless_similar (Some o) e b = []
+marks_unless_similar None e b = bundle_marks e.domains b
 
 abbrev pub put_marks : Entry → Book → List MarkKind
-put_marks e b = mark.Group e.parent e.identity ∷ marks_beside (similar e b) e b
+put_marks e b = mark.Group e.parent e.identity ∷ marks_unless_similar (similar e b) e b
 
 abbrev pub create_marks : Option Entry → Entry → Book → List MarkKind
 create_marks (Some o) e b = []
@@ -106,21 +106,21 @@ drop_marks (Some d) domain = mark.Users domain ∷ []
 -- ---- the table
 
 abbrev pub marks_of : Bytes → Op → Book → List MarkKind
-marks_of own (Create e) b = mark.Entry e.id ∷ create_marks (entry_at e.id b) (at_revision 0 e) b
-marks_of own (Update e expected) b = mark.Entry e.id ∷ update_marks (entry_at e.id b) e expected b
-marks_of own (Delete k expected) b = mark.Entry k ∷ []
-marks_of own (Show k) b = mark.Entry k ∷ []
-marks_of own (ShowAgent k) b = mark.Agent k ∷ []
-marks_of own (ShowBundle d) b = mark.Bundle d ∷ []
-marks_of own (Children p) b = mark.Children p ∷ []
-marks_of own (Page q) b = mark.All ∷ []
-marks_of own (Authorised k) b = mark.Agent k ∷ for_agent_marks (agent_at k b) (λ a. walk_marks (server_text own) a b)
-marks_of own (Trust k) b = mark.Agent k ∷ for_agent_marks (agent_at k b) (λ a. trust_marks (server_text own) a b)
-marks_of own (Prune moment) b = mark.Expiring moment ∷ []
-marks_of own (SetAgent a) b = mark.Agent a.id ∷ []
-marks_of own (DropAgent k) b = mark.Agent k ∷ []
-marks_of own (SetBundle d text) b = mark.Bundle d ∷ []
-marks_of own (DropBundle d mode) b = mark.Bundle d ∷ drop_marks (bundle_at d b) d
+marks_of own_domain (Create e) b = mark.Entry e.id ∷ create_marks (entry_at e.id b) (at_revision 0 e) b
+marks_of own_domain (Update e expected) b = mark.Entry e.id ∷ update_marks (entry_at e.id b) e expected b
+marks_of own_domain (Delete k expected) b = mark.Entry k ∷ []
+marks_of own_domain (Show k) b = mark.Entry k ∷ []
+marks_of own_domain (ShowAgent k) b = mark.Agent k ∷ []
+marks_of own_domain (ShowBundle d) b = mark.Bundle d ∷ []
+marks_of own_domain (Children p) b = mark.Children p ∷ []
+marks_of own_domain (Page q) b = mark.All ∷ []
+marks_of own_domain (Authorised k) b = mark.Agent k ∷ for_agent_marks (agent_at k b) (λ a. walk_marks (server_text own_domain) a b)
+marks_of own_domain (Trust k) b = mark.Agent k ∷ for_agent_marks (agent_at k b) (λ a. trust_marks (server_text own_domain) a b)
+marks_of own_domain (Prune moment) b = mark.Expiring moment ∷ []
+marks_of own_domain (SetAgent a) b = mark.Agent a.id ∷ []
+marks_of own_domain (DropAgent k) b = mark.Agent k ∷ []
+marks_of own_domain (SetBundle d text) b = mark.Bundle d ∷ []
+marks_of own_domain (DropBundle d mode) b = mark.Bundle d ∷ drop_marks (bundle_at d b) d
 
 -- ---- the reads of operations on a book: those of each on the book that the earlier ones left, up to the first refusal; what
 -- is read twice is listed twice
@@ -130,8 +130,8 @@ marks_after (Err r) f = []
 marks_after (Ok d) f = f d
 
 abbrev pub marks_of_ops : Bytes → List Op → Book → List MarkKind
-marks_of_ops own [] b = []
-marks_of_ops own (op ∷ ops) b = marks_of own op b ++ marks_after (op_of own op b) (λ d. marks_of_ops own ops (after d.writes b))
+marks_of_ops own_domain [] b = []
+marks_of_ops own_domain (op ∷ ops) b = marks_of own_domain op b ++ marks_after (op_of own_domain op b) (λ d. marks_of_ops own_domain ops (after d.writes b))
 
 -- ---- the case that a batch meets at a place, and what follows in each case
 

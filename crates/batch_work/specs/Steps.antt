@@ -20,12 +20,12 @@ use Rattle.entry_book.specs.Pages.{listed, next_of}
 use Rattle.version_book.specs.declared.mark.MarkKind.{MarkKind}
 use Rattle.version_book.specs.declared.mark.MarkKind.TheVariants as mark
 use Rattle.version_book.specs.Marks.{reads}
-use Rattle.batch_work.specs.declared.phase.Asked.{Asked}
-use Rattle.batch_work.specs.declared.phase.Asked.TheVariants as asked
+use Rattle.batch_work.specs.declared.phase.WalkFor.{WalkFor}
+use Rattle.batch_work.specs.declared.phase.WalkFor.TheVariants as asked
 use Rattle.batch_work.specs.declared.phase.Phase.{Phase}
 use Rattle.batch_work.specs.declared.phase.Phase.TheVariants as phase
 use Rattle.batch_work.specs.declared.phase.Next.{Next}
-use Rattle.batch_work.specs.declared.phase.Next.TheVariants.{Goes, Ends, Refused}
+use Rattle.batch_work.specs.declared.phase.Next.TheVariants.{Continues, Ends, Refused}
 use Rattle.batch_work.specs.Reads.{domains_of}
 use Rattle.batch_work.specs.WalkStates.{WalkState, first_walk, walked}
 
@@ -54,7 +54,7 @@ mark_of server op (phase.Group old e) = mark.Group e.parent e.identity
 mark_of server op (phase.Bundle old e d n) = mark.Bundle d
 mark_of server op (phase.Users d m) = mark.Users d.domain
 mark_of server op (phase.Server ask a) = mark.Children server
-mark_of server op (phase.Own ask w) = mark.Children w.agent.id
+mark_of server op (phase.OfAgent ask w) = mark.Children w.agent.id
 mark_of server op (phase.Identity ask w i) = mark.Children i
 mark_of server op (phase.Trusted d ds n bs) = mark.Bundle d
 
@@ -62,7 +62,7 @@ mark_of server op (phase.Trusted d ds n bs) = mark.Bundle d
 
 abbrev pub next_bundle : Option Bytes → Option Entry → Entry → ℕ → Next
 next_bundle None old e n = Ends (replied.Entry e) (put old e ∷ [])
-next_bundle (Some d) old e n = Goes (phase.Bundle old e d (n + 1))
+next_bundle (Some d) old e n = Continues (phase.Bundle old e d (n + 1))
 
 abbrev pub bundles_next : Option Entry → Entry → ℕ → Next
 bundles_next old e n = next_bundle (slice_get e.domains n) old e n
@@ -75,17 +75,17 @@ bundle_next false old e d n = Refused (NoBundle d)
 abbrev pub similar_in : Entry → List Entry → Option Entry
 similar_in e es = first (filter (λ o. set_eq o.selectors e.selectors && not (bytes_eq o.id e.id)) es)
 
-abbrev pub beside_next : Option Entry → Option Entry → Entry → Next
-beside_next (Some o) old e = Refused (Similar o.id)
-beside_next None old e = bundles_next old e 0
+abbrev pub unless_similar_next : Option Entry → Option Entry → Entry → Next
+unless_similar_next (Some o) old e = Refused (Similar o.id)
+unless_similar_next None old e = bundles_next old e 0
 
 abbrev pub create_next : Option Entry → NewEntry → Next
 create_next (Some o) e = Refused IdTaken
-create_next None e = Goes (phase.Group None (at_revision 0 e))
+create_next None e = Continues (phase.Group None (at_revision 0 e))
 
 abbrev pub update_next_when : Bool → Entry → NewEntry → Next
 update_next_when true old e = Refused StaleRevision
-update_next_when false old e = Goes (phase.Group (Some old) (at_revision (old.revision + 1) e))
+update_next_when false old e = Continues (phase.Group (Some old) (at_revision (old.revision + 1) e))
 
 abbrev pub update_next : Option Entry → NewEntry → Option ℕ → Next
 update_next None e expected = Refused NoEntry
@@ -113,7 +113,7 @@ bundle_put_next d text old = let new : Bundle = record { domain = d; text = text
 
 abbrev pub drop_next : Option Bundle → Bytes → DropMode → Next
 drop_next None d m = Refused (NoBundle d)
-drop_next (Some old) d m = Goes (phase.Users old m)
+drop_next (Some old) d m = Continues (phase.Users old m)
 
 abbrev pub users_next : DropMode → List Entry → Bundle → Next
 users_next mode.Restrict [] d = Ends (replied.Dropped [] []) (bundle_removed d ∷ [])
@@ -125,21 +125,21 @@ users_next mode.Dissociate es d = Ends (replied.Dropped [] (map entry_key es)) (
 
 abbrev pub next_trusted : Option Bytes → List Bytes → ℕ → List Bundle → Next
 next_trusted None ds n bs = Ends (replied.Bundles bs) []
-next_trusted (Some d) ds n bs = Goes (phase.Trusted d ds (n + 1) bs)
+next_trusted (Some d) ds n bs = Continues (phase.Trusted d ds (n + 1) bs)
 
 abbrev pub trusted_next : List Bytes → ℕ → List Bundle → Next
 trusted_next ds n bs = next_trusted (slice_get ds n) ds n bs
 
-abbrev pub walk_end : Asked → List Entry → Next
+abbrev pub walk_end : WalkFor → List Entry → Next
 walk_end asked.Entries es = Ends (replied.Entries es) []
 walk_end asked.Bundles es = trusted_next (domains_of es) 0 []
 
 -- the next read is that of the children of the least pending identity; if none is pending, the walk ends
-abbrev pub identity_next : List Bytes → Asked → WalkState → Next
+abbrev pub identity_next : List Bytes → WalkFor → WalkState → Next
 identity_next [] ask w = walk_end ask w.found
-identity_next (i ∷ is) ask w = Goes (phase.Identity ask (record w { waiting = is }) i)
+identity_next (i ∷ is) ask w = Continues (phase.Identity ask (record w { waiting = is }) i)
 
-abbrev pub walk_next : Asked → WalkState → Next
+abbrev pub walk_next : WalkFor → WalkState → Next
 walk_next ask w = identity_next w.waiting ask w
 
 -- ---- what comes after a read
@@ -153,8 +153,8 @@ first_next (ShowAgent k) r = Ends (replied.AgentShown (first r.agents)) []
 first_next (ShowBundle d) r = Ends (replied.BundleShown (first r.bundles)) []
 first_next (Children p) r = Ends (replied.Entries r.entries) []
 first_next (Page q) r = Ends (replied.Page (listed q r) (next_of q r)) []
-first_next (Authorised k) r = for_agent_next (first r.agents) (λ a. Goes (phase.Server asked.Entries a))
-first_next (Trust k) r = for_agent_next (first r.agents) (λ a. Goes (phase.Server asked.Bundles a))
+first_next (Authorised k) r = for_agent_next (first r.agents) (λ a. Continues (phase.Server asked.Entries a))
+first_next (Trust k) r = for_agent_next (first r.agents) (λ a. Continues (phase.Server asked.Bundles a))
 first_next (Prune moment) r = Ends (replied.Pruned (map entry_key r.entries)) (map removed r.entries)
 first_next (SetAgent a) r = Ends (replied.Agent a) (wrote_agent (record { key = a.id; old = first r.agents; new = Some a }) ∷ [])
 first_next (DropAgent k) r = for_agent_next (first r.agents) (λ a. Ends (replied.Agent a) (agent_gone a ∷ []))
@@ -163,21 +163,21 @@ first_next (DropBundle d m) r = drop_next (first r.bundles) d m
 
 abbrev pub advance : Bytes → Op → Phase → Book → Next
 advance server op phase.First r = first_next op r
-advance server op (phase.Group old e) r = beside_next (similar_in e r.entries) old e
+advance server op (phase.Group old e) r = unless_similar_next (similar_in e r.entries) old e
 advance server op (phase.Bundle old e d n) r = bundle_next (is_some (first r.bundles)) old e d n
 advance server op (phase.Users d m) r = users_next m r.entries d
-advance server op (phase.Server ask a) r = Goes (phase.Own ask (walked (filter (holds server a) r.entries) (first_walk a)))
-advance server op (phase.Own ask w) r = walk_next ask (walked r.entries w)
+advance server op (phase.Server ask a) r = Continues (phase.OfAgent ask (walked (filter (holds server a) r.entries) (first_walk a)))
+advance server op (phase.OfAgent ask w) r = walk_next ask (walked r.entries w)
 advance server op (phase.Identity ask w i) r = walk_next ask (walked r.entries w)
 advance server op (phase.Trusted d ds n bs) r = trusted_next ds n (bs ++ r.bundles)
 
 -- ---- from a phase on, on a book: the marks that are read, and the result of the operation
 
-abbrev pub GoesOn : Next → List MarkKind → OpResult → (Phase → Type 0) → Type 0
-GoesOn (Goes q) ms o f = f q
-GoesOn (Ends r ws) ms o f = (ms ≡ []) × (o ≡ done r ws)
-GoesOn (Refused r) ms o f = (ms ≡ []) × (o ≡ Err r)
+abbrev pub ContinuesWith : Next → List MarkKind → OpResult → (Phase → Type 0) → Type 0
+ContinuesWith (Continues q) ms o f = f q
+ContinuesWith (Ends r ws) ms o f = (ms ≡ []) × (o ≡ done r ws)
+ContinuesWith (Refused r) ms o f = (ms ≡ []) × (o ≡ Err r)
 
 abbrev pub Plays : Bytes → Op → Phase → Book → List MarkKind → OpResult → Type 0
 Plays server op p b [] o = ⊥
-Plays server op p b (m ∷ ms) o = (m ≡ mark_of server op p) × GoesOn (advance server op p (reads (mark_of server op p) b)) ms o (λ q. Plays server op q b ms o)
+Plays server op p b (m ∷ ms) o = (m ≡ mark_of server op p) × ContinuesWith (advance server op p (reads (mark_of server op p) b)) ms o (λ q. Plays server op q b ms o)

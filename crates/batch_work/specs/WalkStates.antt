@@ -39,5 +39,5 @@ abbrev pub is_empty : List Bytes → Bool
 is_empty [] = true
 is_empty (x ∷ xs) = false
 
-abbrev pub is_over : WalkState → Bool
-is_over w = is_empty w.waiting
+abbrev pub is_walk_over : WalkState → Bool
+is_walk_over w = is_empty w.waiting

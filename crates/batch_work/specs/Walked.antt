@@ -36,7 +36,7 @@ pub record IsUnread (server : Bytes) (a : Agent) (b : Book) (read : List Bytes) 
   pub new : Within read i → ⊥
 
 -- The least of these, in the order of bytes, is read next.
-pub record IsNext (server : Bytes) (a : Agent) (b : Book) (read : List Bytes) (i : Bytes) : Type 0 where
+pub record IsNextIdentity (server : Bytes) (a : Agent) (b : Book) (read : List Bytes) (i : Bytes) : Type 0 where
   pub unread : IsUnread server a b read i
   pub least : (j : Bytes) → IsUnread server a b read j → (i ≡ j) ⊎ (is_before i j ≡ true)
 
@@ -44,7 +44,7 @@ pub record IsNext (server : Bytes) (a : Agent) (b : Book) (read : List Bytes) (i
 pub record IsWalk (server : Bytes) (a : Agent) (b : Book) (read : List Bytes) : Type 0 where
   pub members : (i : Bytes) → Within read i ↔ (IsAuthorised server a b i × (i ≢ a.id))
   pub once : EachOnce read
-  pub least_first : (before : List Bytes) (i : Bytes) (later : List Bytes) → read ≡ before ++ i ∷ later → IsNext server a b before i
+  pub least_first : (before : List Bytes) (i : Bytes) (later : List Bytes) → read ≡ before ++ i ∷ later → IsNextIdentity server a b before i
 
 abbrev pub WalkAsSaid : Type 0
 WalkAsSaid = (server : Bytes) (a : Agent) (b : Book) → IsWalk server a b (walk (length b.entries) server a [] b)
@@ -68,12 +68,12 @@ children_read server a read = mark.Children server ∷ mark.Children a.id ∷ ma
 
 -- the agent is read, then the children of the server, of the agent, and of the walk's identities
 abbrev pub AuthorisedReads : Type 0
-AuthorisedReads = (own k : Bytes) (a : Agent) (b : Book) → AscendingBook b → Within b.agents a → a.id ≡ k → (read : List Bytes) × IsWalk (server_text own) a b read × (marks_of own (Authorised k) b ≡ mark.Agent k ∷ children_read (server_text own) a read)
+AuthorisedReads = (own_domain k : Bytes) (a : Agent) (b : Book) → AscendingBook b → Within b.agents a → a.id ≡ k → (read : List Bytes) × IsWalk (server_text own_domain) a b read × (marks_of own_domain (Authorised k) b ≡ mark.Agent k ∷ children_read (server_text own_domain) a read)
 
 -- and for `trust`, the bundles of the domains that the authorised entries name
 abbrev pub TrustReads : Type 0
-TrustReads = (own k : Bytes) (a : Agent) (b : Book) → AscendingBook b → Within b.agents a → a.id ≡ k → (read domains : List Bytes) × IsWalk (server_text own) a b read × AreTrusted (server_text own) a b domains × (marks_of own (Trust k) b ≡ mark.Agent k ∷ (children_read (server_text own) a read ++ map mark.Bundle domains))
+TrustReads = (own_domain k : Bytes) (a : Agent) (b : Book) → AscendingBook b → Within b.agents a → a.id ≡ k → (read domains : List Bytes) × IsWalk (server_text own_domain) a b read × AreTrusted (server_text own_domain) a b domains × (marks_of own_domain (Trust k) b ≡ mark.Agent k ∷ (children_read (server_text own_domain) a read ++ map mark.Bundle domains))
 
 -- if the agent is missing, nothing else is read
 abbrev pub MissingReads : Type 0
-MissingReads = (own k : Bytes) (b : Book) → (HasAgent b k → ⊥) → (marks_of own (Authorised k) b ≡ mark.Agent k ∷ []) × (marks_of own (Trust k) b ≡ mark.Agent k ∷ [])
+MissingReads = (own_domain k : Bytes) (b : Book) → (HasAgent b k → ⊥) → (marks_of own_domain (Authorised k) b ≡ mark.Agent k ∷ []) × (marks_of own_domain (Trust k) b ≡ mark.Agent k ∷ [])

@@ -3,51 +3,51 @@ use Rattle.std.specs.Prelude.{◌≡◌, ⊤, ℕ, ◌+◌, ◌-◌, List, [], �
 use Rattle.entry_book.specs.Book.{Book}
 use Rattle.entry_book.specs.Order.{first}
 use Rattle.entry_book.specs.History.{last_of}
-use Rattle.version_book.specs.CommittedRows.{State, book_of}
+use Rattle.version_book.specs.CommittedRows.{VersionState, book_of}
 
 -- The newest version, and the older ones that are retained, oldest first.
 pub record Window : Type 0 where
-  pub older : List State
-  pub newest : State
+  pub older : List VersionState
+  pub newest : VersionState
 
-abbrev pub versions : Window → List State
+abbrev pub versions : Window → List VersionState
 versions w = w.older ++ w.newest ∷ []
 
 -- the version with this number, if the window has it
-abbrev pub version_at : ℕ → Window → Option State
+abbrev pub version_at : ℕ → Window → Option VersionState
 version_at n w = first (filter (λ s. nat_eq s.number n) (versions w))
 
 -- the last n of a list, or all of it if it has fewer
-abbrev pub ending : ℕ → List State → List State
+abbrev pub ending : ℕ → List VersionState → List VersionState
 ending n states = drop (length states - n) states
 
 -- the window after this version was pushed, with at most 63 older ones
-abbrev pub pushed : State → Window → Window
+abbrev pub pushed : VersionState → Window → Window
 pushed s w = record { older = ending 63 (versions w); newest = s }
 
 -- ---- versions of one history
 
 -- the next version of the same trust domain
-pub record IsNext (s t : State) : Type 0 where
+pub record IsNextVersion (s t : VersionState) : Type 0 where
   pub number : t.number ≡ s.number + 1
   pub domain : t.domain ≡ s.domain
 
 -- each version is the next one after the version before it
-abbrev pub ComesNext : State → List State → Type 0
+abbrev pub ComesNext : VersionState → List VersionState → Type 0
 ComesNext s [] = ⊤
-ComesNext s (t ∷ ts) = IsNext s t
+ComesNext s (t ∷ ts) = IsNextVersion s t
 
-abbrev pub Counted : List State → Type 0
+abbrev pub Counted : List VersionState → Type 0
 Counted [] = ⊤
 Counted (s ∷ ss) = ComesNext s ss × Counted ss
 
 -- ---- in relation to the list of all books
 
-abbrev pub book_in : State → Book
+abbrev pub book_in : VersionState → Book
 book_in s = book_of s.rows
 
 -- The window represents this list of all books: its versions have the last 64 of them, in order, and consecutive numbers.
-pub record StandsFor (w : Window) (books : List Book) : Type 0 where
+pub record WindowRepresents (w : Window) (books : List Book) : Type 0 where
   pub count : length books ≡ w.newest.number + 1
   pub kept : map book_in (versions w) ≡ last_of 64 books
   pub counted : Counted (versions w)

@@ -8,7 +8,7 @@ use Rattle.entry_book.specs.Runs.{RunEffect, run}
 use Rattle.entry_book.specs.Batches.{Batch, past_place}
 use Rattle.entry_book.specs.History.{verdict, reply_with, batch_writes}
 use Rattle.version_book.specs.declared.mark.MarkKind.{MarkKind}
-use Rattle.version_book.specs.CommittedRows.{State}
+use Rattle.version_book.specs.CommittedRows.{VersionState}
 use Rattle.batch_work.specs.declared.status.Status.{Status}
 use Rattle.batch_work.specs.declared.status.Status.TheVariants.{New, Running, Ready, Settled}
 use Rattle.batch_work.specs.Reads.{Case, case_at, footprint_in, awaits_in}
@@ -17,10 +17,10 @@ use Rattle.batch_work.specs.Windows.{Window, book_in, version_at}
 -- What a work began on: the newest version of its window, and the version of the earlier book that its batch asks for, if it
 -- asks for one. That version may be gone or not there yet.
 pub record Base : Type 0 where
-  pub newest : State
-  pub earlier : Option State
+  pub newest : VersionState
+  pub earlier : Option VersionState
 
-abbrev pub earlier_in : Option ℕ → Window → Option State
+abbrev pub earlier_in : Option ℕ → Window → Option VersionState
 earlier_in None w = None
 earlier_in (Some n) w = version_at n w
 
@@ -28,7 +28,7 @@ abbrev pub base_in : Batch → Window → Base
 base_in batch w = record { newest = w.newest; earlier = earlier_in (past_place batch.ops) w }
 
 -- the version that a batch reads there
-abbrev pub version_read : Option ℕ → Base → Option State
+abbrev pub version_read : Option ℕ → Base → Option VersionState
 version_read None base = Some base.newest
 version_read (Some n) base = base.earlier
 

@@ -15,9 +15,9 @@ use crate::advance::agents::{asked_next, drop_agent_next, set_agent_next};
 use crate::advance::authorised::{held_next, identity_next, own_next, trusted_turn};
 use crate::advance::bundles::{drop_next, set_bundle_next, users_next};
 use crate::advance::entries::{
-    beside_next, bundle_next, create_next, delete_next, page_next, prune_next, update_next,
+    unless_similar_next, bundle_next, create_next, delete_next, page_next, prune_next, update_next,
 };
-use crate::phase::{Asked, Next, Phase};
+use crate::phase::{WalkFor, Next, Phase};
 use crate::rows::first_of;
 use entry_book::{Op, OpReply, Sequence, Shared};
 use spiffe_name::SpiffeId;
@@ -57,7 +57,7 @@ pub(crate) fn mark_of(server: &Shared<SpiffeId>, op: &Op, phase: &Phase) -> Resu
         Phase::Bundle(_, _, domain, _) => Mark::bundle(domain.clone()?),
         Phase::Users(bundle, _) => Mark::users(&bundle.domain)?,
         Phase::Server(_, _) => Mark::children(server)?,
-        Phase::Own(_, walk) => Mark::children(&walk.agent().id)?,
+        Phase::OfAgent(_, walk) => Mark::children(&walk.agent().id)?,
         Phase::Identity(_, _, identity) => Mark::children(identity)?,
         Phase::Trusted(domain, _, _, _) => Mark::bundle(domain.clone()?),
     })
@@ -96,8 +96,8 @@ fn first_next(alloc: Global, op: &Op, reading: RowsRead) -> Result<Next, AllocEr
             Ok(answered(alloc, OpReply::Entries(children)))
         }
         Op::Page(query) => page_next(alloc, query.get(), &reading),
-        Op::Authorised(_) => asked_next(Asked::Entries, reading.agents()),
-        Op::Trust(_) => asked_next(Asked::Bundles, reading.agents()),
+        Op::Authorised(_) => asked_next(WalkFor::Entries, reading.agents()),
+        Op::Trust(_) => asked_next(WalkFor::Bundles, reading.agents()),
         Op::Prune(_) => prune_next(alloc, reading.entries()),
         Op::SetAgent(agent) => set_agent_next(alloc, agent, reading.into_agents()),
         Op::DropAgent(_) => drop_agent_next(alloc, reading.agents()),
@@ -139,7 +139,7 @@ pub(crate) fn advance(
     match phase {
         Phase::First => or_back(first_next(alloc, op, reading), Phase::First),
         Phase::Group(old, entry) => {
-            let next = beside_next(alloc, &old, &entry, reading.entries());
+            let next = unless_similar_next(alloc, &old, &entry, reading.entries());
             or_back(next, Phase::Group(old, entry))
         }
         Phase::Bundle(old, entry, domain, index) => {
@@ -154,7 +154,7 @@ pub(crate) fn advance(
             let next = held_next(alloc, server.get(), asked, &agent, reading.entries());
             or_back(next, Phase::Server(asked, agent))
         }
-        Phase::Own(asked, walk) => own_next(alloc, asked, walk, reading.into_entries()),
+        Phase::OfAgent(asked, walk) => own_next(alloc, asked, walk, reading.into_entries()),
         Phase::Identity(asked, walk, identity) => {
             identity_next(alloc, asked, walk, identity, reading.into_entries())
         }

@@ -2,7 +2,7 @@
 
 ghost use Rattle.std.specs.Prelude.{◌≡◌, [], IfOk, IfSome};
 ghost use Rattle.entry_book.specs.Batches.{past_place};
-ghost use Rattle.batch_work.specs.Standing.{BeganOn, IsReadable, StandsAt, base_of};
+ghost use Rattle.batch_work.specs.WorkInvariants.{IsStartOf, IsReadableVersion, StageInvariant, base_of};
 ghost use Rattle.batch_work.specs.Working.{MayBegin, base_in, earlier_in};
 
 use crate::phase::Phase;
@@ -10,7 +10,7 @@ use crate::stage::{Begun, Stage};
 use crate::take::settled;
 use crate::versions::{Versions, earlier_in};
 use crate::window::Window;
-use entry_book::{Batch, Outcome, Refusal, both};
+use entry_book::{Batch, ReplyOutcome, Refusal, both};
 use std::alloc::AllocError;
 use version_book::Version;
 
@@ -19,7 +19,7 @@ use version_book::Version;
 fn earlier_clone(batch: &Batch, window: &Window) -> Result<Option<Version>, AllocError>
     requires fits { MayBegin batch.now window.now }
     ensures found { IfOk result (λ earlier. earlier ≡ earlier_in (past_place batch.now.ops) window.now) }
-    ensures readable { IfOk result (λ earlier. IfSome earlier (IsReadable batch.now.domain)) }
+    ensures readable { IfOk result (λ earlier. IfSome earlier (IsReadableVersion batch.now.domain)) }
 {
     let Some(version) = earlier_in(batch, window) else {
         return Ok(None);
@@ -33,7 +33,7 @@ fn earlier_clone(batch: &Batch, window: &Window) -> Result<Option<Version>, Allo
 pub(crate) fn begun_on(batch: &Batch, window: &Window) -> Result<Begun, AllocError>
     requires fits { MayBegin batch.now window.now }
     ensures base { IfOk result (λ begun. base_of begun ≡ base_in batch.now window.now) }
-    ensures began { IfOk result (BeganOn batch.now) }
+    ensures began { IfOk result (IsStartOf batch.now) }
 {
     let newest = window.newest();
     let _ = newest.number();
@@ -49,8 +49,8 @@ pub(crate) fn begun_on(batch: &Batch, window: &Window) -> Result<Begun, AllocErr
 
 /// Returns the first stage of a batch that begins on these versions.
 pub(crate) fn first_stage(batch: &Batch, begun: &Begun) -> Stage
-    requires began { BeganOn batch.now begun.now }
-    ensures { StandsAt result batch.now (base_of begun.now) [] [] [] }
+    requires began { IsStartOf batch.now begun.now }
+    ensures { StageInvariant result batch.now (base_of begun.now) [] [] [] }
 {
     let versions = Versions::begun(begun);
     match versions.version_for(batch) {
@@ -60,7 +60,7 @@ pub(crate) fn first_stage(batch: &Batch, begun: &Begun) -> Stage
         },
         Err(Refusal::NotYet) => {
             let place = begun.newest.number();
-            settled(place, Outcome::Refused(Refusal::NotYet))
+            settled(place, ReplyOutcome::Refused(Refusal::NotYet))
         }
         Err(_) => Stage::Gone,
     }

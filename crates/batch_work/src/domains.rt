@@ -7,7 +7,7 @@ ghost use Rattle.batch_work.specs.Reads.{domains_of, text_set};
 use entry_book::{Entry, Shared};
 use spiffe_name::TrustDomain;
 use std::alloc::{AllocError, Global};
-use version_book::Lent;
+use version_book::Borrowed;
 
 fn push_all(
     all: &mut Vec<Shared<TrustDomain>>,
@@ -33,9 +33,9 @@ fn all_domains(alloc: Global, entries: &[Entry]) -> Result<Vec<Shared<TrustDomai
 }
 
 /// Returns the domains that borrowed entries name, as often as they are named. The error is out of memory.
-fn all_lent_domains(
+fn all_borrowed_domains(
     alloc: Global,
-    entries: &[Lent<'_, Entry>],
+    entries: &[Borrowed<'_, Entry>],
 ) -> Result<Vec<Shared<TrustDomain>>, AllocError>
     ensures { IfOk result (λ all. all.items ≡ flat_map (λ (entry : EntryRow). entry.domains) entries.now) }
 {
@@ -66,11 +66,11 @@ pub(crate) fn domains_of(
 }
 
 /// Returns the domains that borrowed entries name, each once, in order. The error is out of memory.
-pub(crate) fn domains_of_lent(
+pub(crate) fn domains_of_borrowed(
     alloc: Global,
-    entries: &[Lent<'_, Entry>],
+    entries: &[Borrowed<'_, Entry>],
 ) -> Result<Vec<Shared<TrustDomain>>, AllocError>
     ensures { IfOk result (λ set. set.items ≡ domains_of entries.now) }
 {
-    each_once(all_lent_domains(alloc, entries)?)
+    each_once(all_borrowed_domains(alloc, entries)?)
 }

@@ -4,7 +4,7 @@
 //! `specs/Walked.antt`; a caller may rely on it after the call.
 
 ghost use Rattle.batch_work.specs.Bounds.{BatchReadsBounded, KeptReadOnly, OpReadsBounded, ReadsAreFew, ReadsAreFewAnywhere, ReadsInOrder, TokenReadFirst};
-ghost use Rattle.batch_work.specs.Laws.{AwaitsAsSaid, BatchReadsDecide, CommitCheck, EndHasRead, OthersDontCommit, ReadsDecide, ReadyHasRead, ReadyTurns, VerdictByCase, WindowBegins, WindowGoesOn, WindowLast, WindowStands};
+ghost use Rattle.batch_work.specs.Laws.{AwaitsAsSaid, BatchReadsDecide, CommitCheck, EndHasRead, OthersDontCommit, ReadsDecide, ReadyHasRead, ReadyTurns, VerdictByCase, WindowBegins, WindowExtends, WindowLast, WindowRepresentsBooks};
 ghost use Rattle.batch_work.specs.Walked.{AuthorisedReads, MissingReads, OneWalk, TrustReads, TrustedAsSaid, WalkAsSaid};
 
 /// The specification's verdict on a batch is that of the case that the batch meets.
@@ -29,9 +29,9 @@ pub fn commit_check()
 /// if the batch does. The window of a history's first version represents the list of its book. With each version that is
 /// pushed, it represents the longer list.
 pub fn windows()
-    ensures stands { WindowStands }
+    ensures represents { WindowRepresentsBooks }
     ensures begins { WindowBegins }
-    ensures goes_on { WindowGoesOn }
+    ensures continues { WindowExtends }
     ensures last { WindowLast }
 {}
 

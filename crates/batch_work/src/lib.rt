@@ -9,34 +9,34 @@
 //!   settled; [`Status`] says which.
 //! - [`answer`]: the reply to a read-only batch, in one pass: nothing commits on what it reads, so there are no steps and no
 //!   marks.
-//! - [`LentReply`]: such a reply, whose rows are borrowed from the version, so that it changes no reference count. It has a
-//!   [`LentOpReply`] for each operation, which has its [`LentRows`].
+//! - [`BorrowedReply`]: such a reply, whose rows are borrowed from the version, so that it changes no reference count. It has a
+//!   [`BorrowedOpReply`] for each operation, which has its [`BorrowedRows`].
 //! - [`Window`]: the newest version of one history and up to 63 before it. A batch reads the newest one, or the one of the
 //!   earlier book that its page names.
 //! - [`laws`]: theorems. What is read decides the outcome of a batch; its outcome at a commit; the number of its reads, and
 //!   which they are; how a window represents the list of all books.
 //!
 //! The definitions are in `specs/`: `Reads` has the table of reads, the cases that a batch can meet, and its footprint in each;
-//! `Working` has what a work is, `Windows` what a window is, and `LentReplies` the replies of borrowed rows. `Laws`, `Bounds`
+//! `Working` has what a work is, `Windows` what a window is, and `BorrowedReplies` the replies of borrowed rows. `Laws`, `Bounds`
 //! and `Walked` have the theorems. The others are for this crate's own contracts. No other crate depends on how a work is
 //! executed:
 //!
 //! - `begin`: what a batch begins on; `versions`: which version it reads there, or why it reads none.
 //! - `look`: what its next read finds; `take`: what follows from that; `stage`: its state between two steps.
-//! - `asking`: evaluates read-only batches in one pass.
+//! - `read_only`: evaluates read-only batches in one pass.
 //! - `phase`: the state of an operation between two reads; `advance`: its next state.
-//! - `walk`: the walk to authorised entries, in steps; `sorted`: the sorted sets of this walk and of that in `asking`.
+//! - `walk`: the walk to authorised entries, in steps; `sorted`: the sorted sets of this walk and of that in `read_only`.
 //!
 //! `docs/GLOSSARY.md` explains the terms.
 #![tactic(auto)]
 
 mod advance;
 mod arrivals;
-mod asking;
+mod read_only;
 mod begin;
 mod domains;
 pub mod laws;
-mod lent_reply;
+mod borrowed_reply;
 mod look;
 mod phase;
 mod rows;
@@ -49,8 +49,8 @@ mod walk;
 mod window;
 mod work;
 
-pub use asking::answer;
-pub use lent_reply::{LentOpReply, LentReply, LentRows};
+pub use read_only::answer;
+pub use borrowed_reply::{BorrowedOpReply, BorrowedReply, BorrowedRows};
 pub use status::Status;
 pub use window::Window;
 pub use work::Work;

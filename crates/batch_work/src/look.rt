@@ -4,7 +4,7 @@ ghost use Rattle.std.specs.Prelude.{◌≡◌, IfOk, IfErr, Some, length, slice_
 ghost use Rattle.entry_book.specs.Book.{token_at};
 ghost use Rattle.entry_book.specs.History.{kept_under};
 ghost use Rattle.entry_book.specs.Order.{first};
-ghost use Rattle.batch_work.specs.Standing.{AtToken, BeganOn, Going, IsRunning, Looked, StandsAt, StandsRead, base_of};
+ghost use Rattle.batch_work.specs.WorkInvariants.{AtToken, IsStartOf, Going, IsRunning, Looked, StageInvariant, FoundInvariant, base_of};
 ghost use Rattle.batch_work.specs.Windows.{book_in};
 ghost use Rattle.batch_work.specs.Working.{footprint_there};
 
@@ -50,7 +50,7 @@ fn look_op(
     index: usize,
     phase: Phase,
 ) -> Result<(Mark, Next), Phase>
-    requires began { BeganOn batch.now begun.now }
+    requires began { IsStartOf batch.now begun.now }
     requires going { Going batch.now (base_of begun.now) course.now.marks.items course.now.changes course.now.replies.items index phase }
     ensures looked { IfOk result (λ found. Looked batch.now (base_of begun.now) course.now.marks.items course.now.changes course.now.replies.items index found.0 found.1) }
     ensures back { IfErr result (λ back. back ≡ phase) }
@@ -93,8 +93,8 @@ pub(crate) fn next_mark(
     course: &Course,
     stage: &Stage,
 ) -> Result<Mark, AllocError>
-    requires began { BeganOn batch.now begun.now }
-    requires stands { StandsAt stage.now batch.now (base_of begun.now) course.now.marks.items course.now.changes course.now.replies.items }
+    requires began { IsStartOf batch.now begun.now }
+    requires holds_at_stage { StageInvariant stage.now batch.now (base_of begun.now) course.now.marks.items course.now.changes course.now.replies.items }
     requires running { IsRunning stage.now }
     ensures { IfOk result (λ mark. slice_get (footprint_there batch.now (base_of begun.now)) (length course.now.marks.items) ≡ Some mark) }
 {
@@ -117,10 +117,10 @@ pub(crate) fn look(
     course: &Course,
     stage: Stage,
 ) -> Result<(Mark, Found), Stage>
-    requires began { BeganOn batch.now begun.now }
-    requires stands { StandsAt stage batch.now (base_of begun.now) course.now.marks.items course.now.changes course.now.replies.items }
+    requires began { IsStartOf batch.now begun.now }
+    requires holds_at_stage { StageInvariant stage batch.now (base_of begun.now) course.now.marks.items course.now.changes course.now.replies.items }
     requires running { IsRunning stage }
-    ensures stands { IfOk result (λ read. StandsRead read.0 read.1 batch.now (base_of begun.now) course.now.marks.items course.now.changes course.now.replies.items) }
+    ensures holds_at_stage { IfOk result (λ read. FoundInvariant read.0 read.1 batch.now (base_of begun.now) course.now.marks.items course.now.changes course.now.replies.items) }
     ensures back { IfErr result (λ back. back ≡ stage) }
 {
     match stage {

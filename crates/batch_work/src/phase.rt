@@ -7,7 +7,7 @@ use version_book::Changes;
 
 /// What the operation returns: the authorised entries, or the bundles of the domains that they name.
 #[derive(Clone, Copy, Drop)]
-pub(crate) enum Asked {
+pub(crate) enum WalkFor {
     Entries,
     Bundles,
 }
@@ -24,11 +24,11 @@ pub(crate) enum Phase {
     /// The users of this bundle, which is to be dropped.
     Users(Bundle, DropMode),
     /// The children of the server.
-    Server(Asked, Agent),
+    Server(WalkFor, Agent),
     /// The agent's own children; the walk has found the aliases that the agent holds.
-    Own(Asked, Walk),
+    OfAgent(WalkFor, Walk),
     /// The children of an identity, which is no longer pending.
-    Identity(Asked, Walk, Shared<SpiffeId>),
+    Identity(WalkFor, Walk, Shared<SpiffeId>),
     /// The bundle of a domain that authorised entries name; all these domains, the index of the one after it, and the bundles
     /// found.
     Trusted(Shared<TrustDomain>, Sequence<Shared<TrustDomain>>, usize, Sequence<Bundle>),
@@ -38,7 +38,7 @@ pub(crate) enum Phase {
 #[derive(Drop)]
 pub(crate) enum Next {
     /// Another read.
-    Goes(Phase),
+    Continues(Phase),
     /// The operation has ended, with this reply and these writes.
     Ends(OpReply, Changes),
     /// The operation is refused.

@@ -7,13 +7,13 @@ ghost use Rattle.std.specs.Ordering.{nat_cmp};
 ghost use Rattle.std.specs.Vec.{vec_capacity};
 ghost use Rattle.entry_book.specs.Order.{Ascending, with_row};
 ghost use Rattle.entry_book.specs.Rows.{entry_key};
-ghost use Rattle.batch_work.specs.Places.{IsPlace};
+ghost use Rattle.batch_work.specs.Ranks.{IsRank};
 
 use entry_book::{Entry, Shared};
 use spiffe_name::SpiffeId;
 use std::alloc::AllocError;
 use std::cmp::Ordering;
-use version_book::Lent;
+use version_book::Borrowed;
 
 /// An item of a sorted set. It has a key, by whose bytes the set is ordered.
 pub(crate) trait Keyed: Drop {
@@ -41,18 +41,18 @@ impl Keyed for Entry {
 }
 
 /// A borrowed item has the key of the item.
-impl<'a, T: Keyed + 'a> Keyed for Lent<'a, T> {
+impl<'a, T: Keyed + 'a> Keyed for Borrowed<'a, T> {
     ghost key = { T.key };
 
-    fn compare(&self, other: &Lent<'a, T>) -> Ordering {
+    fn compare(&self, other: &Borrowed<'a, T>) -> Ordering {
         self.get().compare(other.get())
     }
 }
 
 /// Returns the index of the item with this one's key, or as an error the index at which it belongs. It is a binary search.
-fn place_of<T: Keyed>(set: &[T], item: &T) -> Result<usize, usize>
+fn rank_of<T: Keyed>(set: &[T], item: &T) -> Result<usize, usize>
     requires order { Ascending T.key set.now }
-    ensures { IsPlace T.key set.now (T.key item.now) result }
+    ensures { IsRank T.key set.now (T.key item.now) result }
 {
     set.binary_search_by(|other| other.compare(item))
 }
@@ -62,7 +62,7 @@ pub(crate) fn has<T: Keyed>(set: &[T], item: &T) -> bool
     requires order { Ascending T.key set.now }
     ensures { result ≡ list_any (λ other. bytes_eq (T.key other) (T.key item.now)) set.now }
 {
-    match place_of(set, item) {
+    match rank_of(set, item) {
         Ok(_) => true,
         Err(_) => false,
     }
@@ -79,7 +79,7 @@ pub(crate) fn put<T: Keyed>(set: &mut Vec<T>, item: T) -> Result<bool, AllocErro
     ensures len { vec_len set.new ≤ vec_len set.old + 1 }
     ensures capacity { vec_capacity set.old ≤ vec_capacity set.new }
 {
-    match place_of(set.as_slice(), &item) {
+    match rank_of(set.as_slice(), &item) {
         Ok(index) => {
             set[index] = item;
             Ok(false)

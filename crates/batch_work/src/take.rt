@@ -4,17 +4,17 @@ ghost use Rattle.std.specs.Prelude.{◌≡◌, ◌<◌, ◌≤◌, ◌+◌, ◌+
 ghost use Rattle.entry_book.specs.Batches.{is_query};
 ghost use Rattle.entry_book.specs.History.{reply_with, token_writes, verdict_again};
 ghost use Rattle.entry_book.specs.SameOps.{ops_eq};
-ghost use Rattle.batch_work.specs.Standing.{BeganOn, Looked, StandsAt, StandsRead, base_of};
+ghost use Rattle.batch_work.specs.WorkInvariants.{IsStartOf, Looked, StageInvariant, FoundInvariant, base_of};
 
 use crate::phase::{Next, Phase};
 use crate::stage::{Begun, Course, Found, Stage};
 use crate::versions::version_gone;
-use entry_book::{Batch, KeptBatch, OpRefusal, OpReply, Outcome, Refusal, Reply, Sequence, Shared};
+use entry_book::{Batch, KeptBatch, OpRefusal, OpReply, ReplyOutcome, Refusal, Reply, Sequence, Shared};
 use std::alloc::{AllocError, Global};
 use version_book::{Changes, Mark};
 
 /// Returns the stage of a work that is settled, with this outcome at this place.
-pub(crate) fn settled(place: u64, outcome: Outcome) -> Stage
+pub(crate) fn settled(place: u64, outcome: ReplyOutcome) -> Stage
     ensures { result ≡ Stage.Settled (record { place = place; outcome = outcome }) }
 {
     Stage::Settled(Reply { place, outcome })
@@ -24,24 +24,24 @@ pub(crate) fn settled(place: u64, outcome: Outcome) -> Stage
 fn refused(begun: &Begun, index: usize, reason: OpRefusal) -> Stage
     ensures { result ≡ Stage.Settled (record {
       place = begun.now.newest.number;
-      outcome = Outcome.Refused (Refusal.OfOp index reason);
+      outcome = ReplyOutcome.Refused (Refusal.OfOp index reason);
     }) }
 {
     let refusal = Refusal::OfOp(index, reason);
-    settled(begun.newest.number(), Outcome::Refused(refusal))
+    settled(begun.newest.number(), ReplyOutcome::Refused(refusal))
 }
 
 /// Returns the stage of a work whose token is in use: its batch repeats the stored one, or reuses the token for other
 /// operations.
-fn again(begun: &Begun, batch: &Batch, kept: KeptBatch) -> Stage
+fn repeated_or_reused(begun: &Begun, batch: &Batch, kept: KeptBatch) -> Stage
     ensures { result ≡ Stage.Settled
         (reply_with begun.now.newest.number (verdict_again (ops_eq kept.ops batch.now.ops) kept)) }
 {
     if kept.has_ops(batch.ops()) {
-        settled(kept.place, Outcome::Repeated(kept.replies))
+        settled(kept.place, ReplyOutcome::Repeated(kept.replies))
     } else {
         let place = begun.newest.number();
-        settled(place, Outcome::Refused(Refusal::TokenReused))
+        settled(place, ReplyOutcome::Refused(Refusal::TokenReused))
     }
 }
 
@@ -49,10 +49,10 @@ fn again(begun: &Begun, batch: &Batch, kept: KeptBatch) -> Stage
 fn gone(begun: &Begun) -> Stage
     ensures { result ≡ Stage.Settled (record {
       place = begun.now.newest.number;
-      outcome = Outcome.Refused (Refusal.OfOp 0 OpRefusal.VersionGone);
+      outcome = ReplyOutcome.Refused (Refusal.OfOp 0 OpRefusal.VersionGone);
     }) }
 {
-    settled(begun.newest.number(), Outcome::Refused(version_gone()))
+    settled(begun.newest.number(), ReplyOutcome::Refused(version_gone()))
 }
 
 /// Appends a copy of these writes to the changes. The error is out of memory, and then nothing has changed.
@@ -124,11 +124,11 @@ fn end_query(
 ) -> Result<Stage, AllocError>
     ensures { IfOk result (λ stage. stage ≡ Stage.Settled (record {
       place = begun.now.newest.number;
-      outcome = Outcome.Answered (course.now.replies.items ++ reply.now ∷ []);
+      outcome = ReplyOutcome.Answered (course.now.replies.items ++ reply.now ∷ []);
     })) }
 {
     let all = all_replies(alloc, &course.replies, reply)?;
-    Ok(settled(begun.newest.number(), Outcome::Answered(all)))
+    Ok(settled(begun.newest.number(), ReplyOutcome::Answered(all)))
 }
 
 /// Records the writes of the last operation of a batch of changes, and returns the stage after it. The error is out of memory,
@@ -163,9 +163,9 @@ fn ended(
     reply: &OpReply,
     writes: &Changes,
 ) -> Result<Stage, AllocError>
-    requires began { BeganOn batch.now begun.now }
+    requires began { IsStartOf batch.now begun.now }
     requires looked { Looked batch.now (base_of begun.now) course.old.marks.items course.old.changes course.old.replies.items index mark.now (Next.Ends reply.now writes.now) }
-    ensures stands { IfOk result (λ stage. StandsAt stage batch.now (base_of begun.now) (course.old.marks.items ++ mark.now ∷ []) course.new.changes course.new.replies.items) }
+    ensures holds_at_stage { IfOk result (λ stage. StageInvariant stage batch.now (base_of begun.now) (course.old.marks.items ++ mark.now ∷ []) course.new.changes course.new.replies.items) }
     ensures err { OnErr result ((course.new.changes ≡ course.old.changes) × (course.new.replies.items ≡ course.old.replies.items)) }
     ensures marks { course.new.marks ≡ course.old.marks }
 {
@@ -192,15 +192,15 @@ pub(crate) fn take_down(
     mark: &Mark,
     found: Found,
 ) -> Result<Stage, Found>
-    requires began { BeganOn batch.now begun.now }
-    requires stands { StandsRead mark.now found batch.now (base_of begun.now) course.old.marks.items course.old.changes course.old.replies.items }
-    ensures stands { IfOk result (λ stage. StandsAt stage batch.now (base_of begun.now) (course.old.marks.items ++ mark.now ∷ []) course.new.changes course.new.replies.items) }
+    requires began { IsStartOf batch.now begun.now }
+    requires holds_at_stage { FoundInvariant mark.now found batch.now (base_of begun.now) course.old.marks.items course.old.changes course.old.replies.items }
+    ensures holds_at_stage { IfOk result (λ stage. StageInvariant stage batch.now (base_of begun.now) (course.old.marks.items ++ mark.now ∷ []) course.new.changes course.new.replies.items) }
     ensures back { IfErr result (λ back. back ≡ found) }
     ensures err { OnErr result ((course.new.changes ≡ course.old.changes) × (course.new.replies.items ≡ course.old.replies.items)) }
     ensures marks { course.new.marks ≡ course.old.marks }
 {
     match found {
-        Found::Op(index, Next::Goes(phase)) => Ok(Stage::At(index, phase)),
+        Found::Op(index, Next::Continues(phase)) => Ok(Stage::At(index, phase)),
         Found::Op(index, Next::Refused(reason)) => Ok(refused(begun, index, reason)),
         Found::Op(index, Next::Ends(reply, writes)) => {
             match ended(alloc, begun, batch, course, mark, index, &reply, &writes) {
@@ -212,7 +212,7 @@ pub(crate) fn take_down(
                 Err(_) => Err(Found::Op(index, Next::Ends(reply, writes))),
             }
         }
-        Found::Kept(Some(kept)) => Ok(again(begun, batch, kept)),
+        Found::Kept(Some(kept)) => Ok(repeated_or_reused(begun, batch, kept)),
         Found::Kept(None) => Ok(Stage::At(0, Phase::First)),
         Found::Gone => Ok(gone(begun)),
     }

@@ -52,7 +52,7 @@ impl<'a> Versions<'a> {
     ghost use Rattle.std.specs.Prelude.{◌≡◌, IfErr, IfOk, IfSome, Some};
     ghost use Rattle.std.specs.Option.{option_copied};
     ghost use Rattle.entry_book.specs.Batches.{past_place};
-    ghost use Rattle.batch_work.specs.Standing.{InTime, ReadsNone, base_of};
+    ghost use Rattle.batch_work.specs.WorkInvariants.{InTime, ReadsNone, base_of};
     ghost use Rattle.batch_work.specs.Working.{base_in, version_read};
 
     /// Returns those of a window.

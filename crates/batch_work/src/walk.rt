@@ -15,7 +15,7 @@ use std::marker::Model;
 
 /// The state of a walk.
 #[derive(Drop)]
-struct Place {
+struct WalkParts {
     agent: Agent,
     /// The identities met, including the agent's own ID, in order.
     met: Vec<Shared<SpiffeId>>,
@@ -30,7 +30,7 @@ struct Place {
 /// moves it.
 #[derive(Drop)]
 pub(crate) struct Walk {
-    place: Box<Place>,
+    parts: Box<WalkParts>,
 }
 
 impl Model for Walk {
@@ -41,21 +41,21 @@ impl Model for Walk {
     ghost Value = { WalkState };
 
     ghost view = { λ walk. record {
-      agent = walk.place.value.agent;
-      met = walk.place.value.met.items;
-      waiting = walk.place.value.waiting.items;
-      found = walk.place.value.found.items;
+      agent = walk.parts.value.agent;
+      met = walk.parts.value.met.items;
+      waiting = walk.parts.value.waiting.items;
+      found = walk.parts.value.found.items;
     } };
 
     ghost invariant = { λ walk.
-        Ascending (λ id. id) walk.place.value.met.items
-        × Ascending (λ id. id) walk.place.value.waiting.items
-        × Ascending entry_key walk.place.value.found.items };
+        Ascending (λ id. id) walk.parts.value.met.items
+        × Ascending (λ id. id) walk.parts.value.waiting.items
+        × Ascending entry_key walk.parts.value.found.items };
 }
 
 impl Walk {
     ghost use Rattle.std.specs.Prelude.{◌≡◌, [], ◌∷◌, IfOk, IfNone, IfSome, OnOk, OnErr};
-    ghost use Rattle.batch_work.specs.WalkStates.{first_walk, is_over, walked};
+    ghost use Rattle.batch_work.specs.WalkStates.{first_walk, is_walk_over, walked};
 
     /// Makes the walk before its first entry. The error is out of memory.
     pub(crate) fn new(alloc: Global, agent: Agent) -> Result<Walk, AllocError>
@@ -63,31 +63,31 @@ impl Walk {
     {
         let met = only(alloc, &agent.id);
         let (agent, met) = both(Ok(agent), met)?;
-        let place = Place {
+        let parts = WalkParts {
             agent,
             met,
             waiting: Vec::new(alloc),
             found: Vec::new(alloc),
         };
         Ok(Walk {
-            place: Box::new(alloc, place)?,
+            parts: Box::new(alloc, parts)?,
         })
     }
 
     /// Adds the entries of a read, one after another. The error is out of memory, and then nothing has changed.
-    pub(crate) fn goes_on(&mut self, alloc: Global, entries: Vec<Entry>) -> Result<(), AllocError>
+    pub(crate) fn continues(&mut self, alloc: Global, entries: Vec<Entry>) -> Result<(), AllocError>
         ensures ok { OnOk result (self.new ≡ walked entries.items self.old) }
         ensures err { OnErr result (self.new ≡ self.old) }
     {
         let arrivals = arrivals_of(alloc, entries)?;
-        let place = &mut *self.place;
-        place.met.reserve(arrivals.len())?;
-        place.waiting.reserve(arrivals.len())?;
-        place.found.reserve(arrivals.len())?;
+        let parts = &mut *self.parts;
+        parts.met.reserve(arrivals.len())?;
+        parts.waiting.reserve(arrivals.len())?;
+        parts.found.reserve(arrivals.len())?;
         put_arrivals(
-            &mut place.met,
-            &mut place.waiting,
-            &mut place.found,
+            &mut parts.met,
+            &mut parts.waiting,
+            &mut parts.found,
             arrivals,
         );
         Ok(())
@@ -95,11 +95,11 @@ impl Walk {
 
     /// Returns true if adding these entries leaves no pending identity.
     pub(crate) fn ends_with(&self, entries: &[Entry]) -> bool
-        ensures { result ≡ is_over (walked entries.now self.now) }
+        ensures { result ≡ is_walk_over (walked entries.now self.now) }
     {
-        let place = &*self.place;
-        match place.waiting.as_slice() {
-            [] => are_met(place.met.as_slice(), entries),
+        let parts = &*self.parts;
+        match parts.waiting.as_slice() {
+            [] => are_met(parts.met.as_slice(), entries),
             [_, ..] => false,
         }
     }
@@ -111,24 +111,24 @@ impl Walk {
             (self.old.waiting ≡ least ∷ self.new.waiting)
             × (self.new ≡ record self.old { waiting = self.new.waiting })) }
     {
-        if self.place.waiting.is_empty() {
+        if self.parts.waiting.is_empty() {
             return None;
         }
-        Some(self.place.waiting.remove(0))
+        Some(self.parts.waiting.remove(0))
     }
 
     /// Returns the agent whose entries are searched.
     pub(crate) fn agent(&self) -> &Agent
         ensures { result.now ≡ self.now.agent }
     {
-        &self.place.agent
+        &self.parts.agent
     }
 
     /// Returns the entries found, in the order of their ids. Allocates no memory.
     pub(crate) fn into_found(self) -> Vec<Entry>
         ensures { result.items ≡ self.found }
     {
-        let Place { found, .. } = Box::into_inner(self.place);
+        let WalkParts { found, .. } = Box::into_inner(self.parts);
         found
     }
 }
@@ -138,14 +138,14 @@ impl Clone for Walk {
     ghost is_clone = { λ original copy. copy ≡ original };
 
     fn clone(&self) -> Result<Walk, AllocError> {
-        let place = Place {
-            agent: self.place.agent.clone()?,
-            met: self.place.met.clone()?,
-            waiting: self.place.waiting.clone()?,
-            found: self.place.found.clone()?,
+        let parts = WalkParts {
+            agent: self.parts.agent.clone()?,
+            met: self.parts.met.clone()?,
+            waiting: self.parts.waiting.clone()?,
+            found: self.parts.found.clone()?,
         };
         Ok(Walk {
-            place: Box::new(*Box::allocator(&self.place), place)?,
+            parts: Box::new(*Box::allocator(&self.parts), parts)?,
         })
     }
 }

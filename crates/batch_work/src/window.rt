@@ -65,7 +65,7 @@ impl Model for Window {
 impl Window {
     ghost use Rattle.std.specs.Prelude.{◌≡◌, ◌≤◌, IfSome, [], ℕ};
     ghost use Rattle.std.specs.Option.{option_copied};
-    ghost use Rattle.batch_work.specs.Windows.{Counted, IsNext, pushed, version_at, versions};
+    ghost use Rattle.batch_work.specs.Windows.{Counted, IsNextVersion, pushed, version_at, versions};
 
     /// Makes the window with this version alone.
     pub fn of(version: Version) -> Window
@@ -123,7 +123,7 @@ impl Window {
 
     /// Adds the next version: that of the same trust domain with the next number. It drops the oldest one if there are 64.
     pub fn push(&mut self, version: Version)
-        requires next { IsNext self.old.newest version }
+        requires next { IsNextVersion self.old.newest version }
         ensures { self.new ≡ pushed version self.old }
     {
         let before = mem::replace(&mut self.newest, version);

@@ -2,7 +2,7 @@
 
 ghost use Rattle.std.specs.Prelude.{◌≡◌, ◌++◌, ◌∷◌, [], ◌+◌, ◌≤◌, IfOk, IfSome, Some, None, true, false, length, vec_capacity, vec_len};
 ghost use Rattle.version_book.specs.declared.mark.MarkKind.{MarkKind};
-ghost use Rattle.batch_work.specs.Standing.{BeganOn, IsRunning, StandsAt, StandsRead, base_of};
+ghost use Rattle.batch_work.specs.WorkInvariants.{IsStartOf, IsRunning, StageInvariant, FoundInvariant, base_of};
 
 use crate::begin::{begun_on, first_stage};
 use crate::look::{look, next_mark};
@@ -36,12 +36,12 @@ fn taken(
     mark: Mark,
     found: Found,
 ) -> (Stage, bool)
-    requires began { BeganOn batch.now begun.now }
+    requires began { IsStartOf batch.now begun.now }
     requires room { vec_len course.old.marks + 1 ≤ vec_capacity course.old.marks }
-    requires stands { StandsRead mark found batch.now (base_of begun.now) course.old.marks.items course.old.changes course.old.replies.items }
-    ensures stands { StandsAt result.0 batch.now (base_of begun.now) course.new.marks.items course.new.changes course.new.replies.items }
+    requires holds_at_stage { FoundInvariant mark found batch.now (base_of begun.now) course.old.marks.items course.old.changes course.old.replies.items }
+    ensures holds_at_stage { StageInvariant result.0 batch.now (base_of begun.now) course.new.marks.items course.new.changes course.new.replies.items }
     ensures kept { result.1 ≡ true → length course.new.marks.items ≡ length course.old.marks.items + 1 }
-    ensures stays { result.1 ≡ false → course.new.marks.items ≡ course.old.marks.items }
+    ensures is_unchanged { result.1 ≡ false → course.new.marks.items ≡ course.old.marks.items }
 {
     match take_down(alloc, begun, batch, course, &mark, found) {
         Ok(stage) => {
@@ -61,13 +61,13 @@ fn stepped(
     course: &mut Course,
     stage: Stage,
 ) -> (Stage, bool)
-    requires began { BeganOn batch.now begun.now }
+    requires began { IsStartOf batch.now begun.now }
     requires room { vec_len course.old.marks + 1 ≤ vec_capacity course.old.marks }
-    requires stands { StandsAt stage batch.now (base_of begun.now) course.old.marks.items course.old.changes course.old.replies.items }
+    requires holds_at_stage { StageInvariant stage batch.now (base_of begun.now) course.old.marks.items course.old.changes course.old.replies.items }
     requires running { IsRunning stage }
-    ensures stands { StandsAt result.0 batch.now (base_of begun.now) course.new.marks.items course.new.changes course.new.replies.items }
+    ensures holds_at_stage { StageInvariant result.0 batch.now (base_of begun.now) course.new.marks.items course.new.changes course.new.replies.items }
     ensures kept { result.1 ≡ true → length course.new.marks.items ≡ length course.old.marks.items + 1 }
-    ensures stays { result.1 ≡ false → course.new.marks.items ≡ course.old.marks.items }
+    ensures is_unchanged { result.1 ≡ false → course.new.marks.items ≡ course.old.marks.items }
 {
     match look(alloc, begun, batch, course, stage) {
         Ok((mark, found)) => taken(alloc, begun, batch, course, mark, found),
@@ -76,7 +76,7 @@ fn stepped(
 }
 
 /// Drops the previous stage.
-fn let_go(stage: Stage) {
+fn discard(stage: Stage) {
     drop(stage);
 }
 
@@ -97,7 +97,7 @@ pub struct Work {
 
 impl Model for Work {
     ghost use Rattle.std.specs.Prelude.{length, option_map};
-    ghost use Rattle.batch_work.specs.Standing.{Stands, base_of};
+    ghost use Rattle.batch_work.specs.WorkInvariants.{WorkInvariant, base_of};
     ghost use Rattle.batch_work.specs.Working.{Work};
 
     ghost Value = { Work };
@@ -108,7 +108,7 @@ impl Model for Work {
       steps = length work.course.marks.items;
     } };
 
-    ghost invariant = { λ work. Stands work.begun work.stage work.batch work.course.marks.items work.course.changes work.course.replies.items };
+    ghost invariant = { λ work. WorkInvariant work.begun work.stage work.batch work.course.marks.items work.course.changes work.course.replies.items };
 }
 
 impl Work {
@@ -146,7 +146,7 @@ impl Work {
         let begun = begun_on(&self.batch, window)?;
         let stage = first_stage(&self.batch, &begun);
         self.begun = Some(begun);
-        let_go(replace(&mut self.stage, stage));
+        discard(replace(&mut self.stage, stage));
         Ok(())
     }
 
@@ -174,7 +174,7 @@ impl Work {
         self.course.marks.reserve(1)?;
         let stage = replace(&mut self.stage, Stage::New);
         let (stage, is_made) = stepped(self.alloc, begun, &self.batch, &mut self.course, stage);
-        let_go(replace(&mut self.stage, stage));
+        discard(replace(&mut self.stage, stage));
         if is_made { Ok(()) } else { Err(AllocError) }
     }
 
@@ -258,7 +258,7 @@ impl Work {
         } = self;
         drop(begun);
         drop(course);
-        let_go(stage);
+        discard(stage);
         batch
     }
 
@@ -280,7 +280,7 @@ impl Work {
         match stage {
             Stage::Settled(answer) => Some(answer),
             _ => {
-                let_go(stage);
+                discard(stage);
                 None
             }
         }

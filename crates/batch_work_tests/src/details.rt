@@ -1,7 +1,7 @@
 //! What the text of a reply leaves out: all fields of entries, as text.
 
 use batch_work::Work;
-use entry_book::{Entry, OpReply, Outcome};
+use entry_book::{Entry, OpReply, ReplyOutcome};
 use std::alloc::Global;
 use std::test::Fail;
 use test_batches::{accepted_text, marks_text, of_number, outcome_text};
@@ -74,17 +74,17 @@ fn add_op_replies(alloc: Global, text: &mut String, replies: &[OpReply]) -> Resu
     Ok(())
 }
 
-fn add_outcome(alloc: Global, text: &mut String, outcome: &Outcome) -> Result<(), Fail> {
+fn add_outcome(alloc: Global, text: &mut String, outcome: &ReplyOutcome) -> Result<(), Fail> {
     match outcome {
-        Outcome::Committed(replies) | Outcome::Answered(replies) | Outcome::Repeated(replies) => {
+        ReplyOutcome::Committed(replies) | ReplyOutcome::Answered(replies) | ReplyOutcome::Repeated(replies) => {
             add_op_replies(alloc, text, replies.get().as_slice())
         }
-        Outcome::Refused(_) => Ok(()),
+        ReplyOutcome::Refused(_) => Ok(()),
     }
 }
 
 /// The outcome of a batch at this place, with all fields of entries.
-pub fn whole_text(alloc: Global, place: u64, outcome: &Outcome) -> Result<String, Fail> {
+pub fn whole_text(alloc: Global, place: u64, outcome: &ReplyOutcome) -> Result<String, Fail> {
     let mut text = outcome_text(alloc, place, outcome)?;
     add_outcome(alloc, &mut text, outcome)?;
     Ok(text)

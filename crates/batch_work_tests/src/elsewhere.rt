@@ -38,9 +38,9 @@ fn are_spared(marks: &[Mark], changes: &Changes) -> bool {
 /// What the batch of a text reads on the window, and its outcome, without places.
 fn text_on(alloc: Global, window: &Window, text: &str) -> Result<String, Fail> {
     let work = ended(alloc, window, text)?;
-    let told = run_text(alloc, &work, 0);
+    let as_text = run_text(alloc, &work, 0);
     drop(work);
-    told
+    as_text
 }
 
 /// Returns true if the other work, which began on the same version, hits nothing that this one read.
@@ -84,7 +84,7 @@ fn compare(
 }
 
 /// Compares the work of a batch with its run on the version after another batch.
-fn compare_beside(
+fn compare_with_plain_book(
     rt: &impl Abort,
     alloc: Global,
     window: &mut Window,
@@ -107,7 +107,7 @@ fn pair(
     pairs: &mut Pairs,
 ) -> Result<(), Fail> {
     let work = ended(alloc, window, text)?;
-    let compared = compare_beside(rt, alloc, window, &work, text, other, pairs);
+    let compared = compare_with_plain_book(rt, alloc, window, &work, text, other, pairs);
     drop(work);
     compared
 }

@@ -23,21 +23,21 @@ pub fn newest_number(window: &Window) -> u64 {
 /// The marks that a batch reads on the window.
 fn reads(alloc: Global, window: &Window, text: &str) -> Result<String, Fail> {
     let work = ended(alloc, window, text)?;
-    let told = marks_text(alloc, work.marks());
+    let as_text = marks_text(alloc, work.marks());
     drop(work);
-    Ok(told?)
+    Ok(as_text?)
 }
 
 /// The outcome of a batch on the window.
 fn comes(alloc: Global, window: &Window, text: &str) -> Result<String, Fail> {
     let work = ended(alloc, window, text)?;
-    let told = end_text(alloc, &work);
+    let as_text = end_text(alloc, &work);
     drop(work);
-    told
+    as_text
 }
 
 /// Runs a batch, which must become ready, and pushes the version after it.
-fn goes_on(alloc: Global, window: &mut Window, text: &str) -> Result<(), Fail> {
+fn continues(alloc: Global, window: &mut Window, text: &str) -> Result<(), Fail> {
     let work = ended(alloc, window, text)?;
     let pushed = commit(window, &work);
     drop(work);
@@ -45,9 +45,9 @@ fn goes_on(alloc: Global, window: &mut Window, text: &str) -> Result<(), Fail> {
 }
 
 /// Does the same for a batch this many times.
-fn goes_on_often(alloc: Global, window: &mut Window, times: &str, text: &str) -> Result<(), Fail> {
+fn continues_often(alloc: Global, window: &mut Window, times: &str, text: &str) -> Result<(), Fail> {
     for _ in 0..times.parse::<u64>()? {
-        goes_on(alloc, window, text)?;
+        continues(alloc, window, text)?;
     }
     Ok(())
 }
@@ -97,19 +97,19 @@ fn answer(alloc: Global, window: &Window, question: &str) -> Result<String, Fail
 /// A line without an answer: `AGAIN`, a number and a batch, or a batch alone.
 fn runs(alloc: Global, window: &mut Window, line: &str) -> Result<(), Fail> {
     let Some(text) = line.strip_prefix("AGAIN ") else {
-        return goes_on(alloc, window, line);
+        return continues(alloc, window, line);
     };
     match text.split_once(" ") {
-        Some((times, text)) => goes_on_often(alloc, window, times, text),
+        Some((times, text)) => continues_often(alloc, window, times, text),
         None => Err(Fail::from("no such line")),
     }
 }
 
 /// Plays a line of a table.
 fn plays_line(rt: &impl Abort, alloc: Global, window: &mut Window, line: &str) -> Result<(), Fail> {
-    if let Some((question, want)) = line.split_once(" => ") {
+    if let Some((question, expected)) = line.split_once(" => ") {
         let got = answer(alloc, window, question)?;
-        is_text(rt, got.as_str(), want, line);
+        is_text(rt, got.as_str(), expected, line);
     } else if !line.is_empty() {
         runs(alloc, window, line)?;
     }

@@ -78,9 +78,9 @@ fn plain_text(alloc: Global, book: &mut PlainBook, batch: &Batch) -> Result<Stri
         return Err(Fail::from("another trust domain"));
     }
     let reply = run(book, batch)?;
-    let told = whole_text(alloc, reply.place, &reply.outcome);
+    let as_text = whole_text(alloc, reply.place, &reply.outcome);
     drop(reply);
-    told
+    as_text
 }
 
 /// The expected reads of a batch, from its footprint, and its expected outcome, from the plain book.
@@ -91,10 +91,10 @@ fn wanted(
     batch: &Batch,
     text: &str,
 ) -> Result<String, Fail> {
-    let mut want = footprint(alloc, history, place_of_book(book), text)?;
-    want.push_str(" => ")?;
-    want.push_str(plain_text(alloc, book, batch)?.as_str())?;
-    Ok(want)
+    let mut expected = footprint(alloc, history, place_of_book(book), text)?;
+    expected.push_str(" => ")?;
+    expected.push_str(plain_text(alloc, book, batch)?.as_str())?;
+    Ok(expected)
 }
 
 /// The place of the work's outcome: that of its reply, or this one if it is ready.
@@ -111,13 +111,13 @@ fn is_as_wanted(
     alloc: Global,
     work: &Work,
     place: u64,
-    want: &str,
-    told: &mut String,
+    expected: &str,
+    as_text: &mut String,
 ) -> Result<(), Fail> {
     let got = run_text(alloc, work, place_of(work, place))?;
-    is_text(rt, got.as_str(), want, "a random batch");
-    told.push_str(got.as_str())?;
-    told.push_str("\n")?;
+    is_text(rt, got.as_str(), expected, "a random batch");
+    as_text.push_str(got.as_str())?;
+    as_text.push_str("\n")?;
     Ok(())
 }
 
@@ -130,11 +130,11 @@ fn compare(
     history: &mut PlainHistory,
     work: &Work,
     text: &str,
-    told: &mut String,
+    as_text: &mut String,
 ) -> Result<(), Fail> {
     let next = newest_number(window).wrapping_add(1);
-    let want = wanted(alloc, book, history, work.batch(), text)?;
-    is_as_wanted(rt, alloc, work, next, want.as_str(), told)?;
+    let expected = wanted(alloc, book, history, work.batch(), text)?;
+    is_as_wanted(rt, alloc, work, next, expected.as_str(), as_text)?;
     commits(window, work)?;
     Ok(())
 }
@@ -147,11 +147,11 @@ fn round(
     book: &mut PlainBook,
     history: &mut PlainHistory,
     state: &mut u64,
-    told: &mut String,
+    as_text: &mut String,
 ) -> Result<(), Fail> {
     let text = batch_text(alloc, state, newest_number(window))?;
     let work = ended(alloc, window, text.as_str())?;
-    let compared = compare(rt, alloc, window, book, history, &work, text.as_str(), told);
+    let compared = compare(rt, alloc, window, book, history, &work, text.as_str(), as_text);
     drop(work);
     compared
 }
@@ -163,19 +163,19 @@ fn rounds(
     window: &mut Window,
     book: &mut PlainBook,
     history: &mut PlainHistory,
-    told: &mut String,
+    as_text: &mut String,
 ) -> Result<(), Fail> {
     let mut state = 7;
     for _ in 0..1200_u64 {
-        round(rt, alloc, window, book, history, &mut state, told)?;
+        round(rt, alloc, window, book, history, &mut state, as_text)?;
     }
     Ok(())
 }
 
 /// Asserts that each line of the list occurred.
-fn all_came(rt: &impl Abort, told: &str) {
+fn all_came(rt: &impl Abort, as_text: &str) {
     for line in COMING.lines() {
-        holds(rt, told.contains(line), line);
+        holds(rt, as_text.contains(line), line);
     }
 }
 
@@ -186,18 +186,18 @@ fn plays_on_both(
     window: &mut Window,
     book: &mut PlainBook,
 ) -> Result<(), Fail> {
-    let mut told = String::new(alloc);
+    let mut as_text = String::new(alloc);
     let mut history = no_history(alloc);
-    let played = rounds(rt, alloc, window, book, &mut history, &mut told);
+    let played = rounds(rt, alloc, window, book, &mut history, &mut as_text);
     drop(history);
     played?;
     is_number(rt, newest_number(window), place_of_book(book), "place");
-    all_came(rt, told.as_str());
+    all_came(rt, as_text.as_str());
     Ok(())
 }
 
 /// Runs random batches on a window, compared with the plain book.
-fn plays_beside(rt: &impl Abort, alloc: Global, window: &mut Window) -> Result<(), Fail> {
+fn plays_with_plain_book(rt: &impl Abort, alloc: Global, window: &mut Window) -> Result<(), Fail> {
     let mut book = plain_book(alloc)?;
     let played = plays_on_both(rt, alloc, window, &mut book);
     drop(book);
@@ -207,7 +207,7 @@ fn plays_beside(rt: &impl Abort, alloc: Global, window: &mut Window) -> Result<(
 #[test]
 fn random_batches_come_to_what_the_plain_book_answers(rt: HostRuntime) -> Result<(), Fail> {
     let mut window = first_window(rt.alloc())?;
-    let played = plays_beside(&rt, rt.alloc(), &mut window);
+    let played = plays_with_plain_book(&rt, rt.alloc(), &mut window);
     drop(window);
     played
 }

@@ -1,7 +1,7 @@
 //! Works, run to their end with their marks as text, and the commit of those that are ready.
 
 ghost use Rattle.std.specs.Prelude.{◌≡◌, ◌≤◌, ◌^◌, true};
-ghost use Rattle.batch_work.specs.Windows.{IsNext};
+ghost use Rattle.batch_work.specs.Windows.{IsNextVersion};
 
 use batch_work::{Status, Window, Work, answer};
 use entry_book::Batch;
@@ -44,9 +44,9 @@ fn answered_text(alloc: Global, window: &Window, batch: &Batch) -> Result<String
     if !batch.is_query() || !may_begin(window, batch) {
         return Err(Fail::from("no window for this question"));
     }
-    let lent = answer(alloc, batch, window)?;
-    let reply = lent.kept(alloc);
-    drop(lent);
+    let borrowed = answer(alloc, batch, window)?;
+    let reply = borrowed.kept(alloc);
+    drop(borrowed);
     let reply = reply?;
     let text = reply_text(alloc, &reply);
     drop(reply);
@@ -83,7 +83,7 @@ pub fn end_text(alloc: Global, work: &Work) -> Result<String, Fail> {
 }
 
 fn is_next(window: &Window, version: &Version) -> bool
-    ensures { result ≡ true → IsNext window.now.newest version.now }
+    ensures { result ≡ true → IsNextVersion window.now.newest version.now }
 {
     let number = window.newest().number();
     number <= MOST && version.number() == number + 1 && version.domain() == window.newest().domain()

@@ -71,7 +71,7 @@ fn play_copied(rt: &impl Abort, alloc: Global, window: &mut Window) -> Result<()
 }
 
 #[test]
-fn a_copy_stays_while_its_owner_goes_on(rt: HostRuntime) -> Result<(), Fail> {
+fn a_copy_is_unchanged_while_its_owner_continues(rt: HostRuntime) -> Result<(), Fail> {
     let mut window = first_window(rt.alloc())?;
     let played = play_copied(&rt, rt.alloc(), &mut window);
     drop(window);

@@ -6,19 +6,19 @@ use Rattle.serde_json.specs.Data.{string}
 use Rattle.serde_json.specs.Find.{get}
 use Rattle.serde_json.proofs.OnLiterals.{serde_json_on_literals}
 use Rattle.entry_book.specs.History.{books_of, is_committed, reply_to}
-use Rattle.entry_book.specs.declared.reply.Outcome.{Outcome}
-use Rattle.entry_book.specs.declared.reply.Outcome.TheVariants as outcome
-use Rattle.line_devices.specs.Lines.{AreLines, IsWhole, OnlyLinesJoin, lines_of}
+use Rattle.entry_book.specs.declared.reply.ReplyOutcome.{ReplyOutcome}
+use Rattle.entry_book.specs.declared.reply.ReplyOutcome.TheVariants as outcome
+use Rattle.line_devices.specs.Lines.{AreLines, IsWholeLine, OnlyLinesJoin, lines_of}
 use Rattle.reg_lines.specs.OneLine.{RecordsHaveNoLf}
 use Rattle.line_reading.specs.Records.{AuditRecord, spelled_record}
 use Rattle.reg_lines.specs.Replies.{reply_json}
 use Rattle.reg_lines.specs.Spelled.{RecordsAreSpelled}
 use Rattle.reg_lines.specs.Values.{RepliesAreCompact, RepliesHaveNoFloat, outcome_data, reply_data}
-use Rattle.call_audit.specs.Audits.{batches_of}
-use Rattle.call_audit.specs.Confirmed.{AreConfirmed, CallAt, CallHasEnded, ConfirmedAreAudited, IsReadable, RecordedCall, line_of_call, text_of_call}
+use Rattle.call_audit.specs.Audits.{batches_of_records}
+use Rattle.call_audit.specs.Confirmed.{AreConfirmed, CallAt, CallHasEnded, ConfirmedAreAudited, IsReadableCall, RecordedCall, line_of_call, text_of_call}
 use Rattle.call_audit.specs.Follows.{AreHistory, HasEnded, IsReplyTo}
-use Rattle.call_audit.specs.Verdicts.{Spell, verdict_of}
-use Rattle.call_audit.specs.declared.verdict.Verdict.TheVariants.{Yes}
+use Rattle.call_audit.specs.Verdicts.{Spell, verdict_of_lines}
+use Rattle.call_audit.specs.declared.verdict.AuditVerdict.TheVariants.{Yes}
 use Rattle.call_audit.proofs.Faultless.{history_is_yes}
 
 abbrev record_of : RecordedCall → AuditRecord
@@ -29,10 +29,10 @@ records_of calls = map record_of calls
 
 -- ---- each line parses to its call's record
 
-spells : (law : RecordsAreSpelled) (domain : List ℕ) (c : RecordedCall) → IsReadable domain c → spelled_record domain (line_of_call c) ≡ Ok (record_of c)
+spells : (law : RecordsAreSpelled) (domain : List ℕ) (c : RecordedCall) → IsReadableCall domain c → spelled_record domain (line_of_call c) ≡ Ok (record_of c)
 spells law domain c h = subst (λ d. spelled_record d (line_of_call c) ≡ Ok (record_of c)) h.domain_is (law c.batch c.call c.invoked c.replied c.reply h.batch h.call h.fits)
 
-all-spell : (law : RecordsAreSpelled) (domain : List ℕ) (calls : List RecordedCall) → ((i : ℕ) (c : RecordedCall) → CallAt calls i c → IsReadable domain c) → Spell domain (map line_of_call calls) (records_of calls)
+all-spell : (law : RecordsAreSpelled) (domain : List ℕ) (calls : List RecordedCall) → ((i : ℕ) (c : RecordedCall) → CallAt calls i c → IsReadableCall domain c) → Spell domain (map line_of_call calls) (records_of calls)
 all-spell law domain [] h = tt
 all-spell law domain (c ∷ calls) h = (spells law domain c (h 0 c refl), all-spell law domain calls (λ i d e. h (suc i) d e))
 
@@ -51,14 +51,14 @@ call_of [] i r e = absurd (cc)
 call_of (c ∷ calls) zero r e = record { call = c; at = refl; is = same_some (record_of c) r e }
 call_of (c ∷ calls) (suc i) r e = let d = call_of calls i r e in record { call = d.call; at = d.at; is = d.is }
 
-batches-front : (calls : List RecordedCall) (i : ℕ) → batches_of (take i (records_of calls)) ≡ map (λ e. e.batch) (take i calls)
+batches-front : (calls : List RecordedCall) (i : ℕ) → batches_of_records (take i (records_of calls)) ≡ map (λ e. e.batch) (take i calls)
 batches-front calls zero = refl
 batches-front [] (suc i) = refl
 batches-front (c ∷ calls) (suc i) = ap (λ l. c.batch ∷ l) (batches-front calls i)
 
 -- ---- a committed reply says so
 
-committed-word : (call place : ℕ) (o : Outcome) → is_committed o ≡ true → get (codes "result") (outcome_data call place o) ≡ Some (string (codes "committed"))
+committed-word : (call place : ℕ) (o : ReplyOutcome) → is_committed o ≡ true → get (codes "result") (outcome_data call place o) ≡ Some (string (codes "committed"))
 unfolding serde_json_on_literals
 committed-word call place (outcome.Committed rs) e = refl
 committed-word call place (outcome.Answered rs) e = absurd (cc)
@@ -91,7 +91,7 @@ module _ (compact : RepliesAreCompact) (plain : RepliesHaveNoFloat) (calls : Lis
 
   reply-text : (i : ℕ) (c : RecordedCall) → CallAt calls i c → IsReplyTo (record_of c) (take i (records_of calls))
   reply-text i c at =
-      let given : c.reply ≡ reply_to c.batch (books_of (batches_of (take i (records_of calls)))) = h.legal i c at ∙ ap (λ bs. reply_to c.batch (books_of bs)) (sym (batches-front calls i)) in
+      let given : c.reply ≡ reply_to c.batch (books_of (batches_of_records (take i (records_of calls)))) = h.legal i c at ∙ ap (λ bs. reply_to c.batch (books_of bs)) (sym (batches-front calls i)) in
       record { whole = plain c.call c.reply; text = sym (compact c.call c.reply) ∙ ap (reply_json c.call) given }
 
   are_legal : (i : ℕ) (r : AuditRecord) → slice_get (records_of calls) i ≡ Some r → IsReplyTo r (take i (records_of calls))
@@ -104,7 +104,7 @@ module _ (compact : RepliesAreCompact) (plain : RepliesHaveNoFloat) (calls : Lis
 
 -- ---- the lines of what is printed
 
-whole : (law : RecordsHaveNoLf) (c : RecordedCall) → IsWhole (line_of_call c)
+whole : (law : RecordsHaveNoLf) (c : RecordedCall) → IsWholeLine (line_of_call c)
 whole law c = (text_of_call c, law c.batch c.call c.invoked c.replied c.reply, refl)
 
 are_lines : (law : RecordsHaveNoLf) (calls : List RecordedCall) → AreLines (map line_of_call calls)
@@ -122,7 +122,7 @@ count (c ∷ calls) = ap suc (count calls)
 
 pub confirmed_are_audited : RecordsAreSpelled → RecordsHaveNoLf → OnlyLinesJoin → RepliesAreCompact → RepliesHaveNoFloat → ConfirmedAreAudited
 confirmed_are_audited law lines only compact plain domain calls h readable =
-    ap (λ bytes. verdict_of domain (lines_of bytes)) (joined calls)
-    ∙ ap (verdict_of domain) (sym (only (map line_of_call calls) (are_lines lines calls)))
+    ap (λ bytes. verdict_of_lines domain (lines_of bytes)) (joined calls)
+    ∙ ap (verdict_of_lines domain) (sym (only (map line_of_call calls) (are_lines lines calls)))
     ∙ history_is_yes domain (map line_of_call calls) (records_of calls) (all-spell law domain calls readable) (are_history compact plain calls h)
     ∙ ap (λ n. Yes n) (count calls)

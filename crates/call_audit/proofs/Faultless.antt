@@ -11,10 +11,10 @@ use Rattle.serde_json.specs.Written.{compact_text, has_float}
 use Rattle.entry_book.specs.History.{books_of, reply_to}
 use Rattle.line_reading.specs.Records.{AuditRecord, spelled_record}
 use Rattle.reg_lines.specs.Replies.{reply_json}
-use Rattle.call_audit.specs.declared.verdict.Verdict.TheVariants.{Yes}
-use Rattle.call_audit.specs.Audits.{AreFaultless, batches_of, cause_of, is_ended, is_past, is_text_of, is_word_of_commit, judged, judged_spelled, judged_when}
+use Rattle.call_audit.specs.declared.verdict.AuditVerdict.TheVariants.{Yes}
+use Rattle.call_audit.specs.Audits.{AreFaultlessRecords, batches_of_records, cause_of, is_ended, is_past, is_text_of, is_word_of_commit, judged, judged_spelled, judged_when}
 use Rattle.call_audit.specs.Follows.{AreHistory, HasEnded, HistoryIsFaultless, IsReplyTo}
-use Rattle.call_audit.specs.Verdicts.{HistoryIsYes, Spell, verdict_by, verdict_on}
+use Rattle.call_audit.specs.Verdicts.{HistoryIsYes, Spell, verdict_by, verdict_from}
 use Rattle.call_audit.proofs.Judging.{cause_none}
 use Rattle.call_audit.proofs.Yes.{append_none}
 
@@ -68,9 +68,9 @@ module _ (records : List AuditRecord) (h : AreHistory records) where
       omega arith)))
       (stamped_when r r.replied (h.ended (length before) r here))
       (none_in (λ x. is_past r.replied x.invoked) before (r ∷ rest) (λ i x l f. not_past r.replied x.invoked (λ n replied. h.strict i (length before) x r n l (at i x f) here replied)))
-      (text_is r.reply (reply_json r.call (reply_to r.batch (books_of (batches_of before)))) reply.whole reply.text)
+      (text_is r.reply (reply_json r.call (reply_to r.batch (books_of (batches_of_records before)))) reply.whole reply.text)
 
-  faultless_from : (before rest : List AuditRecord) → records ≡ before ++ rest → AreFaultless before rest
+  faultless_from : (before rest : List AuditRecord) → records ≡ before ++ rest → AreFaultlessRecords before rest
   faultless_from before [] e = tt
   faultless_from before (r ∷ rest) e = (clear before r rest e, faultless_from (before ++ r ∷ []) rest (e ∙ sym (append_assoc before (r ∷ []) rest)))
 
@@ -83,12 +83,12 @@ judged-record : (domain : List ℕ) (before : List AuditRecord) (line : List ℕ
 unfolding judged
 judged-record domain before line r s c = ap (judged_spelled before) s ∙ ap (judged_when before r) c
 
-verdict-yes : (domain : List ℕ) (before : List AuditRecord) (lines : List (List ℕ)) (records : List AuditRecord) → Spell domain lines records → AreFaultless before records → verdict_on domain before lines ≡ Yes (length (before ++ records))
+verdict-yes : (domain : List ℕ) (before : List AuditRecord) (lines : List (List ℕ)) (records : List AuditRecord) → Spell domain lines records → AreFaultlessRecords before records → verdict_from domain before lines ≡ Yes (length (before ++ records))
 verdict-yes domain before [] [] s f = ap (λ l. Yes (length l)) (sym (append_none before))
 verdict-yes domain before [] (r ∷ rs) s f = absurd s
 verdict-yes domain before (line ∷ lines) [] s f = absurd s
 verdict-yes domain before (line ∷ lines) (r ∷ rs) s f =
-    ap (λ j. verdict_by j (length before) (λ x. verdict_on domain (before ++ x ∷ []) lines)) (judged-record domain before line r s.0 f.0)
+    ap (λ j. verdict_by j (length before) (λ x. verdict_from domain (before ++ x ∷ []) lines)) (judged-record domain before line r s.0 f.0)
     ∙ verdict-yes domain (before ++ r ∷ []) lines rs s.1 f.1
     ∙ ap (λ l. Yes (length l)) (append_assoc before (r ∷ []) rs)
 

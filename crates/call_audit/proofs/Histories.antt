@@ -12,7 +12,7 @@ use Rattle.serde_json.specs.Written.{compact_text, has_float}
 use Rattle.entry_book.specs.History.{books_of, reply_to}
 use Rattle.line_reading.specs.Records.{AuditRecord}
 use Rattle.reg_lines.specs.Replies.{reply_json}
-use Rattle.call_audit.specs.Audits.{AreFaultless, batches_of, cause_of, has_call, is_ended, is_given, is_late, is_past, is_stamped, is_text_of, is_word_of_commit}
+use Rattle.call_audit.specs.Audits.{AreFaultlessRecords, batches_of_records, cause_of, has_call, is_ended, is_reply_right, is_late, is_past, is_stamped, is_text_of, is_word_of_commit}
 use Rattle.call_audit.proofs.Judging.{first_of, is_first}
 use Rattle.call_audit.specs.Follows.{FaultlessAreHistory, HasEnded, IsReplyTo}
 
@@ -23,7 +23,7 @@ pub record Passes (before : List AuditRecord) (r : AuditRecord) : Type 0 where
   pub new : has_call r.call before ≡ false
   pub stamped : is_stamped r ≡ true
   pub timely : is_late r before ≡ false
-  pub given : is_given r before ≡ true
+  pub given : is_reply_right r before ≡ true
 
 record Four (a b c d : Bool) : Type 0 where
   one : a ≡ false
@@ -40,7 +40,7 @@ no_cause false true false true e = record { one = refl; two = refl; three = refl
 
 pub passes : (before : List AuditRecord) (r : AuditRecord) → cause_of before r ≡ None → Passes before r
 passes before r e =
-    let f = no_cause (has_call r.call before) (is_stamped r) (is_late r before) (is_given r before) (sym (is_first before r) ∙ e) in
+    let f = no_cause (has_call r.call before) (is_stamped r) (is_late r before) (is_reply_right r before) (sym (is_first before r) ∙ e) in
     record { new = f.one; stamped = f.two; timely = f.three; given = f.four }
 
 -- ---- the records before it
@@ -52,7 +52,7 @@ append_none : (before : List AuditRecord) → before ++ [] ≡ before
 append_none [] = refl
 append_none (x ∷ xs) = ap (λ l. x ∷ l) (append_none xs)
 
-faultless_at : (before rs : List AuditRecord) (i : ℕ) (r : AuditRecord) → AreFaultless before rs → slice_get rs i ≡ Some r → cause_of (before ++ take i rs) r ≡ None
+faultless_at : (before rs : List AuditRecord) (i : ℕ) (r : AuditRecord) → AreFaultlessRecords before rs → slice_get rs i ≡ Some r → cause_of (before ++ take i rs) r ≡ None
 faultless_at before [] i r h e = cc
 faultless_at before (x ∷ xs) zero r h e = ap (λ l. cause_of l r) (append_none before) ∙ (ap (λ y. cause_of before y) (sym (at_of x r e)) ∙ h.0)
 faultless_at before (x ∷ xs) (suc i) r h e =
@@ -104,7 +104,7 @@ text_of d text e =
 
 -- ---- the four properties of a history
 
-module _ (records : List AuditRecord) (all : AreFaultless [] records) where
+module _ (records : List AuditRecord) (all : AreFaultlessRecords [] records) where
   passing : (i : ℕ) (r : AuditRecord) → slice_get records i ≡ Some r → Passes (take i records) r
   passing i r e = passes (take i records) r (faultless_at [] records i r all e)
 
@@ -135,7 +135,7 @@ module _ (records : List AuditRecord) (all : AreFaultless [] records) where
 
   legal : (i : ℕ) (r : AuditRecord) → slice_get records i ≡ Some r → IsReplyTo r (take i records)
   legal i r e =
-      let t = text_of r.reply (reply_json r.call (reply_to r.batch (books_of (batches_of (take i records))))) (passing i r e).given in
+      let t = text_of r.reply (reply_json r.call (reply_to r.batch (books_of (batches_of_records (take i records))))) (passing i r e).given in
       record { whole = t.0; text = t.1 }
 
 pub faultless_are_history : FaultlessAreHistory

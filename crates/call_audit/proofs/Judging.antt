@@ -9,46 +9,46 @@ use Rattle.line_reading.specs.Fields.{Fails}
 use Rattle.line_reading.specs.declared.fault.Fault.{Fault}
 use Rattle.call_audit.specs.declared.cause.Cause.{Cause}
 use Rattle.call_audit.specs.declared.cause.Cause.TheVariants.{Call, Order, Reply, Stamps}
-use Rattle.call_audit.specs.Audits.{Judges, cause_of, has_call, is_given, is_late, is_stamped, judged, judged_spelled, judged_when}
+use Rattle.call_audit.specs.Audits.{Judges, cause_of, has_call, is_reply_right, is_late, is_stamped, judged, judged_spelled, judged_when}
 use Rattle.call_audit.specs.AuditsPrivate.{IsSpellingCause, JudgesRecord}
 
 abbrev pub first_of : Bool → Bool → Bool → Bool → Option Cause
 first_of a b c d = if a then Some Call else (if not b then Some Stamps else (if c then Some Order else (if not d then Some Reply else None)))
 
-pub is_first : (before : List AuditRecord) (r : AuditRecord) → cause_of before r ≡ first_of (has_call r.call before) (is_stamped r) (is_late r before) (is_given r before)
+pub is_first : (before : List AuditRecord) (r : AuditRecord) → cause_of before r ≡ first_of (has_call r.call before) (is_stamped r) (is_late r before) (is_reply_right r before)
 unfolding cause_of
 is_first before r = refl
 
 pub cause_call : (before : List AuditRecord) (r : AuditRecord) → has_call r.call before ≡ true → cause_of before r ≡ Some Call
-cause_call before r a = is_first before r ∙ ap (λ x. first_of x (is_stamped r) (is_late r before) (is_given r before)) a
+cause_call before r a = is_first before r ∙ ap (λ x. first_of x (is_stamped r) (is_late r before) (is_reply_right r before)) a
 
 pub cause_stamps : (before : List AuditRecord) (r : AuditRecord) → has_call r.call before ≡ false → is_stamped r ≡ false → cause_of before r ≡ Some Stamps
 cause_stamps before r a b =
     is_first before r
-    ∙ (ap (λ x. first_of x (is_stamped r) (is_late r before) (is_given r before)) a
-    ∙ ap (λ x. first_of false x (is_late r before) (is_given r before)) b)
+    ∙ (ap (λ x. first_of x (is_stamped r) (is_late r before) (is_reply_right r before)) a
+    ∙ ap (λ x. first_of false x (is_late r before) (is_reply_right r before)) b)
 
 pub cause_order : (before : List AuditRecord) (r : AuditRecord) → has_call r.call before ≡ false → is_stamped r ≡ true → is_late r before ≡ true → cause_of before r ≡ Some Order
 cause_order before r a b c =
     is_first before r
-    ∙ (ap (λ x. first_of x (is_stamped r) (is_late r before) (is_given r before)) a
-    ∙ (ap (λ x. first_of false x (is_late r before) (is_given r before)) b
-    ∙ ap (λ x. first_of false true x (is_given r before)) c))
+    ∙ (ap (λ x. first_of x (is_stamped r) (is_late r before) (is_reply_right r before)) a
+    ∙ (ap (λ x. first_of false x (is_late r before) (is_reply_right r before)) b
+    ∙ ap (λ x. first_of false true x (is_reply_right r before)) c))
 
-pub cause_reply : (before : List AuditRecord) (r : AuditRecord) → has_call r.call before ≡ false → is_stamped r ≡ true → is_late r before ≡ false → is_given r before ≡ false → cause_of before r ≡ Some Reply
+pub cause_reply : (before : List AuditRecord) (r : AuditRecord) → has_call r.call before ≡ false → is_stamped r ≡ true → is_late r before ≡ false → is_reply_right r before ≡ false → cause_of before r ≡ Some Reply
 cause_reply before r a b c d =
     is_first before r
-    ∙ (ap (λ x. first_of x (is_stamped r) (is_late r before) (is_given r before)) a
-    ∙ (ap (λ x. first_of false x (is_late r before) (is_given r before)) b
-    ∙ (ap (λ x. first_of false true x (is_given r before)) c
+    ∙ (ap (λ x. first_of x (is_stamped r) (is_late r before) (is_reply_right r before)) a
+    ∙ (ap (λ x. first_of false x (is_late r before) (is_reply_right r before)) b
+    ∙ (ap (λ x. first_of false true x (is_reply_right r before)) c
     ∙ ap (λ x. first_of false true false x) d)))
 
-pub cause_none : (before : List AuditRecord) (r : AuditRecord) → has_call r.call before ≡ false → is_stamped r ≡ true → is_late r before ≡ false → is_given r before ≡ true → cause_of before r ≡ None
+pub cause_none : (before : List AuditRecord) (r : AuditRecord) → has_call r.call before ≡ false → is_stamped r ≡ true → is_late r before ≡ false → is_reply_right r before ≡ true → cause_of before r ≡ None
 cause_none before r a b c d =
     is_first before r
-    ∙ (ap (λ x. first_of x (is_stamped r) (is_late r before) (is_given r before)) a
-    ∙ (ap (λ x. first_of false x (is_late r before) (is_given r before)) b
-    ∙ (ap (λ x. first_of false true x (is_given r before)) c
+    ∙ (ap (λ x. first_of x (is_stamped r) (is_late r before) (is_reply_right r before)) a
+    ∙ (ap (λ x. first_of false x (is_late r before) (is_reply_right r before)) b
+    ∙ (ap (λ x. first_of false true x (is_reply_right r before)) c
     ∙ ap (λ x. first_of false true false x) d)))
 
 -- ---- a line

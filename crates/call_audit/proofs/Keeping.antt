@@ -5,12 +5,12 @@ use Rattle.std.specs.List.{list_any}
 use Rattle.std.specs.Prelude.{◌||◌, ◌==◌, nat_lt, max, if◌then◌else◌}
 use Rattle.entry_book.specs.Book.{Book}
 use Rattle.entry_book.specs.Batches.{Batch}
-use Rattle.entry_book.specs.History.{Stands, books_after, books_from, books_of, first_books}
+use Rattle.entry_book.specs.History.{RepresentsBooks, books_after, books_from, books_of, first_books}
 use Rattle.line_reading.specs.Records.{AuditRecord}
-use Rattle.call_audit.specs.Audits.{batches_of, has_call, is_late, is_past}
-use Rattle.call_audit.specs.Keeps.{AuditState, Keeps}
+use Rattle.call_audit.specs.Audits.{batches_of_records, has_call, is_late, is_past}
+use Rattle.call_audit.specs.Represents.{AuditState, RepresentsRecords}
 
-pub batches_of-append : (before : List AuditRecord) (r : AuditRecord) → batches_of (before ++ r ∷ []) ≡ batches_of before ++ r.batch ∷ []
+pub batches_of-append : (before : List AuditRecord) (r : AuditRecord) → batches_of_records (before ++ r ∷ []) ≡ batches_of_records before ++ r.batch ∷ []
 batches_of-append [] r = refl
 batches_of-append (x ∷ xs) r = ap (λ l. x.batch ∷ l) (batches_of-append xs r)
 
@@ -18,8 +18,8 @@ books_from-append : (books : List Book) (batches : List Batch) (batch : Batch) �
 books_from-append books [] batch = refl
 books_from-append books (b ∷ bs) batch = books_from-append (books_after b books) bs batch
 
-pub books-next : (before : List AuditRecord) (r : AuditRecord) → books_of (batches_of (before ++ r ∷ [])) ≡ books_after r.batch (books_of (batches_of before))
-books-next before r = ap books_of (batches_of-append before r) ∙ books_from-append first_books (batches_of before) r.batch
+pub books-next : (before : List AuditRecord) (r : AuditRecord) → books_of (batches_of_records (before ++ r ∷ [])) ≡ books_after r.batch (books_of (batches_of_records before))
+books-next before r = ap books_of (batches_of-append before r) ∙ books_from-append first_books (batches_of_records before) r.batch
 
 pub calls-next : (before : List AuditRecord) (r : AuditRecord) → map (λ r. r.call) (before ++ r ∷ []) ≡ map (λ r. r.call) before ++ r.call ∷ []
 calls-next [] r = refl
@@ -52,9 +52,9 @@ late-next latest before x r e =
     ∙ sym (list_any-append (λ e. is_past r.replied e.invoked) before (x ∷ []))))
 
 -- the state after a record represents one more record
-pub keeps-next : (old new : AuditState) (before : List AuditRecord) (r : AuditRecord) → Keeps old before → Stands new.book (books_after r.batch (books_of (batches_of before))) → new.calls ≡ old.calls ++ r.call ∷ [] → new.latest ≡ max old.latest r.invoked → Keeps new (before ++ r ∷ [])
-keeps-next old new before r k stands calls latest = record {
-  books = subst (λ books. Stands new.book books) (sym (books-next before r)) stands;
+pub keeps-next : (old new : AuditState) (before : List AuditRecord) (r : AuditRecord) → RepresentsRecords old before → RepresentsBooks new.book (books_after r.batch (books_of (batches_of_records before))) → new.calls ≡ old.calls ++ r.call ∷ [] → new.latest ≡ max old.latest r.invoked → RepresentsRecords new (before ++ r ∷ [])
+keeps-next old new before r k represents calls latest = record {
+  books = subst (λ books. RepresentsBooks new.book books) (sym (books-next before r)) represents;
   calls = calls ∙ (ap (λ l. l ++ r.call ∷ []) k.calls ∙ sym (calls-next before r));
   latest = λ e. ap (λ n. is_past e.replied n) latest ∙ late-next old.latest before r e (k.latest e);
 }

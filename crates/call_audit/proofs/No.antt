@@ -2,9 +2,9 @@
 use Rattle.std.proofs.Common.{◌≡◌, ℕ, ◌+◌, suc, List, [], ◌∷◌, ◌++◌, length, Result, Ok, Err, refl, sym, ap, ◌∙◌, append_assoc}
 use Rattle.line_reading.specs.Records.{AuditRecord}
 use Rattle.call_audit.specs.declared.cause.Cause.{Cause}
-use Rattle.call_audit.specs.declared.verdict.Verdict.TheVariants.{No}
-use Rattle.call_audit.specs.Audits.{AreFaultless, judged}
-use Rattle.call_audit.specs.Verdicts.{NoIsFirst, Spell, verdict_by, verdict_on}
+use Rattle.call_audit.specs.declared.verdict.AuditVerdict.TheVariants.{No}
+use Rattle.call_audit.specs.Audits.{AreFaultlessRecords, judged}
+use Rattle.call_audit.specs.Verdicts.{NoIsFirst, Spell, verdict_by, verdict_from}
 use Rattle.call_audit.proofs.Histories.{faultless_are_history}
 use Rattle.call_audit.proofs.Yes.{append_none, clean}
 
@@ -16,7 +16,7 @@ record Stopped (domain : List ℕ) (before : List AuditRecord) (lines : List (Li
   split : lines ≡ front ++ line ∷ rest
   records : List AuditRecord
   spelled : Spell domain front records
-  faultless : AreFaultless before records
+  faultless : AreFaultlessRecords before records
   number : n ≡ length (before ++ records) + 1
   fault : judged domain (before ++ records) line ≡ Err cause
 
@@ -26,7 +26,7 @@ number_of m n c d e = cc
 cause_is : (m n : ℕ) (c d : Cause) → No m c ≡ No n d → c ≡ d
 cause_is m n c d e = cc
 
-stopped_by : (domain : List ℕ) (before : List AuditRecord) (line : List ℕ) (lines : List (List ℕ)) (n : ℕ) (cause : Cause) (j : Result AuditRecord Cause) → judged domain before line ≡ j → ((r : AuditRecord) → verdict_on domain (before ++ r ∷ []) lines ≡ No n cause → Stopped domain (before ++ r ∷ []) lines n cause) → verdict_by j (length before) (λ r. verdict_on domain (before ++ r ∷ []) lines) ≡ No n cause → Stopped domain before (line ∷ lines) n cause
+stopped_by : (domain : List ℕ) (before : List AuditRecord) (line : List ℕ) (lines : List (List ℕ)) (n : ℕ) (cause : Cause) (j : Result AuditRecord Cause) → judged domain before line ≡ j → ((r : AuditRecord) → verdict_from domain (before ++ r ∷ []) lines ≡ No n cause → Stopped domain (before ++ r ∷ []) lines n cause) → verdict_by j (length before) (λ r. verdict_from domain (before ++ r ∷ []) lines) ≡ No n cause → Stopped domain before (line ∷ lines) n cause
 stopped_by domain before line lines n cause (Err c) is go e = record {
   front = [];
   line = line;
@@ -54,7 +54,7 @@ stopped_by domain before line lines n cause (Ok r) is go e =
       fault = ap (λ b. judged domain b t.line) (sym same) ∙ t.fault;
     }
 
-stopped : (domain : List ℕ) (before : List AuditRecord) (lines : List (List ℕ)) (n : ℕ) (cause : Cause) → verdict_on domain before lines ≡ No n cause → Stopped domain before lines n cause
+stopped : (domain : List ℕ) (before : List AuditRecord) (lines : List (List ℕ)) (n : ℕ) (cause : Cause) → verdict_from domain before lines ≡ No n cause → Stopped domain before lines n cause
 stopped domain before [] n cause e = absurd (cc)
 stopped domain before (line ∷ lines) n cause e = stopped_by domain before line lines n cause (judged domain before line) refl (λ r h. stopped domain (before ++ r ∷ []) lines n cause h) e
 

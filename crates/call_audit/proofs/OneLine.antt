@@ -5,7 +5,7 @@ use Rattle.std.proofs.lemmas.List.Folds.{list_any-append}
 use Rattle.reg_lines.specs.Json.{text_json}
 use Rattle.line_devices.specs.Lines.{has_lf}
 use Rattle.reg_lines.specs.OneLine.{NumbersHaveNoLf, TextsHaveNoLf}
-use Rattle.call_audit.specs.declared.verdict.Verdict.TheVariants.{Yes, No}
+use Rattle.call_audit.specs.declared.verdict.AuditVerdict.TheVariants.{Yes, No}
 use Rattle.call_audit.specs.Texts.{VerdictsHaveNoLf, cause_text, no_json, yes_json}
 
 behind : (front back : List ℕ) → has_lf front ≡ false → has_lf back ≡ false → has_lf (front ++ back) ≡ false

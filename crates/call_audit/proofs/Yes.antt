@@ -3,9 +3,9 @@ use Rattle.std.proofs.Common.{◌≡◌, ℕ, List, [], ◌∷◌, ◌++◌, len
 use Rattle.line_reading.specs.Records.{AuditRecord, spelled_record}
 use Rattle.line_reading.specs.declared.fault.Fault.{Fault}
 use Rattle.call_audit.specs.declared.cause.Cause.{Cause}
-use Rattle.call_audit.specs.declared.verdict.Verdict.TheVariants.{Yes}
-use Rattle.call_audit.specs.Audits.{AreFaultless, cause_of, judged, judged_spelled, judged_when}
-use Rattle.call_audit.specs.Verdicts.{Spell, YesIsHistory, verdict_by, verdict_on}
+use Rattle.call_audit.specs.declared.verdict.AuditVerdict.TheVariants.{Yes}
+use Rattle.call_audit.specs.Audits.{AreFaultlessRecords, cause_of, judged, judged_spelled, judged_when}
+use Rattle.call_audit.specs.Verdicts.{Spell, YesIsHistory, verdict_by, verdict_from}
 use Rattle.call_audit.proofs.Histories.{faultless_are_history}
 
 -- a line without a fault parses to its record
@@ -31,7 +31,7 @@ clean domain before line r e = clean_by domain before line r (spelled_record dom
 record Taken (domain : List ℕ) (before : List AuditRecord) (lines : List (List ℕ)) (calls : ℕ) : Type 0 where
   records : List AuditRecord
   spelled : Spell domain lines records
-  faultless : AreFaultless before records
+  faultless : AreFaultlessRecords before records
   count : calls ≡ length (before ++ records)
 
 count_of : (n calls : ℕ) → Yes n ≡ Yes calls → calls ≡ n
@@ -41,7 +41,7 @@ pub append_none : (before : List AuditRecord) → before ++ [] ≡ before
 append_none [] = refl
 append_none (x ∷ xs) = ap (λ l. x ∷ l) (append_none xs)
 
-taken_by : (domain : List ℕ) (before : List AuditRecord) (line : List ℕ) (lines : List (List ℕ)) (calls : ℕ) (j : Result AuditRecord Cause) → judged domain before line ≡ j → ((r : AuditRecord) → verdict_on domain (before ++ r ∷ []) lines ≡ Yes calls → Taken domain (before ++ r ∷ []) lines calls) → verdict_by j (length before) (λ r. verdict_on domain (before ++ r ∷ []) lines) ≡ Yes calls → Taken domain before (line ∷ lines) calls
+taken_by : (domain : List ℕ) (before : List AuditRecord) (line : List ℕ) (lines : List (List ℕ)) (calls : ℕ) (j : Result AuditRecord Cause) → judged domain before line ≡ j → ((r : AuditRecord) → verdict_from domain (before ++ r ∷ []) lines ≡ Yes calls → Taken domain (before ++ r ∷ []) lines calls) → verdict_by j (length before) (λ r. verdict_from domain (before ++ r ∷ []) lines) ≡ Yes calls → Taken domain before (line ∷ lines) calls
 taken_by domain before line lines calls (Err cause) is go e = absurd (cc)
 taken_by domain before line lines calls (Ok r) is go e =
     let c = clean domain before line r is in
@@ -53,7 +53,7 @@ taken_by domain before line lines calls (Ok r) is go e =
       count = t.count ∙ ap length (append_assoc before (r ∷ []) t.records);
     }
 
-taken : (domain : List ℕ) (before : List AuditRecord) (lines : List (List ℕ)) (calls : ℕ) → verdict_on domain before lines ≡ Yes calls → Taken domain before lines calls
+taken : (domain : List ℕ) (before : List AuditRecord) (lines : List (List ℕ)) (calls : ℕ) → verdict_from domain before lines ≡ Yes calls → Taken domain before lines calls
 taken domain before [] calls e = record { records = []; spelled = tt; faultless = tt; count = count_of (length before) calls e ∙ ap length (sym (append_none before)) }
 taken domain before (line ∷ lines) calls e = taken_by domain before line lines calls (judged domain before line) refl (λ r h. taken domain (before ++ r ∷ []) lines calls h) e
 

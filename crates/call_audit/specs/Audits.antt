@@ -46,12 +46,12 @@ is_late r before = list_any (λ e. is_past r.replied e.invoked) before
 abbrev pub is_text_of : Data → List ℕ → Bool
 is_text_of d text = not (has_float d) && bytes_eq (compact_text d) text
 
-abbrev pub batches_of : List AuditRecord → List Batch
-batches_of before = map (λ r. r.batch) before
+abbrev pub batches_of_records : List AuditRecord → List Batch
+batches_of_records before = map (λ r. r.batch) before
 
 -- the plain book, after the batches of the records before, gives this reply
-abbrev pub is_given : AuditRecord → List AuditRecord → Bool
-is_given r before = is_text_of r.reply (reply_json r.call (reply_to r.batch (books_of (batches_of before))))
+abbrev pub is_reply_right : AuditRecord → List AuditRecord → Bool
+is_reply_right r before = is_text_of r.reply (reply_json r.call (reply_to r.batch (books_of (batches_of_records before))))
 
 -- ---- the first cause
 
@@ -60,7 +60,7 @@ cause_of before r =
     if has_call r.call before then Some Call else
     (if not (is_stamped r) then Some Stamps else
     (if is_late r before then Some Order else
-    (if not (is_given r before) then Some Reply else
+    (if not (is_reply_right r before) then Some Reply else
     None)))
 
 -- ---- a line
@@ -87,6 +87,6 @@ Judges domain before line Keeps (Some cause) = judged domain before line ≡ Err
 -- ---- many records
 
 -- none has a cause, each after those before it
-abbrev pub AreFaultless : List AuditRecord → List AuditRecord → Type 0
-AreFaultless before [] = ⊤
-AreFaultless before (r ∷ rs) = (cause_of before r ≡ None) × AreFaultless (before ++ r ∷ []) rs
+abbrev pub AreFaultlessRecords : List AuditRecord → List AuditRecord → Type 0
+AreFaultlessRecords before [] = ⊤
+AreFaultlessRecords before (r ∷ rs) = (cause_of before r ≡ None) × AreFaultlessRecords (before ++ r ∷ []) rs

@@ -6,9 +6,9 @@ use Rattle.entry_book.specs.History.{books_of, is_committed, reply_to}
 use Rattle.entry_book.specs.declared.reply.Reply.{Reply}
 use Rattle.line_devices.specs.Lines.{lines_of}
 use Rattle.reg_lines.specs.RecordLines.{record_json}
-use Rattle.reg_lines.specs.Spelled.{Fits, IsWrittenBatch, IsWrittenCall}
-use Rattle.call_audit.specs.declared.verdict.Verdict.TheVariants.{Yes}
-use Rattle.call_audit.specs.Verdicts.{verdict_of}
+use Rattle.reg_lines.specs.Spelled.{FitsInLine, IsWrittenBatch, IsWrittenCall}
+use Rattle.call_audit.specs.declared.verdict.AuditVerdict.TheVariants.{Yes}
+use Rattle.call_audit.specs.Verdicts.{verdict_of_lines}
 
 -- ---- a call
 
@@ -28,11 +28,11 @@ abbrev pub line_of_call : RecordedCall → List ℕ
 line_of_call c = text_of_call c ++ codes "\n"
 
 -- its batch is of the trust domain, batch and call satisfy the invariants of their types, and its record fits into a line
-pub record IsReadable (domain : List ℕ) (c : RecordedCall) : Type 0 where
+pub record IsReadableCall (domain : List ℕ) (c : RecordedCall) : Type 0 where
   pub domain_is : c.batch.domain ≡ domain
   pub batch : IsWrittenBatch c.batch
   pub call : IsWrittenCall c.call c.invoked c.replied c.reply
-  pub fits : Fits (text_of_call c)
+  pub fits : FitsInLine (text_of_call c)
 
 -- ---- many calls
 
@@ -40,8 +40,8 @@ pub record IsReadable (domain : List ℕ) (c : RecordedCall) : Type 0 where
 abbrev pub CallAt : List RecordedCall → ℕ → RecordedCall → Type 0
 CallAt calls i c = slice_get calls i ≡ Some c
 
-abbrev pub CallsStandOnce : List RecordedCall → Type 0
-CallsStandOnce calls = (i j : ℕ) (a b : RecordedCall) → CallAt calls i a → CallAt calls j b → a.call ≡ b.call → i ≡ j
+abbrev pub CallsAreOnce : List RecordedCall → Type 0
+CallsAreOnce calls = (i j : ℕ) (a b : RecordedCall) → CallAt calls i a → CallAt calls j b → a.call ≡ b.call → i ≡ j
 
 -- it replied after its invoke, or it hasn't replied and is committed
 abbrev pub CallHasEnded : RecordedCall → Option ℕ → Type 0
@@ -60,7 +60,7 @@ abbrev pub CallsAreLegal : List RecordedCall → Type 0
 CallsAreLegal calls = (i : ℕ) (c : RecordedCall) → CallAt calls i c → c.reply ≡ reply_to c.batch (books_of (map (λ e. e.batch) (take i calls)))
 
 pub record AreConfirmed (calls : List RecordedCall) : Type 0 where
-  pub once : CallsStandOnce calls
+  pub once : CallsAreOnce calls
   pub ended : CallsHaveEnded calls
   pub strict : CallsAreStrict calls
   pub legal : CallsAreLegal calls
@@ -68,5 +68,5 @@ pub record AreConfirmed (calls : List RecordedCall) : Type 0 where
 -- ---- the theorem, about the lines of the bytes that are printed for the calls
 
 abbrev pub ConfirmedAreAudited : Type 0
-ConfirmedAreAudited = (domain : List ℕ) (calls : List RecordedCall) → AreConfirmed calls → ((i : ℕ) (c : RecordedCall) → CallAt calls i c → IsReadable domain c)
-    → verdict_of domain (lines_of (flat_map line_of_call calls)) ≡ Yes (length calls)
+ConfirmedAreAudited = (domain : List ℕ) (calls : List RecordedCall) → AreConfirmed calls → ((i : ℕ) (c : RecordedCall) → CallAt calls i c → IsReadableCall domain c)
+    → verdict_of_lines domain (lines_of (flat_map line_of_call calls)) ≡ Yes (length calls)

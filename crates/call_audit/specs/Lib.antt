@@ -2,6 +2,6 @@ pub mod Texts
 pub mod Audits
 pub mod AuditsPrivate
 pub mod Follows
-pub mod Keeps
+pub mod Represents
 pub mod Verdicts
 pub mod Confirmed

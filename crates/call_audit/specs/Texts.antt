@@ -5,8 +5,8 @@ use Rattle.reg_lines.specs.Json.{text_json}
 use Rattle.line_devices.specs.Lines.{has_lf}
 use Rattle.call_audit.specs.declared.cause.Cause.{Cause}
 use Rattle.call_audit.specs.declared.cause.Cause.TheVariants as cause
-use Rattle.call_audit.specs.declared.verdict.Verdict.{Verdict}
-use Rattle.call_audit.specs.declared.verdict.Verdict.TheVariants.{Yes, No}
+use Rattle.call_audit.specs.declared.verdict.AuditVerdict.{AuditVerdict}
+use Rattle.call_audit.specs.declared.verdict.AuditVerdict.TheVariants.{Yes, No}
 
 abbrev pub cause_text : Cause → List ℕ
 cause_text (cause.Spelling code) = code_text code
@@ -21,11 +21,11 @@ yes_json calls = codes "{\"audit\":\"yes\",\"calls\":" ++ decimal calls ++ codes
 unfoldable pub no_json : ℕ → Cause → List ℕ
 no_json line cause = codes "{\"audit\":\"no\",\"line\":" ++ decimal line ++ codes ",\"why\":" ++ text_json (cause_text cause) ++ codes "}"
 
-abbrev pub verdict_json : Verdict → List ℕ
+abbrev pub verdict_json : AuditVerdict → List ℕ
 verdict_json (Yes calls) = yes_json calls
 verdict_json (No line cause) = no_json line cause
 
 -- ---- the theorem: the line contains no line feed
 
 abbrev pub VerdictsHaveNoLf : Type 0
-VerdictsHaveNoLf = (verdict : Verdict) → has_lf (verdict_json verdict) ≡ false
+VerdictsHaveNoLf = (verdict : AuditVerdict) → has_lf (verdict_json verdict) ≡ false

@@ -23,7 +23,7 @@ pub struct Auditor {
 }
 
 impl Model for Auditor {
-    ghost use Rattle.call_audit.specs.Keeps.{AuditState};
+    ghost use Rattle.call_audit.specs.Represents.{AuditState};
 
     ghost Value = { AuditState };
 
@@ -38,12 +38,12 @@ impl Auditor {
     ghost use Rattle.std.specs.Prelude.{◌≡◌, ◌<◌, ◌^◌, IfOk, List, [], length};
     ghost use Rattle.line_reading.specs.Records.{AuditRecord};
     ghost use Rattle.call_audit.specs.Audits.{Judges};
-    ghost use Rattle.call_audit.specs.Keeps.{Keeps};
+    ghost use Rattle.call_audit.specs.Represents.{RepresentsRecords};
 
     /// Makes the auditor of a trust domain's records, before the first one. The error is out of memory.
     pub fn new(alloc: Global, domain: TrustDomain) -> Result<Auditor, AllocError>
         ensures domain { IfOk result (λ auditor. auditor.book.domain ≡ domain) }
-        ensures keeps { IfOk result (λ auditor. Keeps auditor []) }
+        ensures keeps { IfOk result (λ auditor. RepresentsRecords auditor []) }
     {
         Ok(Auditor {
             alloc,
@@ -58,19 +58,19 @@ impl Auditor {
     /// guaranteed about further lines.
     pub fn audit(&mut self, line: &[u8]) -> Result<Option<Cause>, AllocError>
         ensures domain { self.new.book.domain ≡ self.old.book.domain }
-        ensures judged { (records : List AuditRecord) → Keeps self.old records
-            → IfOk result (Judges self.old.book.domain records line.now (Keeps self.new)) }
+        ensures judged { (records : List AuditRecord) → RepresentsRecords self.old records
+            → IfOk result (Judges self.old.book.domain records line.now (RepresentsRecords self.new)) }
     {
         // in a refusal its number isn't used
         match read_record(self.alloc, self.book.domain(), line, 1) {
-            Ok(told) => self.audit_record(&told),
+            Ok(claimed) => self.audit_record(&claimed),
             Err(refusal) => Ok(Some(spelling_cause(&refusal.failure)?)),
         }
     }
 
     /// Returns the number of records that were accepted, none of them with a fault.
     pub fn count(&self) -> usize
-        ensures count { (records : List AuditRecord) → Keeps self.now records → result ≡ length records }
+        ensures count { (records : List AuditRecord) → RepresentsRecords self.now records → result ≡ length records }
         ensures small { result < 2 ^ 63 }
     {
         self.calls.len()
@@ -84,30 +84,30 @@ impl Auditor {
     ghost use Rattle.line_reading.specs.RecordViews.{recorded};
     ghost use Rattle.call_audit.specs.Audits.{is_past};
     ghost use Rattle.call_audit.specs.AuditsPrivate.{JudgesRecord};
-    ghost use Rattle.call_audit.specs.Keeps.{Keeps};
+    ghost use Rattle.call_audit.specs.Represents.{RepresentsRecords};
 
     /// The same for a record.
-    fn audit_record(&mut self, told: &Record) -> Result<Option<Cause>, AllocError>
-        requires domain { told.now.batch.domain ≡ self.old.book.domain }
+    fn audit_record(&mut self, claimed: &Record) -> Result<Option<Cause>, AllocError>
+        requires domain { claimed.now.batch.domain ≡ self.old.book.domain }
         ensures domain { self.new.book.domain ≡ self.old.book.domain }
-        ensures judged { (records : List AuditRecord) → Keeps self.old records
-            → IfOk result (JudgesRecord records (recorded told.now) (Keeps self.new)) }
+        ensures judged { (records : List AuditRecord) → RepresentsRecords self.old records
+            → IfOk result (JudgesRecord records (recorded claimed.now) (RepresentsRecords self.new)) }
     {
-        if self.calls.contains(&told.call) {
+        if self.calls.contains(&claimed.call) {
             return Ok(Some(Cause::Call));
         }
-        if !is_stamped(told) {
+        if !is_stamped(claimed) {
             return Ok(Some(Cause::Stamps));
         }
-        if self.is_late(told.replied) {
+        if self.is_late(claimed.replied) {
             return Ok(Some(Cause::Order));
         }
-        let reply = self.book.run(&told.batch)?;
-        if !is_reply(self.alloc, &told.reply, told.call, &reply)? {
+        let reply = self.book.run(&claimed.batch)?;
+        if !is_reply(self.alloc, &claimed.reply, claimed.call, &reply)? {
             return Ok(Some(Cause::Reply));
         }
-        self.calls.insert(told.call)?;
-        self.latest = self.latest.max(told.invoked);
+        self.calls.insert(claimed.call)?;
+        self.latest = self.latest.max(claimed.invoked);
         Ok(None)
     }
 
@@ -139,12 +139,12 @@ fn spelling_cause(failure: &Failure<Fault>) -> Result<Cause, AllocError>
 }
 
 /// Returns true if the call replied after it was invoked, or hasn't replied and is committed.
-fn is_stamped(told: &Record) -> bool
-    ensures { result ≡ is_stamped (recorded told.now) }
+fn is_stamped(claimed: &Record) -> bool
+    ensures { result ≡ is_stamped (recorded claimed.now) }
 {
-    match told.replied {
-        Some(number) => told.invoked < number,
-        None => is_commit(&told.reply),
+    match claimed.replied {
+        Some(number) => claimed.invoked < number,
+        None => is_commit(&claimed.reply),
     }
 }
 

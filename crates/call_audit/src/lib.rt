@@ -7,7 +7,7 @@
 //! - [`Auditor`]: checks line after line, and stores what it needs of the records so far: the book, the numbers of the calls, and
 //!   the largest number of an invoke.
 //! - [`Cause`]: what is wrong with a line, the first cause that applies.
-//! - [`Verdict`]: the result of an audit, which is printed as a line: yes with the number of calls, or no with the first line that
+//! - [`AuditVerdict`]: the result of an audit, which is printed as a line: yes with the number of calls, or no with the first line that
 //!   has a fault, and its cause.
 //! - [`laws`]: theorems that don't mention an auditor. Records without a fault are a history; a no gives the first line with a fault
 //!   after a history. The verdict of a history is never no, and that of calls whose replies the plain book confirms is yes. A verdict
@@ -25,4 +25,4 @@ mod verdict;
 
 pub use auditor::Auditor;
 pub use cause::Cause;
-pub use verdict::Verdict;
+pub use verdict::AuditVerdict;

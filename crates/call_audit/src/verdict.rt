@@ -10,20 +10,20 @@ use reg_lines::{PrintJson, print_number, print_text};
 
 /// The result of an audit. It is printed as an object with the key `audit`; printing needs no memory.
 #[derive(Clone, Copy, Debug, PartialEq, Eq, Drop)]
-pub enum Verdict {
+pub enum AuditVerdict {
     /// No line has a fault; this many calls have a record.
     Yes(u64),
     /// The line with this number, counted from 1, is the first with a fault, for this cause.
     No(u64, Cause),
 }
 
-impl PrintJson for Verdict {
+impl PrintJson for AuditVerdict {
     ghost text = { verdict_json };
 
     fn print_to<S: Sink>(&self, output: &mut Output<S>) {
         match self {
-            Verdict::Yes(calls) => print_yes(*calls, output),
-            Verdict::No(line, cause) => print_no(*line, *cause, output),
+            AuditVerdict::Yes(calls) => print_yes(*calls, output),
+            AuditVerdict::No(line, cause) => print_no(*line, *cause, output),
         }
     }
 }

@@ -17,8 +17,8 @@ event_code NoMemory = codes "E5"
 
 -- the event may be submitted to the machine of this trust domain: an invoke's batch is of this domain
 abbrev pub IsFor : Bytes → Event → Type 0
-IsFor own (Invoke n batch) = batch.domain ≡ own
-IsFor own (Begin n) = ⊤
-IsFor own (Step n) = ⊤
-IsFor own (Commit n) = ⊤
-IsFor own (on.Reply n) = ⊤
+IsFor own_domain (Invoke n batch) = batch.domain ≡ own_domain
+IsFor own_domain (Begin n) = ⊤
+IsFor own_domain (Step n) = ⊤
+IsFor own_domain (Commit n) = ⊤
+IsFor own_domain (on.Reply n) = ⊤

@@ -9,13 +9,13 @@ use Rattle.entry_book.specs.Book.{Book}
 use Rattle.entry_book.specs.Batches.{Batch, IsMadeFor}
 use Rattle.entry_book.specs.History.{books_of, is_committed, reply_to}
 use Rattle.version_book.specs.declared.mark.MarkKind.{MarkKind}
-use Rattle.version_book.specs.CommittedRows.{State as Version}
+use Rattle.version_book.specs.CommittedRows.{VersionState as Version}
 use Rattle.batch_work.specs.declared.status.Status.{Status}
 use Rattle.batch_work.specs.Reads.{awaits_commit, footprint_of}
 use Rattle.batch_work.specs.Working.{Base, awaits_there, footprint_there, reply_there}
 use Rattle.commit_head.specs.declared.item.Item.{Item}
 use Rattle.commit_head.specs.Heads.{Head, newest_of}
-use Rattle.commit_head.specs.Journals.{Leads, batches_of, first_state as first_version}
+use Rattle.commit_head.specs.Journals.{Leads, batches_of, empty_version as first_version}
 use Rattle.commit_head.proofs.FewReads.{journal_reads_few}
 use Rattle.commit_head.proofs.Journals.{leads_in_parts}
 use Rattle.call_answers.specs.declared.answer.Decision.{Decision}
@@ -23,22 +23,22 @@ use Rattle.call_answers.specs.declared.answer.CallAnswer.TheVariants.{Replied, C
 use Rattle.call_machine.specs.declared.slot.Slot.{Slot}
 use Rattle.call_machine.specs.declared.slot.SlotState.{SlotState}
 use Rattle.call_machine.specs.declared.slot.SlotState.TheVariants.{Open, Over}
-use Rattle.call_machine.specs.Calls.{Stage, running, stage_on, stage_settled}
-use Rattle.call_machine.specs.Kept.{AllRest, BeganWithin, Holds, IsWhole, SlotBegins, SlotDecides, SlotRests, SlotSteps, StateRests, all_events, domain_of, journal_of, reply_events, slot_events, stage_events, stage_from, stage_kept, stage_of_slot, stage_replied}
+use Rattle.call_machine.specs.Calls.{CallStage, running, stage_on, stage_settled}
+use Rattle.call_machine.specs.Kept.{AllRest, BeganWithin, MachineInvariant, HasWholeJournal, SlotBegins, SlotDecides, SlotRests, SlotSteps, StateRests, all_events, head_domain, journal_of, reply_events, slot_events, stage_events, stage_from, stage_kept, stage_of_slot, stage_replied}
 use Rattle.call_machine.proofs.Heads.{first_batches}
 use Rattle.call_machine.proofs.Lists.{get_within}
 
 -- ---- a batch makes few reads on each book of the journal
 
-module _ (own : Bytes) (items : List Item) (s : Version) (leads : Leads (first_version own) items s) where
-  few_at : (n : ℕ) (batch : Batch) → IsMadeFor own batch → length (footprint_of batch (books_of (take n (batches_of items)))) ≤ 2 ^ 21
+module _ (own_domain : Bytes) (items : List Item) (s : Version) (leads : Leads (first_version own_domain) items s) where
+  few_at : (n : ℕ) (batch : Batch) → IsMadeFor own_domain batch → length (footprint_of batch (books_of (take n (batches_of items)))) ≤ 2 ^ 21
   few_at n batch made =
-      let parts = leads_in_parts (take n items) (drop n items) (first_version own) s (subst (λ l. Leads (first_version own) l s) (sym (take-append-drop n items)) leads) in
-      subst (λ l. length (footprint_of batch (books_of l)) ≤ 2 ^ 21) (sym (first_batches n items)) (journal_reads_few own (take n items) parts.0 batch parts.1 made)
+      let parts = leads_in_parts (take n items) (drop n items) (first_version own_domain) s (subst (λ l. Leads (first_version own_domain) l s) (sym (take-append-drop n items)) leads) in
+      subst (λ l. length (footprint_of batch (books_of l)) ≤ 2 ^ 21) (sym (first_batches n items)) (journal_reads_few own_domain (take n items) parts.0 batch parts.1 made)
 
   -- ---- so that a call has few events
 
-  few_from : (batch : Batch) (o : Option Base) (n : ℕ) → IsMadeFor own batch → BeganWithin own items batch n o → stage_events (stage_from o batch n) ≤ 3 + 2 ^ 21
+  few_from : (batch : Batch) (o : Option Base) (n : ℕ) → IsMadeFor own_domain batch → BeganWithin own_domain items batch n o → stage_events (stage_from o batch n) ≤ 3 + 2 ^ 21
   few_from batch None n made began = omega arith
   few_from batch (Some base) n made began =
       let few = few_at base.newest.number batch made in
@@ -48,26 +48,26 @@ module _ (own : Bytes) (items : List Item) (s : Version) (leads : Leads (first_v
         | false ↦ λ t. elim (awaits_there batch base) as (λ b. stage_events (stage_settled b base.newest.number (reply_there batch base)) ≤ 3 + 2 ^ 21) [ true ↦ omega arith | false ↦ omega arith ]
       ] refl
 
-  few_kept : (batch : Batch) (s : SlotState) → StateRests own items batch s → stage_events (stage_kept s) ≤ 3 + 2 ^ 21
+  few_kept : (batch : Batch) (s : SlotState) → StateRests own_domain items batch s → stage_events (stage_kept s) ≤ 3 + 2 ^ 21
   few_kept batch (Open w) r = few_from w.batch w.base w.steps r.0.made r.0.began
   few_kept batch (Over (Replied q)) r = elim (is_committed q.outcome) as (λ b. stage_events (stage_replied b q) ≤ 3 + 2 ^ 21) [ true ↦ omega arith | false ↦ omega arith ]
   few_kept batch (Over (Conflict n)) r = omega arith
 
-  few_slot : (slot : Slot) → SlotRests own items slot → slot_events slot ≤ 2 ^ 22
+  few_slot : (slot : Slot) → SlotRests own_domain items slot → slot_events slot ≤ 2 ^ 22
   few_slot slot r = let k = few_kept slot.batch slot.state r.state in let q = one_reply slot.replied in omega arith
     where
       one_reply : (o : Option ℕ) → reply_events o ≤ 1
       one_reply None = omega arith
       one_reply (Some n) = omega arith
 
-  few_all : (es : List (ℕ × Slot)) → AllRest own items es → all_events es ≤ 2 ^ 22 * length es
+  few_all : (es : List (ℕ × Slot)) → AllRest own_domain items es → all_events es ≤ 2 ^ 22 * length es
   few_all [] a = omega arith
   few_all (e ∷ es) a = let k = few_slot e.1 a.0 in let q = few_all es a.1 in omega arith
 
 -- one more event can be counted
-pub has_room : {h : Head} {count : ℕ} {es : List (ℕ × Slot)} → Holds h count es → count + 1 < 2 ^ 64
+pub has_room : {h : Head} {count : ℕ} {es : List (ℕ × Slot)} → MachineInvariant h count es → count + 1 < 2 ^ 64
 has_room {h} {count} {es} holds =
-    let k = few_all (domain_of h) h.kept (newest_of h) holds.whole.leads es holds.rest in
+    let k = few_all (head_domain h) h.kept (newest_of h) holds.whole.leads es holds.rest in
     let few = holds.few in
     let counted = holds.counted in
     omega arith
@@ -108,7 +108,7 @@ events_on batch books base made few = elim (nat_lt made (length (footprint_of ba
 ]
 
 -- the later stage allows one more event, and the reply is the same
-more_by : (old later : Slot) (f g : Stage) → stage_of_slot old ≡ f → stage_of_slot later ≡ g → later.replied ≡ old.replied → stage_events f + 1 ≤ stage_events g → slot_events old + 1 ≤ slot_events later
+more_by : (old later : Slot) (f g : CallStage) → stage_of_slot old ≡ f → stage_of_slot later ≡ g → later.replied ≡ old.replied → stage_events f + 1 ≤ stage_events g → slot_events old + 1 ≤ slot_events later
 more_by old later f g e d r more =
     let a = ap stage_events e in
     let b = ap stage_events d in
@@ -118,9 +118,9 @@ more_by old later f g e d r more =
 pub more_begun : (h : Head) (old later : Slot) (turn : ℕ) (status : Status) → SlotBegins h old turn status later → slot_events old + 1 ≤ slot_events later
 more_begun h old later turn status b = more_by old later _ _ b.in_turn b.stage b.replied (events_on old.batch (books_of (take (length (journal_of h)) (journal_of h))) (length (journal_of h)) 0 (omega arith))
 
-pub more_stepped : (h : Head) (old later : Slot) (mark : MarkKind) (status : Status) → IsWhole h → IsMadeFor (domain_of h) old.batch → SlotSteps (domain_of h) h.kept old mark status later → slot_events old + 1 ≤ slot_events later
+pub more_stepped : (h : Head) (old later : Slot) (mark : MarkKind) (status : Status) → HasWholeJournal h → IsMadeFor (head_domain h) old.batch → SlotSteps (head_domain h) h.kept old mark status later → slot_events old + 1 ≤ slot_events later
 more_stepped h old later mark status whole made b =
-    let few = few_at (domain_of h) h.kept (newest_of h) whole.leads b.base old.batch made in
+    let few = few_at (head_domain h) h.kept (newest_of h) whole.leads b.base old.batch made in
     let less = get_within _ b.made mark b.mark_is in
     more_by old later _ _ b.in_turn b.stage b.replied (let k = events_on old.batch (books_of (take b.base (batches_of h.kept))) b.base (b.made + 1) (omega arith) in omega arith)
 

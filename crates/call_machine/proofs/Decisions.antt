@@ -1,7 +1,7 @@
 -- What a head's decision on the commit of a call means for the machine.
 use Rattle.std.proofs.Common.{◌≡◌, ℕ, ◌+◌, [], ◌∷◌, ◌++◌, length, refl, sym, ap, subst, ◌∙◌, inl, inr}
 use Rattle.entry_book.specs.declared.limit.Limit.{Limit}
-use Rattle.entry_book.specs.declared.reply.Outcome.TheVariants.{Committed as WasCommitted, Refused}
+use Rattle.entry_book.specs.declared.reply.ReplyOutcome.TheVariants.{Committed as WasCommitted, Refused}
 use Rattle.entry_book.specs.declared.reply.Refusal.TheVariants.{Full as TooMuch}
 use Rattle.entry_book.specs.declared.reply.Reply.{Reply}
 use Rattle.entry_book.specs.History.{books_of, is_committed, reply_to}
@@ -9,7 +9,7 @@ use Rattle.batch_work.specs.declared.status.Status.TheVariants.{Ready}
 use Rattle.batch_work.specs.Working.{Work, status_of}
 use Rattle.batch_work.proofs.Ready.{same_replies}
 use Rattle.commit_head.specs.declared.commit.Commit.TheVariants.{Committed, Conflict, Full}
-use Rattle.commit_head.specs.Heads.{BeganOn, Fits, Head, IsCommitted, IsItemOf, IsRefused, Prepared, Stays, newest_of, place_of}
+use Rattle.commit_head.specs.Heads.{BeganOn, Fits, Head, IsCommitted, IsItemOf, IsRefused, Prepared, IsUnchangedHead, newest_of, head_place}
 use Rattle.commit_head.specs.Journals.{Joins, batches_of}
 use Rattle.commit_head.specs.Outcomes.{IsHitSince, IsReadyOn}
 use Rattle.commit_head.proofs.OnBooks.{batches_join, commit_on_books, count_of_batches}
@@ -18,32 +18,32 @@ use Rattle.call_answers.specs.declared.answer.CallAnswer.TheVariants.{Replied}
 use Rattle.call_answers.specs.declared.answer.CallAnswer.TheVariants as gave
 use Rattle.call_answers.specs.declared.answer.Decision.TheVariants as to
 use Rattle.call_machine.specs.Calls.{answered, committed, conflict}
-use Rattle.call_machine.specs.Kept.{BeganInside, Finishes, IsDecided, IsWhole, RestsOn, domain_of, journal_of, stage_over}
+use Rattle.call_machine.specs.Kept.{BaseIsInJournal, Finishes, IsDecided, HasWholeJournal, RestsOn, head_domain, journal_of, stage_over}
 use Rattle.call_machine.proofs.Heads.{appended_from, began_on, stayed, went_on}
 use Rattle.call_machine.proofs.Slots.{IsAwaiting, began_at, ready_is}
 
 -- the base of a ready work is inside the journal
-began : (h : Head) (w : Work) (r : IsAwaiting w) → RestsOn (domain_of h) h.kept w → BeganInside (domain_of h) h.kept w.batch r.base
-began h w r rests = began_at (domain_of h) h.kept w r.base rests r.base_is
+began : (h : Head) (w : Work) (r : IsAwaiting w) → RestsOn (head_domain h) h.kept w → BaseIsInJournal (head_domain h) h.kept w.batch r.base
+began h w r rests = began_at (head_domain h) h.kept w r.base rests r.base_is
 
-pub may_prepare : (h : Head) (w : Work) → IsWhole h → RestsOn (domain_of h) h.kept w → status_of w ≡ Ready → BeganOn w.base h
+pub may_prepare : (h : Head) (w : Work) → HasWholeJournal h → RestsOn (head_domain h) h.kept w → status_of w ≡ Ready → BeganOn w.base h
 may_prepare h w whole rests s =
     let r = ready_is w s in
     subst (λ o. BeganOn o h) (sym r.base_is) (began_on h w.batch r.base whole (began h w r rests))
 
 -- it is ready on the head's journal
-ready_on : (h : Head) (w : Work) (r : IsAwaiting w) → RestsOn (domain_of h) h.kept w → status_of w ≡ Ready → IsReadyOn (domain_of h) h.kept w r.base
+ready_on : (h : Head) (w : Work) (r : IsAwaiting w) → RestsOn (head_domain h) h.kept w → status_of w ≡ Ready → IsReadyOn (head_domain h) h.kept w r.base
 ready_on h w r rests s = record { made = rests.made; ready = s; base_is = r.base_is; leads = (began h w r rests).leads }
 
-pub decided_committed : (old between new : Head) (w : Work) (seat call : ℕ) (p : Prepared) (answer : CallAnswer) (place : ℕ) → IsWhole old → RestsOn (domain_of old) old.kept w → status_of w ≡ Ready → Stays old between → Fits between p → IsItemOf seat call w p.item → Finishes between p.item answer place new → IsDecided old w answer to.Committed place new
-decided_committed old between new w seat call p answer place whole rests s stays fits item done =
+pub decided_committed : (old between new : Head) (w : Work) (seat call : ℕ) (p : Prepared) (answer : CallAnswer) (place : ℕ) → HasWholeJournal old → RestsOn (head_domain old) old.kept w → status_of w ≡ Ready → IsUnchangedHead old between → Fits between p → IsItemOf seat call w p.item → Finishes between p.item answer place new → IsDecided old w answer to.Committed place new
+decided_committed old between new w seat call p answer place whole rests s is_unchanged fits item done =
     let r = ready_is w s in
-    let joins : Joins p.item (newest_of old) = subst (λ v. Joins p.item v.newest) stays.window fits.goes.joins in
-    let appended = appended_from old between new p.item stays done.appended in
-    let commit : IsCommitted old seat call w place new = record { item = p.item; of_work = item; joins = joins; number = done.place_is ∙ ap (λ v. v.newest.number + 1) stays.window; appended = appended } in
+    let joins : Joins p.item (newest_of old) = subst (λ v. Joins p.item v.newest) is_unchanged.window fits.goes.joins in
+    let appended = appended_from old between new p.item is_unchanged done.appended in
+    let commit : IsCommitted old seat call w place new = record { item = p.item; of_work = item; joins = joins; number = done.place_is ∙ ap (λ v. v.newest.number + 1) is_unchanged.window; appended = appended } in
     let on = commit_on_books old.kept old seat call w r.base (Committed place) new whole (ready_on old w r rests s) commit in
     let same : p.item.replies ≡ on.item.replies = same_replies w p.item.replies on.item.replies item.replies on.of_work.replies in
-    let reply : reply_to w.batch (books_of (journal_of old)) ≡ record { place = place_of between + 1; outcome = WasCommitted p.item.replies } = on.reply ∙ (λ i. record { place = done.place_is i; outcome = WasCommitted (sym same i) }) in
+    let reply : reply_to w.batch (books_of (journal_of old)) ≡ record { place = head_place between + 1; outcome = WasCommitted p.item.replies } = on.reply ∙ (λ i. record { place = done.place_is i; outcome = WasCommitted (sym same i) }) in
     let length_is : place ≡ length (journal_of old) + 1 = on.number ∙ ap (λ n. n + 1) (sym (count_of_batches old.kept)) in
     record {
       base = r.base.newest.number;
@@ -55,13 +55,13 @@ decided_committed old between new w seat call p answer place whole rests s stays
         place_is = length_is;
         journal_is = ap batches_of appended.kept ∙ (batches_join old.kept (p.item ∷ []) ∙ ap (λ b. journal_of old ++ b ∷ []) item.batch_is);
       });
-      goes_on = went_on old new p.item whole joins appended;
+      extends = went_on old new p.item whole joins appended;
     }
 
-pub decided_full : (old new : Head) (w : Work) (limit : Limit) (place : ℕ) → IsWhole old → RestsOn (domain_of old) old.kept w → status_of w ≡ Ready → Stays old new → IsRefused old w (Full limit place) → IsDecided old w (Replied (record { place = place; outcome = Refused (TooMuch limit) })) (to.Full limit) place new
-decided_full old new w limit place whole rests s stays refused =
+pub decided_full : (old new : Head) (w : Work) (limit : Limit) (place : ℕ) → HasWholeJournal old → RestsOn (head_domain old) old.kept w → status_of w ≡ Ready → IsUnchangedHead old new → IsRefused old w (Full limit place) → IsDecided old w (Replied (record { place = place; outcome = Refused (TooMuch limit) })) (to.Full limit) place new
+decided_full old new w limit place whole rests s is_unchanged refused =
     let r = ready_is w s in
-    let on = commit_on_books old.kept old 0 0 w r.base (Full limit place) new whole (ready_on old w r rests s) (stays, refused) in
+    let on = commit_on_books old.kept old 0 0 w r.base (Full limit place) new whole (ready_on old w r rests s) (is_unchanged, refused) in
     let length_is : place ≡ length (journal_of old) = on.0 ∙ sym (count_of_batches old.kept) in
     record {
       base = r.base.newest.number;
@@ -72,15 +72,15 @@ decided_full old new w limit place whole rests s stays refused =
         stage_is = ap answered (sym on.1);
         decision_is = refl;
         place_is = length_is;
-        journal_is = ap batches_of stays.kept;
+        journal_is = ap batches_of is_unchanged.kept;
       }));
-      goes_on = stayed old new whole stays;
+      extends = stayed old new whole is_unchanged;
     }
 
-pub decided_conflict : (old new : Head) (w : Work) (place : ℕ) → IsWhole old → RestsOn (domain_of old) old.kept w → status_of w ≡ Ready → Stays old new → IsRefused old w (Conflict place) → IsDecided old w (gave.Conflict place) to.Conflict place new
-decided_conflict old new w place whole rests s stays refused =
+pub decided_conflict : (old new : Head) (w : Work) (place : ℕ) → HasWholeJournal old → RestsOn (head_domain old) old.kept w → status_of w ≡ Ready → IsUnchangedHead old new → IsRefused old w (Conflict place) → IsDecided old w (gave.Conflict place) to.Conflict place new
+decided_conflict old new w place whole rests s is_unchanged refused =
     let r = ready_is w s in
-    let on = commit_on_books old.kept old 0 0 w r.base (Conflict place) new whole (ready_on old w r rests s) (stays, refused) in
+    let on = commit_on_books old.kept old 0 0 w r.base (Conflict place) new whole (ready_on old w r rests s) (is_unchanged, refused) in
     let length_is : place ≡ length (journal_of old) = on.0 ∙ sym (count_of_batches old.kept) in
     record {
       base = r.base.newest.number;
@@ -90,7 +90,7 @@ decided_conflict old new w place whole rests s stays refused =
         stage_is = ap conflict length_is;
         decision_is = refl;
         place_is = length_is;
-        journal_is = ap batches_of stays.kept;
+        journal_is = ap batches_of is_unchanged.kept;
       }));
-      goes_on = stayed old new whole stays;
+      extends = stayed old new whole is_unchanged;
     }

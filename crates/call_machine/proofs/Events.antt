@@ -7,13 +7,13 @@ use Rattle.entry_book.specs.Rows.{Bytes}
 use Rattle.entry_book.specs.Order.{Within}
 use Rattle.entry_book.specs.Batches.{Batch}
 use Rattle.entry_book.specs.declared.reply.Reply.{Reply}
-use Rattle.entry_book.specs.declared.reply.Outcome.{Outcome}
+use Rattle.entry_book.specs.declared.reply.ReplyOutcome.{ReplyOutcome}
 use Rattle.entry_book.specs.History.{is_committed, books_of, reply_to}
 use Rattle.batch_work.specs.Reads.{footprint_of, awaits_commit}
 use Rattle.call_events.specs.declared.event.Event.{Event}
 use Rattle.call_events.specs.declared.event.Event.TheVariants.{Invoke, Begin, Step, Commit, Reply as ReplyEvent}
 use Rattle.call_answers.specs.declared.answer.Done.{Done}
-use Rattle.call_machine.specs.Calls.{running, ready, answered, committed, conflict, Call, State, first_state, moved, answer_of, stage_settled, stage_on}
+use Rattle.call_machine.specs.Calls.{running, ready, answered, committed, conflict, Call, MachineState, first_machine, moved, answer_of, stage_settled, stage_on}
 use Rattle.call_machine.specs.Machine.{Invokes, Begins, Steps, CommitsNow, IsFull, Conflicts, Commits, Replies, Accepts}
 use Rattle.call_machine.proofs.Rows.{call_within, call_none}
 use Rattle.call_machine.proofs.Line.{entered, StageFits, is_begun}
@@ -49,14 +49,14 @@ not_replied count c s e n q = let h : IsSome (answer_of c.stage) = (s.over n q).
 
 -- ---- event by event
 
-invokes : (s : State) (n : ℕ) (batch : Batch) (d : Done) (t : State) → Sound s → Invokes s n batch d t → Sound t
+invokes : (s : MachineState) (n : ℕ) (batch : Batch) (d : Done) (t : MachineState) → Sound s → Invokes s n batch d t → Sound t
 invokes s n batch d t h i = subst Sound (sym i.after) (came s _ h (λ x w e. call_none n s.calls i.unknown x w e) refl (record {
   invoked = omega arith;
   begun = λ b. cc;
   over = λ m e. cc;
 }))
 
-begins : (s : State) (n : ℕ) (d : Done) (t : State) → Sound s → Begins s n d t → Sound t
+begins : (s : MachineState) (n : ℕ) (d : Done) (t : MachineState) → Sound s → Begins s n d t → Sound t
 begins s n d t h i =
     let w = call_within n s.calls i.call i.found in
     let k = h.stamped i.call w.0 in
@@ -71,7 +71,7 @@ begins s n d t h i =
       over = λ m e. absurd (not_replied s.count i.call k (ap answer_of i.in_turn) m e);
     }))
 
-steps : (s : State) (n : ℕ) (d : Done) (t : State) → Sound s → Steps s n d t → Sound t
+steps : (s : MachineState) (n : ℕ) (d : Done) (t : MachineState) → Sound s → Steps s n d t → Sound t
 steps s n d t h i =
     let w = call_within n s.calls i.call i.found in
     let k = h.stamped i.call w.0 in
@@ -91,10 +91,10 @@ steps s n d t h i =
     }))
 
 -- a reply that is not committed by its outcome is not a commit
-refused_is : (r : Reply) (o : Outcome) → r.outcome ≡ o → is_committed o ≡ false → is_committed r.outcome ≡ false
+refused_is : (r : Reply) (o : ReplyOutcome) → r.outcome ≡ o → is_committed o ≡ false → is_committed r.outcome ≡ false
 refused_is r o e f = ap is_committed e ∙ f
 
-commits_now : (s : State) (call : Call) (base : ℕ) (d : Done) (t : State) → Sound s → Within s.calls call → call.stage ≡ ready base → CommitsNow s call d t → Sound t
+commits_now : (s : MachineState) (call : Call) (base : ℕ) (d : Done) (t : MachineState) → Sound s → Within s.calls call → call.stage ≡ ready base → CommitsNow s call d t → Sound t
 commits_now s call base d t h w e i =
     let k = h.stamped call w in
     subst Sound (sym i.after) (went_last s call (record call { stage = committed (reply_to call.batch (books_of s.journal)); turn = s.count + 1 }) h w refl (ap is_begun e) refl
@@ -105,7 +105,7 @@ commits_now s call base d t h w e i =
       over = λ m q. absurd (not_replied s.count call k (ap answer_of e) m q);
     }))
 
-is_full : (s : State) (call : Call) (base : ℕ) (d : Done) (t : State) → Sound s → Within s.calls call → call.stage ≡ ready base → IsFull s call d t → Sound t
+is_full : (s : MachineState) (call : Call) (base : ℕ) (d : Done) (t : MachineState) → Sound s → Within s.calls call → call.stage ≡ ready base → IsFull s call d t → Sound t
 is_full s call base d t h w e i =
     let k = h.stamped call w in
     let c : Call = record call { stage = answered (reply_to call.batch (books_of s.journal)); turn = s.count + 1 } in
@@ -118,7 +118,7 @@ is_full s call base d t h w e i =
     }) in
     subst Sound (ap (λ j. record (moved c s) { journal = j }) (append-nil s.journal) ∙ sym i.after) g
 
-conflicts : (s : State) (call : Call) (base : ℕ) (d : Done) (t : State) → Sound s → Within s.calls call → call.stage ≡ ready base → Conflicts s call base d t → Sound t
+conflicts : (s : MachineState) (call : Call) (base : ℕ) (d : Done) (t : MachineState) → Sound s → Within s.calls call → call.stage ≡ ready base → Conflicts s call base d t → Sound t
 conflicts s call base d t h w e i =
     let k = h.stamped call w in
     subst Sound (sym i.after) (left s call (record call { stage = conflict (length s.journal); turn = s.count + 1 }) h w refl (ap is_begun e) refl (ap (λ g. entered g call.batch) e)
@@ -128,14 +128,14 @@ conflicts s call base d t h w e i =
       over = λ m q. absurd (not_replied s.count call k (ap answer_of e) m q);
     }))
 
-committing : (s : State) (n : ℕ) (d : Done) (t : State) → Sound s → Commits s n d t → Sound t
+committing : (s : MachineState) (n : ℕ) (d : Done) (t : MachineState) → Sound s → Commits s n d t → Sound t
 committing s n d t h i =
     let w = call_within n s.calls i.call i.found in
     ⊎_elim (λ c. commits_now s i.call i.base d t h w.0 i.in_turn c)
     (λ r. ⊎_elim (λ f. is_full s i.call i.base d t h w.0 i.in_turn f) (λ c. conflicts s i.call i.base d t h w.0 i.in_turn c) r)
     i.decision
 
-replies : (s : State) (n : ℕ) (d : Done) (t : State) → Sound s → Replies s n d t → Sound t
+replies : (s : MachineState) (n : ℕ) (d : Done) (t : MachineState) → Sound s → Replies s n d t → Sound t
 replies s n d t h i =
     let w = call_within n s.calls i.call i.found in
     let k = h.stamped i.call w.0 in
@@ -150,15 +150,15 @@ replies s n d t h i =
     (λ b. kept_aside s i.call c h w.0 refl b b stamped)
     (cases_Bool (is_begun i.call.stage)))
 
-pub accepts_sound : (s : State) (e : Event) (d : Done) (t : State) → Sound s → Accepts s e d t → Sound t
+pub accepts_sound : (s : MachineState) (e : Event) (d : Done) (t : MachineState) → Sound s → Accepts s e d t → Sound t
 accepts_sound s (Invoke n batch) d t h a = invokes s n batch d t h a
 accepts_sound s (Begin n) d t h a = begins s n d t h a
 accepts_sound s (Step n) d t h a = steps s n d t h a
 accepts_sound s (Commit n) d t h a = committing s n d t h a
 accepts_sound s (ReplyEvent n) d t h a = replies s n d t h a
 
-pub first_sound : (own : Bytes) → Sound (first_state own)
-first_sound own = record {
+pub first_sound : (own_domain : Bytes) → Sound (first_machine own_domain)
+first_sound own_domain = record {
   line = [];
   members = λ c. (λ w. absurd w, λ w. absurd w.0);
   turns = tt;

@@ -6,11 +6,11 @@ use Rattle.entry_book.specs.Order.{Within}
 use Rattle.entry_book.specs.Batches.{Batch}
 use Rattle.entry_book.specs.History.{books_of, reply_to, commits}
 use Rattle.entry_book.proofs.Sets.{All-within, All-from_within, within_left, within_right, from_within_append}
-use Rattle.call_machine.specs.Calls.{Stage, waiting, running, ready, answered, committed, conflict, Call}
+use Rattle.call_machine.specs.Calls.{CallStage, waiting, running, ready, answered, committed, conflict, Call}
 use Rattle.call_machine.specs.Kept.{AscendingTurns}
 
 -- a call that has begun, and met no conflict, is in the line
-abbrev pub is_begun : Stage → Bool
+abbrev pub is_begun : CallStage → Bool
 is_begun waiting = false
 is_begun (running base made) = true
 is_begun (ready base) = true
@@ -20,7 +20,7 @@ is_begun (conflict n) = false
 
 -- ---- the journal of such a line
 
-abbrev pub entered : Stage → Batch → List Batch
+abbrev pub entered : CallStage → Batch → List Batch
 entered waiting batch = []
 entered (running base made) batch = []
 entered (ready base) batch = []
@@ -38,7 +38,7 @@ journal-append (c ∷ cs) ys = ap (λ l. entered c.stage c.batch ++ l) (journal-
 
 -- ---- each call agrees with the journal before it
 
-abbrev pub StageFits : Stage → Batch → List Batch → Type 0
+abbrev pub StageFits : CallStage → Batch → List Batch → Type 0
 StageFits waiting batch journal = ⊥
 StageFits (running base made) batch journal = base ≡ length journal
 StageFits (ready base) batch journal = base ≡ length journal

@@ -5,7 +5,7 @@ use Rattle.std.proofs.lemmas.List.{append-nil, take-append-le}
 use Rattle.entry_book.specs.Order.{Within}
 use Rattle.entry_book.specs.Batches.{Batch}
 use Rattle.entry_book.specs.declared.limit.Limit.{Limit}
-use Rattle.entry_book.specs.declared.reply.Outcome.TheVariants.{Refused}
+use Rattle.entry_book.specs.declared.reply.ReplyOutcome.TheVariants.{Refused}
 use Rattle.entry_book.specs.declared.reply.Refusal.TheVariants.{Full as TooMuch}
 use Rattle.entry_book.specs.declared.reply.Reply.{Reply}
 use Rattle.call_events.specs.declared.event.Event.{Event}
@@ -16,8 +16,8 @@ use Rattle.call_answers.specs.declared.answer.Done.{Done}
 use Rattle.call_answers.specs.declared.answer.Done.TheVariants.{Invoked, Begun, Stepped, Decided, Answered}
 use Rattle.call_answers.specs.declared.answer.CallAnswer.{CallAnswer}
 use Rattle.batch_work.specs.declared.status.Status.{Status}
-use Rattle.call_machine.specs.Schedules.{Happened, At, HandedIn, BatchesOf, BeginsCountCommits, CountsCommits, commit_of, commits_in, IsDueConflict, ConflictsAreDue, Different}
-use Rattle.call_machine.specs.Calls.{Stage, waiting, running, ready, answered, committed, conflict, Call, State, with_call, answer_of}
+use Rattle.call_machine.specs.Schedules.{Happened, EventAt, HandedIn, BatchesOf, BeginsCountCommits, CountsCommits, commit_of, commits_in, IsDueConflict, ConflictsAreDue, Different}
+use Rattle.call_machine.specs.Calls.{CallStage, waiting, running, ready, answered, committed, conflict, Call, MachineState, with_call, answer_of}
 use Rattle.call_machine.specs.Laws.{SettledAt}
 use Rattle.call_machine.specs.Kept.{number_of}
 use Rattle.call_machine.proofs.Lists.{get_left, get_last, from_get_snoc, get_within}
@@ -25,10 +25,10 @@ use Rattle.call_machine.proofs.Rows.{from_with_call, within_new, within_other, s
 
 -- ---- one more event
 
-pub at_more : (log : List Happened) (h : Happened) (n : ℕ) (e : Event) (d : Done) → At log n e d → At (log ++ h ∷ []) n e d
+pub at_more : (log : List Happened) (h : Happened) (n : ℕ) (e : Event) (d : Done) → EventAt log n e d → EventAt (log ++ h ∷ []) n e d
 at_more log h n e d a = (a.0, a.1, get_left log (h ∷ []) a.0 _ a.2)
 
-pub at_last : (log : List Happened) (h : Happened) (n : ℕ) → length log ≡ n → At (log ++ h ∷ []) (n + 1) h.event h.done
+pub at_last : (log : List Happened) (h : Happened) (n : ℕ) → length log ≡ n → EventAt (log ++ h ∷ []) (n + 1) h.event h.done
 at_last log h n e = (length log, ap (λ k. k + 1) (sym e), get_last log h)
 
 pub handed_more : (log : List Happened) (h : Happened) (c : ℕ) (batch : Batch) → HandedIn log c batch → HandedIn (log ++ h ∷ []) c batch
@@ -66,27 +66,27 @@ take_whole (g ∷ gs) h = ap (λ l. g ∷ l) (take_whole gs h)
 
 -- ---- what is stored of a call was reported by an event
 
-abbrev pub StageTold : List Happened → Stage → Call → Type 0
-StageTold log waiting c = ⊤
-StageTold log (running base made) c = (p : Status) × At log c.turn (Begin c.number) (Begun c.number base p)
-StageTold log (ready base) c = (p : Status) × At log c.turn (Begin c.number) (Begun c.number base p)
-StageTold log (answered r) c = SettledAt log c.turn c.number r
-StageTold log (committed r) c = At log c.turn (Commit c.number) (Decided c.number Committed r.place)
-StageTold log (conflict n) c = At log c.turn (Commit c.number) (Decided c.number Conflict n)
+abbrev pub StageLogged : List Happened → CallStage → Call → Type 0
+StageLogged log waiting c = ⊤
+StageLogged log (running base made) c = (p : Status) × EventAt log c.turn (Begin c.number) (Begun c.number base p)
+StageLogged log (ready base) c = (p : Status) × EventAt log c.turn (Begin c.number) (Begun c.number base p)
+StageLogged log (answered r) c = SettledAt log c.turn c.number r
+StageLogged log (committed r) c = EventAt log c.turn (Commit c.number) (Decided c.number Committed r.place)
+StageLogged log (conflict n) c = EventAt log c.turn (Commit c.number) (Decided c.number Conflict n)
 
-abbrev pub ReplyTold : List Happened → Option ℕ → Call → Type 0
-ReplyTold log None c = ⊤
-ReplyTold log (Some n) c = (t : CallAnswer) × (answer_of c.stage ≡ Some t) × At log n (ReplyEvent c.number) (Answered c.number t)
+abbrev pub ReplyLogged : List Happened → Option ℕ → Call → Type 0
+ReplyLogged log None c = ⊤
+ReplyLogged log (Some n) c = (t : CallAnswer) × (answer_of c.stage ≡ Some t) × EventAt log n (ReplyEvent c.number) (Answered c.number t)
 
-pub record IsTold (log : List Happened) (c : Call) : Type 0 where
-  pub invoked : (d : Done) × At log c.invoked (Invoke c.number c.batch) d
-  pub stage : StageTold log c.stage c
-  pub replied : ReplyTold log c.replied c
+pub record IsLogged (log : List Happened) (c : Call) : Type 0 where
+  pub invoked : (d : Done) × EventAt log c.invoked (Invoke c.number c.batch) d
+  pub stage : StageLogged log c.stage c
+  pub replied : ReplyLogged log c.replied c
 
 pub settled_more : (log : List Happened) (h : Happened) (n c : ℕ) (r : Reply) → SettledAt log n c r → SettledAt (log ++ h ∷ []) n c r
 settled_more log h n c r t = ⊎_elim (λ b. inl (b.0, b.1, b.2, at_more log h n _ _ b.3)) (λ f. inr (f.0, f.1, at_more log h n _ _ f.2)) t
 
-stage_more : (log : List Happened) (h : Happened) (g : Stage) (c : Call) → StageTold log g c → StageTold (log ++ h ∷ []) g c
+stage_more : (log : List Happened) (h : Happened) (g : CallStage) (c : Call) → StageLogged log g c → StageLogged (log ++ h ∷ []) g c
 stage_more log h waiting c t = tt
 stage_more log h (running base made) c t = (t.0, at_more log h c.turn _ _ t.1)
 stage_more log h (ready base) c t = (t.0, at_more log h c.turn _ _ t.1)
@@ -94,12 +94,12 @@ stage_more log h (answered r) c t = settled_more log h c.turn c.number r t
 stage_more log h (committed r) c t = at_more log h c.turn _ _ t
 stage_more log h (conflict n) c t = at_more log h c.turn _ _ t
 
-reply_more : (log : List Happened) (h : Happened) (r : Option ℕ) (c : Call) → ReplyTold log r c → ReplyTold (log ++ h ∷ []) r c
+reply_more : (log : List Happened) (h : Happened) (r : Option ℕ) (c : Call) → ReplyLogged log r c → ReplyLogged (log ++ h ∷ []) r c
 reply_more log h None c t = tt
 reply_more log h (Some n) c t = (t.0, t.1, at_more log h n _ _ t.2)
 
-pub told_more : (log : List Happened) (h : Happened) (c : Call) → IsTold log c → IsTold (log ++ h ∷ []) c
-told_more log h c t = record {
+pub logged_more : (log : List Happened) (h : Happened) (c : Call) → IsLogged log c → IsLogged (log ++ h ∷ []) c
+logged_more log h c t = record {
   invoked = (t.invoked.0, at_more log h c.invoked _ _ t.invoked.1);
   stage = stage_more log h c.stage c t.stage;
   replied = reply_more log h c.replied c t.replied;
@@ -117,7 +117,7 @@ abbrev pub KeepsFull : List Call → ℕ → ℕ → Type 0
 KeepsFull calls n c = (x : Call) × Within calls x × (x.number ≡ c) × (x.turn ≡ n) × (r : Reply) × (x.stage ≡ answered r)
 
 -- at this stage, a call that began as event n has this turn, unless a commit has replaced the turn
-abbrev pub HasTurn : Stage → ℕ → ℕ → Type 0
+abbrev pub HasTurn : CallStage → ℕ → ℕ → Type 0
 HasTurn waiting turn n = ⊥
 HasTurn (running base made) turn n = turn ≡ n
 HasTurn (ready base) turn n = turn ≡ n
@@ -206,9 +206,9 @@ keeps_more calls later n (ReplyEvent c) d a k =
 
 -- ---- all together
 
-pub record Tied (log : List Happened) (s : State) : Type 0 where
+pub record Tied (log : List Happened) (s : MachineState) : Type 0 where
   pub count : length log ≡ s.count
-  pub told : (c : Call) → Within s.calls c → IsTold log c
+  pub logged : (c : Call) → Within s.calls c → IsLogged log c
   pub kept : (k : ℕ) (h : Happened) → slice_get log k ≡ Some h → Keeps s.calls (k + 1) h.event h.done
   pub journal : BatchesOf log (commits_in log) s.journal
   pub begins : BeginsCountCommits log
@@ -223,8 +223,8 @@ pub begins_more : (log : List Happened) (e : Event) (d : Done) → BeginsCountCo
 begins_more log e d f g k c done q = ⊎_elim
     (λ o. let l = get_within log k _ o in subst (λ t. CountsCommits t c done) (sym (take_more log _ k (omega arith))) (f k c done o))
     (λ o.
-    let told = subst (CountsCommits log c) (ap (λ (h : Happened). h.done) o.1) (g.begins c (ap (λ (h : Happened). h.event) o.1)) in
-    subst (λ t. CountsCommits t c done) (sym (ap (λ n. take n (log ++ record { event = e; done = d } ∷ [])) o.0 ∙ take_whole log _)) told)
+    let logged = subst (CountsCommits log c) (ap (λ (h : Happened). h.done) o.1) (g.begins c (ap (λ (h : Happened). h.event) o.1)) in
+    subst (λ t. CountsCommits t c done) (sym (ap (λ n. take n (log ++ record { event = e; done = d } ∷ [])) o.0 ∙ take_whole log _)) logged)
     (from_get_snoc log (record { event = e; done = d }) k _ q)
 
 pub due_more : (log : List Happened) (e : Event) (d : Done) → ConflictsAreDue log → IsRightNow log e d → ConflictsAreDue (log ++ record { event = e; done = d } ∷ [])
@@ -240,15 +240,15 @@ kept_more log calls later count e d l f a now k h q = ⊎_elim
     (from_get_snoc log (record { event = e; done = d }) k h q)
 
 -- a call is replaced by its next state
-pub tied_moved : (log : List Happened) (s t : State) (r c : Call) (e : Event) (d : Done) (entry : List Batch) → Tied log s → Different (map number_of s.calls) → Within s.calls r → Carries r c → t.count ≡ s.count + 1 → t.calls ≡ with_call c s.calls → t.journal ≡ s.journal ++ entry → IsTold (log ++ record { event = e; done = d } ∷ []) c → Keeps t.calls (s.count + 1) e d → BatchesOf (log ++ record { event = e; done = d } ∷ []) (commits_in log ++ commit_of d) (s.journal ++ entry) → IsRightNow log e d → Tied (log ++ record { event = e; done = d } ∷ []) t
-tied_moved log s t r c e d entry h n w y tc tl tj told keeps batches now =
+pub tied_moved : (log : List Happened) (s t : MachineState) (r c : Call) (e : Event) (d : Done) (entry : List Batch) → Tied log s → Different (map number_of s.calls) → Within s.calls r → Carries r c → t.count ≡ s.count + 1 → t.calls ≡ with_call c s.calls → t.journal ≡ s.journal ++ entry → IsLogged (log ++ record { event = e; done = d } ∷ []) c → Keeps t.calls (s.count + 1) e d → BatchesOf (log ++ record { event = e; done = d } ∷ []) (commits_in log ++ commit_of d) (s.journal ++ entry) → IsRightNow log e d → Tied (log ++ record { event = e; done = d } ∷ []) t
+tied_moved log s t r c e d entry h n w y tc tl tj logged keeps batches now =
     let carried : AllCarried s.calls (with_call c s.calls) = λ x v. ⊎_elim
     (λ q. (c, within_new c s.calls r w (sym y.number), subst (λ z. Carries z c) (same_call s.calls r x n w v (sym y.number ∙ sym q)) y))
     (λ q. (x, within_other c s.calls x v q, carries_itself x))
     (same_or_not x.number c.number) in
     record {
       count = length-append log (record { event = e; done = d } ∷ []) ∙ (ap (λ k. k + 1) h.count ∙ sym tc);
-      told = λ x v. ⊎_elim (λ q. subst (IsTold (log ++ record { event = e; done = d } ∷ [])) (sym q) told) (λ q. told_more log _ x (h.told x q.0)) (from_with_call c s.calls x n (subst (λ l. Within l x) tl v));
+      logged = λ x v. ⊎_elim (λ q. subst (IsLogged (log ++ record { event = e; done = d } ∷ [])) (sym q) logged) (λ q. logged_more log _ x (h.logged x q.0)) (from_with_call c s.calls x n (subst (λ l. Within l x) tl v));
       kept = kept_more log s.calls t.calls s.count e d h.count h.kept (subst (AllCarried s.calls) (sym tl) carried) keeps;
       journal = subst (BatchesOf (log ++ record { event = e; done = d } ∷ []) (commits_in (log ++ record { event = e; done = d } ∷ []))) (sym tj) (subst (λ l. BatchesOf (log ++ record { event = e; done = d } ∷ []) l (s.journal ++ entry)) (sym (commits-snoc log (record { event = e; done = d }))) batches);
       begins = begins_more log e d h.begins now;

@@ -1,7 +1,7 @@
 -- What the plain book decides on a commit, as the machine uses it.
 use Rattle.std.proofs.Common.{◌≡◌, ◌+◌, ◌<◌, List, length, false, true, ◌∙◌, arith}
 use Rattle.entry_book.specs.declared.limit.Limit.{Limit}
-use Rattle.entry_book.specs.declared.reply.Outcome.TheVariants.{Refused}
+use Rattle.entry_book.specs.declared.reply.ReplyOutcome.TheVariants.{Refused}
 use Rattle.entry_book.specs.declared.reply.Refusal.TheVariants.{Full}
 use Rattle.entry_book.specs.Book.{Book}
 use Rattle.entry_book.specs.Batches.{Batch}

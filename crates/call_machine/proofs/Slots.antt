@@ -15,15 +15,15 @@ use Rattle.batch_work.specs.declared.status.Status.TheVariants.{New, Running, Re
 use Rattle.batch_work.specs.Reads.{footprint_of}
 use Rattle.batch_work.specs.Working.{Base, Work, IsAnswer, IsNextRead, awaits_there, base_in, end_status, footprint_there, reply_there, status_from, status_of}
 use Rattle.commit_head.specs.declared.item.Item.{Item}
-use Rattle.commit_head.specs.Heads.{Head, place_of}
+use Rattle.commit_head.specs.Heads.{Head, head_place}
 use Rattle.commit_head.specs.Journals.{batches_of}
 use Rattle.call_answers.specs.declared.answer.CallAnswer.TheVariants.{Replied, Conflict}
 use Rattle.call_machine.specs.declared.slot.Slot.{Slot}
 use Rattle.call_machine.specs.declared.slot.SlotState.{SlotState}
 use Rattle.call_machine.specs.declared.slot.SlotState.TheVariants.{Open, Over}
-use Rattle.call_machine.specs.Calls.{Stage, waiting, running, ready, answered, committed, conflict, answer_of, call_at, with_call, stage_on, stage_settled, stage_after, status_at}
+use Rattle.call_machine.specs.Calls.{CallStage, waiting, running, ready, answered, committed, conflict, answer_of, call_at, with_call, stage_on, stage_settled, stage_after, status_at}
 use Rattle.call_machine.specs.Laws.{is_listed, is_listed_at, turn_of}
-use Rattle.call_machine.specs.Kept.{AllRest, AnsweredWhenSettled, BeganInside, BeganWithin, IsOn, IsOver, IsWhole, RestsOn, SlotBegins, SlotRests, SlotSteps, StateRests, call_kept, calls_kept, domain_of, is_listed_entry, is_listed_state, journal_of, new_slot, stage_from, stage_kept, stage_of_slot, stage_over, stage_replied, turn_of_entry}
+use Rattle.call_machine.specs.Kept.{AllRest, AnsweredWhenSettled, BaseIsInJournal, BeganWithin, IsOn, IsOverSlot, HasWholeJournal, RestsOn, SlotBegins, SlotRests, SlotSteps, StateRests, call_kept, calls_kept, head_domain, is_listed_entry, is_listed_state, journal_of, new_slot, stage_from, stage_kept, stage_of_slot, stage_over, stage_replied, turn_of_entry}
 use Rattle.call_machine.proofs.Heads.{began_there, began_still, place_is}
 
 -- ---- the stage of a work
@@ -133,14 +133,14 @@ open_status s w r q e = status_is w ∙ (ap (λ s. status_at (stage_kept s)) (sy
 pub gone_is : (w : Work) (reply : Reply) → status_of w ≡ Settled → IsAnswer w reply → stage_over (Replied reply) ≡ stage_kept (Open w)
 gone_is w reply s a = let is = settled_is w reply s a in ap (λ b. stage_replied b reply) is.0 ∙ sym is.1
 
-pub over_answered : (s : SlotState) → IsOver s → AnsweredWhenSettled s
+pub over_answered : (s : SlotState) → IsOverSlot s → AnsweredWhenSettled s
 over_answered (Open w) i = absurd i
 over_answered (Over a) i = tt
 
 -- ---- which calls are listed
 
 -- a call without an answer isn't listed
-unanswered : (g : Stage) (replied : Option ℕ) → answer_of g ≡ None → is_listed_at g replied ≡ false
+unanswered : (g : CallStage) (replied : Option ℕ) → answer_of g ≡ None → is_listed_at g replied ≡ false
 unanswered waiting replied e = refl
 unanswered (running base made) replied e = refl
 unanswered (ready base) replied e = refl
@@ -158,11 +158,11 @@ listed_is (Open w) replied f = unanswered (stage_kept (Open w)) replied (unsettl
 listed_is (Over (Replied r)) replied f = listed_reply (is_committed r.outcome) r replied
 listed_is (Over (Conflict n)) replied f = refl
 
-pub listed_turns : (own : Bytes) (items : List Item) (es : List (ℕ × Slot)) → AllRest own items es → map turn_of_entry (filter is_listed_entry es) ≡ map turn_of (filter is_listed (calls_kept es))
-listed_turns own items [] a = refl
-listed_turns own items (e ∷ es) a =
+pub listed_turns : (own_domain : Bytes) (items : List Item) (es : List (ℕ × Slot)) → AllRest own_domain items es → map turn_of_entry (filter is_listed_entry es) ≡ map turn_of (filter is_listed (calls_kept es))
+listed_turns own_domain items [] a = refl
+listed_turns own_domain items (e ∷ es) a =
     let same : is_listed (call_kept e.0 e.1) ≡ is_listed_entry e = listed_is e.1.state e.1.replied a.0.answered in
-    let rest = listed_turns own items es a.1 in
+    let rest = listed_turns own_domain items es a.1 in
     elim (is_listed_entry e) as (λ b. is_listed (call_kept e.0 e.1) ≡ b → map turn_of_entry (cond b (e ∷ filter is_listed_entry es) (filter is_listed_entry es)) ≡ map turn_of (cond (is_listed (call_kept e.0 e.1)) (call_kept e.0 e.1 ∷ filter is_listed (calls_kept es)) (filter is_listed (calls_kept es)))) [
       | true ↦ λ t. ap (λ l. turn_of_entry e ∷ l) rest ∙ sym (ap (λ b. map turn_of (cond b (call_kept e.0 e.1 ∷ filter is_listed (calls_kept es)) (filter is_listed (calls_kept es)))) t)
       | false ↦ λ t. rest ∙ sym (ap (λ b. map turn_of (cond b (call_kept e.0 e.1 ∷ filter is_listed (calls_kept es)) (filter is_listed (calls_kept es)))) t)
@@ -174,19 +174,19 @@ pub call_moved : (n : ℕ) (old later : Slot) (turn : ℕ) → later.batch ≡ o
 call_moved n old later turn a b c d = λ i. record { number = n; batch = a i; stage = stage_of_slot later; invoked = b i; turn = c i; replied = d i }
 
 -- a new call satisfies the invariant on any journal of its trust domain
-pub new_rests : (own : Bytes) (items : List Item) (slot : Slot) (batch : Batch) (invoked : ℕ) → IsMadeFor own batch → slot ≡ new_slot batch invoked → SlotRests own items slot
-new_rests own items slot batch invoked d e = subst (SlotRests own items) (sym e) (record { made = d; state = (record { made = d; began = refl }, refl); answered = isnt })
+pub new_rests : (own_domain : Bytes) (items : List Item) (slot : Slot) (batch : Batch) (invoked : ℕ) → IsMadeFor own_domain batch → slot ≡ new_slot batch invoked → SlotRests own_domain items slot
+new_rests own_domain items slot batch invoked d e = subst (SlotRests own_domain items) (sym e) (record { made = d; state = (record { made = d; began = refl }, refl); answered = isnt })
   where
     isnt : New ≡ Settled → ⊥
     isnt e = cc
 
-over_rests : (own : Bytes) (items : List Item) (batch : Batch) (s : SlotState) → IsOver s → StateRests own items batch s
-over_rests own items batch (Open w) i = absurd i
-over_rests own items batch (Over a) i = tt
+over_rests : (own_domain : Bytes) (items : List Item) (batch : Batch) (s : SlotState) → IsOverSlot s → StateRests own_domain items batch s
+over_rests own_domain items batch (Open w) i = absurd i
+over_rests own_domain items batch (Over a) i = tt
 
 -- and so does one that is over
-pub ended_rests : (own : Bytes) (items : List Item) (slot : Slot) → IsMadeFor own slot.batch → IsOver slot.state → SlotRests own items slot
-ended_rests own items slot d i = record { made = d; state = over_rests own items slot.batch slot.state i; answered = over_answered slot.state i }
+pub ended_rests : (own_domain : Bytes) (items : List Item) (slot : Slot) → IsMadeFor own_domain slot.batch → IsOverSlot slot.state → SlotRests own_domain items slot
+ended_rests own_domain items slot d i = record { made = d; state = over_rests own_domain items slot.batch slot.state i; answered = over_answered slot.state i }
 
 -- ---- a map of calls
 
@@ -214,86 +214,86 @@ set_same n slot (e ∷ es) =
       | false ↦ λ h. ap (λ l. e ∷ l) (set_same n slot es h)
     ]
 
-pub rest_set : (own : Bytes) (items : List Item) (n : ℕ) (slot : Slot) (es : List (ℕ × Slot)) → AllRest own items es → SlotRests own items slot → AllRest own items (set_value (nat_eq n) es slot)
-rest_set own items n slot [] a r = tt
-rest_set own items n slot (e ∷ es) a r =
-    elim (nat_eq n e.0) as (λ b. AllRest own items (cond b ((e.0, slot) ∷ es) (e ∷ set_value (nat_eq n) es slot))) [
+pub rest_set : (own_domain : Bytes) (items : List Item) (n : ℕ) (slot : Slot) (es : List (ℕ × Slot)) → AllRest own_domain items es → SlotRests own_domain items slot → AllRest own_domain items (set_value (nat_eq n) es slot)
+rest_set own_domain items n slot [] a r = tt
+rest_set own_domain items n slot (e ∷ es) a r =
+    elim (nat_eq n e.0) as (λ b. AllRest own_domain items (cond b ((e.0, slot) ∷ es) (e ∷ set_value (nat_eq n) es slot))) [
       | true ↦ (r, a.1)
-      | false ↦ (a.0, rest_set own items n slot es a.1 r)
+      | false ↦ (a.0, rest_set own_domain items n slot es a.1 r)
     ]
 
-pub rests_at : (own : Bytes) (items : List Item) (n : ℕ) (es : List (ℕ × Slot)) (slot : Slot) → AllRest own items es → lookup (nat_eq n) es ≡ Some slot → SlotRests own items slot
-rests_at own items n [] slot a = λ h. cc
-rests_at own items n (e ∷ es) slot a =
-    elim (nat_eq n e.0) as (λ b. cond b (Some e.1) (lookup (nat_eq n) es) ≡ Some slot → SlotRests own items slot) [
-      | true ↦ λ h. let q : e.1 ≡ slot = cc in subst (SlotRests own items) q a.0
-      | false ↦ λ h. rests_at own items n es slot a.1 h
+pub rests_at : (own_domain : Bytes) (items : List Item) (n : ℕ) (es : List (ℕ × Slot)) (slot : Slot) → AllRest own_domain items es → lookup (nat_eq n) es ≡ Some slot → SlotRests own_domain items slot
+rests_at own_domain items n [] slot a = λ h. cc
+rests_at own_domain items n (e ∷ es) slot a =
+    elim (nat_eq n e.0) as (λ b. cond b (Some e.1) (lookup (nat_eq n) es) ≡ Some slot → SlotRests own_domain items slot) [
+      | true ↦ λ h. let q : e.1 ≡ slot = cc in subst (SlotRests own_domain items) q a.0
+      | false ↦ λ h. rests_at own_domain items n es slot a.1 h
     ]
 
-began_more : (own : Bytes) (items more : List Item) (batch : Batch) (n : ℕ) (o : Option Base) → BeganWithin own items batch n o → BeganWithin own (items ++ more) batch n o
-began_more own items more batch n None b = b
-began_more own items more batch n (Some base) b = began_still own items more batch base b
+began_more : (own_domain : Bytes) (items more : List Item) (batch : Batch) (n : ℕ) (o : Option Base) → BeganWithin own_domain items batch n o → BeganWithin own_domain (items ++ more) batch n o
+began_more own_domain items more batch n None b = b
+began_more own_domain items more batch n (Some base) b = began_still own_domain items more batch base b
 
-state_more : (own : Bytes) (items more : List Item) (batch : Batch) (s : SlotState) → StateRests own items batch s → StateRests own (items ++ more) batch s
-state_more own items more batch (Open w) r = (record { made = r.0.made; began = began_more own items more w.batch w.steps w.base r.0.began }, r.1)
-state_more own items more batch (Over a) r = tt
+state_more : (own_domain : Bytes) (items more : List Item) (batch : Batch) (s : SlotState) → StateRests own_domain items batch s → StateRests own_domain (items ++ more) batch s
+state_more own_domain items more batch (Open w) r = (record { made = r.0.made; began = began_more own_domain items more w.batch w.steps w.base r.0.began }, r.1)
+state_more own_domain items more batch (Over a) r = tt
 
-rests_more : (own : Bytes) (items more : List Item) (slot : Slot) → SlotRests own items slot → SlotRests own (items ++ more) slot
-rests_more own items more slot r = record { made = r.made; state = state_more own items more slot.batch slot.state r.state; answered = r.answered }
+rests_more : (own_domain : Bytes) (items more : List Item) (slot : Slot) → SlotRests own_domain items slot → SlotRests own_domain (items ++ more) slot
+rests_more own_domain items more slot r = record { made = r.made; state = state_more own_domain items more slot.batch slot.state r.state; answered = r.answered }
 
-pub all_rest_more : (own : Bytes) (items more : List Item) (es : List (ℕ × Slot)) → AllRest own items es → AllRest own (items ++ more) es
-all_rest_more own items more [] a = tt
-all_rest_more own items more (e ∷ es) a = (rests_more own items more e.1 a.0, all_rest_more own items more es a.1)
+pub all_rest_more : (own_domain : Bytes) (items more : List Item) (es : List (ℕ × Slot)) → AllRest own_domain items es → AllRest own_domain (items ++ more) es
+all_rest_more own_domain items more [] a = tt
+all_rest_more own_domain items more (e ∷ es) a = (rests_more own_domain items more e.1 a.0, all_rest_more own_domain items more es a.1)
 
 -- ---- begin and step
 
-pub open_rests : (own : Bytes) (items : List Item) (batch : Batch) (s : SlotState) (w : Work) → StateRests own items batch s → s ≡ Open w → RestsOn own items w × (w.batch ≡ batch)
-open_rests own items batch s w r e = subst (StateRests own items batch) e r
+pub open_rests : (own_domain : Bytes) (items : List Item) (batch : Batch) (s : SlotState) (w : Work) → StateRests own_domain items batch s → s ≡ Open w → RestsOn own_domain items w × (w.batch ≡ batch)
+open_rests own_domain items batch s w r e = subst (StateRests own_domain items batch) e r
 
 -- a work that was open, and may be over now
-state_rests : (own : Bytes) (items : List Item) (batch : Batch) (w : Work) (s : SlotState) → RestsOn own items w → w.batch ≡ batch → (s ≡ Open w) ⊎ IsOver s → StateRests own items batch s
-state_rests own items batch w s rests same kept = ⊎_elim (λ e. subst (StateRests own items batch) (sym e) (rests, same)) (λ i. over_rests own items batch s i) kept
+state_rests : (own_domain : Bytes) (items : List Item) (batch : Batch) (w : Work) (s : SlotState) → RestsOn own_domain items w → w.batch ≡ batch → (s ≡ Open w) ⊎ IsOverSlot s → StateRests own_domain items batch s
+state_rests own_domain items batch w s rests same kept = ⊎_elim (λ e. subst (StateRests own_domain items batch) (sym e) (rests, same)) (λ i. over_rests own_domain items batch s i) kept
 
-pub slot_begun : (h : Head) (old later : Slot) (w work : Work) (turn : ℕ) (status : Status) → IsWhole h → SlotRests (domain_of h) h.kept old → old.state ≡ Open w → status_of w ≡ New → work ≡ record w { base = Some (base_in w.batch h.window) } → stage_of_slot later ≡ stage_kept (Open work) → AnsweredWhenSettled later.state → (later.state ≡ Open work) ⊎ IsOver later.state → later.batch ≡ old.batch → later.invoked ≡ old.invoked → later.turn ≡ turn → later.replied ≡ old.replied → status ≡ status_at (stage_of_slot later) → SlotBegins h old turn status later
-slot_begun h old later w work turn status whole rests is_open fresh made stage has kept b i t p told =
-    let there = open_rests (domain_of h) h.kept old.batch old.state w rests.state is_open in
+pub slot_begun : (h : Head) (old later : Slot) (w work : Work) (turn : ℕ) (status : Status) → HasWholeJournal h → SlotRests (head_domain h) h.kept old → old.state ≡ Open w → status_of w ≡ New → work ≡ record w { base = Some (base_in w.batch h.window) } → stage_of_slot later ≡ stage_kept (Open work) → AnsweredWhenSettled later.state → (later.state ≡ Open work) ⊎ IsOverSlot later.state → later.batch ≡ old.batch → later.invoked ≡ old.invoked → later.turn ≡ turn → later.replied ≡ old.replied → status ≡ status_at (stage_of_slot later) → SlotBegins h old turn status later
+slot_begun h old later w work turn status whole rests is_open fresh made stage has kept b i t p logged =
+    let there = open_rests (head_domain h) h.kept old.batch old.state w rests.state is_open in
     let no_base = new_is w fresh in
     let base = base_in w.batch h.window in
     let began = began_there h w.batch whole in
-    let none : w.steps ≡ 0 = subst (λ o. BeganWithin (domain_of h) h.kept w.batch w.steps o) no_base there.0.began in
-    let number : place_of h ≡ length (journal_of h) = place_is h whole in
+    let none : w.steps ≡ 0 = subst (λ o. BeganWithin (head_domain h) h.kept w.batch w.steps o) no_base there.0.began in
+    let number : head_place h ≡ length (journal_of h) = place_is h whole in
     let on : stage_kept (Open work) ≡ stage_from (Some base) w.batch 0 = ap (λ w. stage_kept (Open w)) made ∙ ap (stage_from (Some base) w.batch) none in
     record {
       in_turn = ap stage_kept is_open ∙ ap (λ o. stage_from o w.batch w.steps) no_base;
-      stage = stage ∙ (on ∙ (stage_is w.batch base (books_of (take (place_of h) (journal_of h))) 0 began.is_on ∙ λ j. stage_after (there.1 j) (journal_of h) (number j) 0));
-      told = told;
+      stage = stage ∙ (on ∙ (stage_is w.batch base (books_of (take (head_place h) (journal_of h))) 0 began.is_on ∙ λ j. stage_after (there.1 j) (journal_of h) (number j) 0));
+      logged = logged;
       batch = b;
       invoked = i;
       turn_is = t;
       replied = p;
       rests = record {
-        made = subst (IsMadeFor (domain_of h)) (sym b) rests.made;
-        state = state_rests (domain_of h) h.kept later.batch work later.state
-            (subst (RestsOn (domain_of h) h.kept) (sym made) (record { made = there.0.made; began = began }))
+        made = subst (IsMadeFor (head_domain h)) (sym b) rests.made;
+        state = state_rests (head_domain h) h.kept later.batch work later.state
+            (subst (RestsOn (head_domain h) h.kept) (sym made) (record { made = there.0.made; began = began }))
             (ap (λ (w : Work). w.batch) made ∙ (there.1 ∙ sym b))
             kept;
         answered = has;
       };
     }
 
-pub began_at : (own : Bytes) (items : List Item) (w : Work) (base : Base) → RestsOn own items w → w.base ≡ Some base → BeganInside own items w.batch base
-began_at own items w base r e = subst (λ o. BeganWithin own items w.batch w.steps o) e r.began
+pub began_at : (own_domain : Bytes) (items : List Item) (w : Work) (base : Base) → RestsOn own_domain items w → w.base ≡ Some base → BaseIsInJournal own_domain items w.batch base
+began_at own_domain items w base r e = subst (λ o. BeganWithin own_domain items w.batch w.steps o) e r.began
 
 next_read : (w : Work) (base : Base) (mark : MarkKind) → w.base ≡ Some base → IsNextRead w mark → slice_get (footprint_there w.batch base) w.steps ≡ Some mark
 next_read w base mark e r = rw e at r
 
-pub slot_stepped : (own : Bytes) (items : List Item) (old later : Slot) (w work : Work) (mark : MarkKind) (status : Status) → SlotRests own items old → old.state ≡ Open w → status_of w ≡ Running → IsNextRead w mark → work ≡ record w { steps = w.steps + 1 } → stage_of_slot later ≡ stage_kept (Open work) → AnsweredWhenSettled later.state → (later.state ≡ Open work) ⊎ IsOver later.state → later.batch ≡ old.batch → later.invoked ≡ old.invoked → later.turn ≡ old.turn → later.replied ≡ old.replied → status ≡ status_at (stage_of_slot later) → SlotSteps own items old mark status later
-slot_stepped own items old later w work mark status rests is_open runs read made stage has kept b i t p told =
-    let there = open_rests own items old.batch old.state w rests.state is_open in
+pub slot_stepped : (own_domain : Bytes) (items : List Item) (old later : Slot) (w work : Work) (mark : MarkKind) (status : Status) → SlotRests own_domain items old → old.state ≡ Open w → status_of w ≡ Running → IsNextRead w mark → work ≡ record w { steps = w.steps + 1 } → stage_of_slot later ≡ stage_kept (Open work) → AnsweredWhenSettled later.state → (later.state ≡ Open work) ⊎ IsOverSlot later.state → later.batch ≡ old.batch → later.invoked ≡ old.invoked → later.turn ≡ old.turn → later.replied ≡ old.replied → status ≡ status_at (stage_of_slot later) → SlotSteps own_domain items old mark status later
+slot_stepped own_domain items old later w work mark status rests is_open runs read made stage has kept b i t p logged =
+    let there = open_rests own_domain items old.batch old.state w rests.state is_open in
     let reading = reading_is w runs in
     let base = reading.base in
     let books = books_of (take base.newest.number (batches_of items)) in
-    let began = began_at own items w base there.0 reading.base_is in
+    let began = began_at own_domain items w base there.0 reading.base_is in
     let on : stage_kept (Open work) ≡ stage_from (Some base) w.batch (w.steps + 1) = ap (λ w. stage_kept (Open w)) made ∙ ap (λ o. stage_from o w.batch (w.steps + 1)) reading.base_is in
     record {
       base = base.newest.number;
@@ -301,15 +301,15 @@ slot_stepped own items old later w work mark status rests is_open runs read made
       in_turn = ap stage_kept is_open ∙ reading.stage;
       mark_is = ap (λ x. slice_get (footprint_of x books) w.steps) (sym there.1) ∙ (ap (λ l. slice_get l w.steps) (sym began.is_on.reads) ∙ next_read w base mark reading.base_is read);
       stage = stage ∙ (on ∙ (stage_is w.batch base books (w.steps + 1) began.is_on ∙ ap (λ x. stage_on x books base.newest.number (w.steps + 1)) there.1));
-      told = told;
+      logged = logged;
       batch = b;
       invoked = i;
       turn = t;
       replied = p;
       rests = record {
-        made = subst (IsMadeFor own) (sym b) rests.made;
-        state = state_rests own items later.batch work later.state
-            (subst (RestsOn own items) (sym made) (record { made = there.0.made; began = subst (λ o. BeganWithin own items w.batch (w.steps + 1) o) (sym reading.base_is) began }))
+        made = subst (IsMadeFor own_domain) (sym b) rests.made;
+        state = state_rests own_domain items later.batch work later.state
+            (subst (RestsOn own_domain items) (sym made) (record { made = there.0.made; began = subst (λ o. BeganWithin own_domain items w.batch (w.steps + 1) o) (sym reading.base_is) began }))
             (ap (λ (w : Work). w.batch) made ∙ (there.1 ∙ sym b))
             kept;
         answered = has;

@@ -8,7 +8,7 @@ use Rattle.entry_book.specs.Order.{Within}
 use Rattle.entry_book.specs.Batches.{Batch}
 use Rattle.entry_book.proofs.Sets.{within_left, within_right, from_within_append}
 use Rattle.call_machine.specs.Schedules.{Different}
-use Rattle.call_machine.specs.Calls.{Call, State, with_call, moved, answer_of}
+use Rattle.call_machine.specs.Calls.{Call, MachineState, with_call, moved, answer_of}
 use Rattle.call_machine.specs.Kept.{AscendingTurns, number_of}
 use Rattle.call_machine.proofs.Lists.{split_at}
 use Rattle.call_machine.proofs.Rows.{same_call, within_new, within_other, from_with_call, numbers-with_call, one_number_more}
@@ -30,7 +30,7 @@ stamped_more count c s = record {
 
 -- ---- all together
 
-pub record Sound (s : State) : Type 0 where
+pub record Sound (s : MachineState) : Type 0 where
   -- the calls that have begun and met no conflict, in the order of their turns
   pub line : List Call
   pub members : (c : Call) → Within line c ↔ (Within s.calls c × (is_begun c.stage ≡ true))
@@ -109,7 +109,7 @@ within_snoc xs c x = (
 -- ---- the steps
 
 -- a call that isn't in the line, before and after
-pub kept_aside : (s : State) (r c : Call) → Sound s → Within s.calls r → c.number ≡ r.number → is_begun r.stage ≡ false → is_begun c.stage ≡ false → Stamped (s.count + 1) c → Sound (moved c s)
+pub kept_aside : (s : MachineState) (r c : Call) → Sound s → Within s.calls r → c.number ≡ r.number → is_begun r.stage ≡ false → is_begun c.stage ≡ false → Stamped (s.count + 1) c → Sound (moved c s)
 kept_aside s r c h w n b d k = record {
   line = h.line;
   members = members_without s.calls h.line r c h.numbers w n (rest_same s.calls h.line r h.numbers h.members w b) d;
@@ -121,7 +121,7 @@ kept_aside s r c h w n b d k = record {
 }
 
 -- a call joins the line at its end
-pub joined : (s : State) (r c : Call) → Sound s → Within s.calls r → c.number ≡ r.number → is_begun r.stage ≡ false → is_begun c.stage ≡ true → entered c.stage c.batch ≡ [] → c.turn ≡ s.count + 1 → StageFits c.stage c.batch s.journal → Stamped (s.count + 1) c → Sound (moved c s)
+pub joined : (s : MachineState) (r c : Call) → Sound s → Within s.calls r → c.number ≡ r.number → is_begun r.stage ≡ false → is_begun c.stage ≡ true → entered c.stage c.batch ≡ [] → c.turn ≡ s.count + 1 → StageFits c.stage c.batch s.journal → Stamped (s.count + 1) c → Sound (moved c s)
 joined s r c h w n b d e t f k = record {
   line = h.line ++ c ∷ [];
   members = members_with s.calls h.line (h.line ++ c ∷ []) r c h.numbers w n (rest_same s.calls h.line r h.numbers h.members w b) d (within_snoc h.line c);
@@ -133,7 +133,7 @@ joined s r c h w n b d e t f k = record {
 }
 
 -- the line before and after a call that has begun
-record Round (s : State) (r : Call) : Type 0 where
+record Round (s : MachineState) (r : Call) : Type 0 where
   front : List Call
   rest : List Call
   members : (c : Call) → Within (front ++ r ∷ rest) c ↔ (Within s.calls c × (is_begun c.stage ≡ true))
@@ -141,7 +141,7 @@ record Round (s : State) (r : Call) : Type 0 where
   fits : Fits [] (front ++ r ∷ rest)
   journal : s.journal ≡ journal_in (front ++ r ∷ rest)
 
-round : (s : State) (r : Call) → Sound s → Within s.calls r → is_begun r.stage ≡ true → Round s r
+round : (s : MachineState) (r : Call) → Sound s → Within s.calls r → is_begun r.stage ≡ true → Round s r
 round s r h w b =
     let p = split_at h.line r ((h.members r).1 (w, b)) in
     record {
@@ -154,7 +154,7 @@ round s r h w b =
     }
 
 -- a call keeps its index in the line
-pub stayed : (s : State) (r c : Call) → Sound s → Within s.calls r → c.number ≡ r.number → is_begun r.stage ≡ true → is_begun c.stage ≡ true → entered c.stage c.batch ≡ entered r.stage r.batch → c.turn ≡ r.turn → ((journal : List Batch) → take (length journal) s.journal ≡ journal → StageFits r.stage r.batch journal → StageFits c.stage c.batch journal) → Stamped (s.count + 1) c → Sound (moved c s)
+pub stayed : (s : MachineState) (r c : Call) → Sound s → Within s.calls r → c.number ≡ r.number → is_begun r.stage ≡ true → is_begun c.stage ≡ true → entered c.stage c.batch ≡ entered r.stage r.batch → c.turn ≡ r.turn → ((journal : List Batch) → take (length journal) s.journal ≡ journal → StageFits r.stage r.batch journal → StageFits c.stage c.batch journal) → Stamped (s.count + 1) c → Sound (moved c s)
 stayed s r c h w n b d e t f k =
     let o = round s r h w b in
     let seam : take (length (journal_in o.front)) s.journal ≡ journal_in o.front =
@@ -170,7 +170,7 @@ stayed s r c h w n b d e t f k =
     }
 
 -- a call moves to the end of the line, and may enter the journal
-pub went_last : (s : State) (r c : Call) → Sound s → Within s.calls r → c.number ≡ r.number → is_begun r.stage ≡ true → is_begun c.stage ≡ true → entered r.stage r.batch ≡ [] → c.turn ≡ s.count + 1 → StageFits c.stage c.batch s.journal → Stamped (s.count + 1) c → Sound (record (moved c s) { journal = s.journal ++ entered c.stage c.batch })
+pub went_last : (s : MachineState) (r c : Call) → Sound s → Within s.calls r → c.number ≡ r.number → is_begun r.stage ≡ true → is_begun c.stage ≡ true → entered r.stage r.batch ≡ [] → c.turn ≡ s.count + 1 → StageFits c.stage c.batch s.journal → Stamped (s.count + 1) c → Sound (record (moved c s) { journal = s.journal ++ entered c.stage c.batch })
 went_last s r c h w n b d e t f k =
     let o = round s r h w b in
     let same : s.journal ≡ journal_in (o.front ++ o.rest) = o.journal ∙ sym (journal_without o.front o.rest r e) in
@@ -186,7 +186,7 @@ went_last s r c h w n b d e t f k =
     }
 
 -- a call leaves the line
-pub left : (s : State) (r c : Call) → Sound s → Within s.calls r → c.number ≡ r.number → is_begun r.stage ≡ true → is_begun c.stage ≡ false → entered r.stage r.batch ≡ [] → Stamped (s.count + 1) c → Sound (moved c s)
+pub left : (s : MachineState) (r c : Call) → Sound s → Within s.calls r → c.number ≡ r.number → is_begun r.stage ≡ true → is_begun c.stage ≡ false → entered r.stage r.batch ≡ [] → Stamped (s.count + 1) c → Sound (moved c s)
 left s r c h w n b d e k =
     let o = round s r h w b in
     record {
@@ -200,7 +200,7 @@ left s r c h w n b d e k =
     }
 
 -- a new call
-pub came : (s : State) (c : Call) → Sound s → ((x : Call) → Within s.calls x → x.number ≡ c.number → ⊥) → is_begun c.stage ≡ false → Stamped (s.count + 1) c → Sound (record s { count = s.count + 1; calls = s.calls ++ c ∷ [] })
+pub came : (s : MachineState) (c : Call) → Sound s → ((x : Call) → Within s.calls x → x.number ≡ c.number → ⊥) → is_begun c.stage ≡ false → Stamped (s.count + 1) c → Sound (record s { count = s.count + 1; calls = s.calls ++ c ∷ [] })
 came s c h f b k = record {
   line = h.line;
   members = λ x. (

@@ -12,7 +12,7 @@ use Rattle.entry_book.specs.Order.{Within}
 use Rattle.entry_book.proofs.Sets.{All-within, All-from_within, within_filter, from_within_filter}
 use Rattle.call_machine.specs.Schedules.{Different}
 use Rattle.call_machine.specs.Calls.{Call}
-use Rattle.call_machine.specs.Laws.{is_listed, turn_of, turn_in, number_in}
+use Rattle.call_machine.specs.Laws.{is_listed, turn_of, turn_in, number_of_turn}
 use Rattle.call_machine.specs.Kept.{AscendingTurns, number_of}
 
 -- ---- ascending pairs
@@ -151,6 +151,6 @@ turns_are calls line turns d a m p n =
     (λ x w. let r = from_within_turns cs x (All-within (Within (map turn_of cs)) turns x back w) in subst (Within (map turn_of line)) r.2 (within_turns line r.0 (to_line r.0 r.1)))
     (λ x w. let r = from_within_turns line x w in All-within (Within turns) (map turn_of cs) x forth (subst (Within (map turn_of cs)) r.2 (within_turns cs r.0 (from_line r.0 r.1))))
 
-pub numbers_are : (cs : List Call) → map number_in (map turn_of cs) ≡ map number_of cs
+pub numbers_are : (cs : List Call) → map number_of_turn (map turn_of cs) ≡ map number_of cs
 numbers_are [] = refl
 numbers_are (c ∷ cs) = ap (λ l. c.number ∷ l) (numbers_are cs)

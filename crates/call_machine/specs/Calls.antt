@@ -12,21 +12,21 @@ use Rattle.call_answers.specs.declared.answer.CallAnswer.{CallAnswer}
 use Rattle.call_answers.specs.declared.answer.CallAnswer.TheVariants.{Replied, Conflict}
 
 -- The state of a call; `base` is the place at which it began.
-pub data Stage : Type 0 where
-  waiting : Stage
+pub data CallStage : Type 0 where
+  waiting : CallStage
   -- it has made this number of its reads
-  running : (base made : ℕ) → Stage
+  running : (base made : ℕ) → CallStage
   -- its changes are ready to commit
-  ready : (base : ℕ) → Stage
+  ready : (base : ℕ) → CallStage
   -- it is settled with this reply, or its commit was refused by a limit
-  answered : Reply → Stage
-  committed : Reply → Stage
-  conflict : (place : ℕ) → Stage
+  answered : Reply → CallStage
+  committed : Reply → CallStage
+  conflict : (place : ℕ) → CallStage
 
 pub record Call : Type 0 where
   pub number : ℕ
   pub batch : Batch
-  pub stage : Stage
+  pub stage : CallStage
   -- the accepted number of its invoke
   pub invoked : ℕ
   -- that of its begin, or of its commit once that was decided; 0 before
@@ -34,7 +34,7 @@ pub record Call : Type 0 where
   -- that of its reply, if it has replied
   pub replied : Option ℕ
 
-pub record State : Type 0 where
+pub record MachineState : Type 0 where
   pub domain : Bytes
   -- the committed batches, in order
   pub journal : List Batch
@@ -43,8 +43,8 @@ pub record State : Type 0 where
   -- the calls, in the order of their invokes
   pub calls : List Call
 
-abbrev pub first_state : Bytes → State
-first_state own = record { domain = own; journal = []; count = 0; calls = [] }
+abbrev pub first_machine : Bytes → MachineState
+first_machine own_domain = record { domain = own_domain; journal = []; count = 0; calls = [] }
 
 abbrev pub call_at : ℕ → List Call → Option Call
 call_at n [] = None
@@ -56,13 +56,13 @@ with_call c [] = []
 with_call c (d ∷ ds) = if nat_eq c.number d.number then c ∷ ds else d ∷ with_call c ds
 
 -- one more event is accepted, and this call replaces the one of its number
-abbrev pub moved : Call → State → State
+abbrev pub moved : Call → MachineState → MachineState
 moved c s = record s { count = s.count + 1; calls = with_call c s.calls }
 
 -- ---- stages
 
 -- the call's answer, if it has one
-abbrev pub answer_of : Stage → Option CallAnswer
+abbrev pub answer_of : CallStage → Option CallAnswer
 answer_of waiting = None
 answer_of (running base made) = None
 answer_of (ready base) = None
@@ -70,7 +70,7 @@ answer_of (answered r) = Some (Replied r)
 answer_of (committed r) = Some (Replied r)
 answer_of (conflict n) = Some (Conflict n)
 
-abbrev pub status_at : Stage → Status
+abbrev pub status_at : CallStage → Status
 status_at waiting = New
 status_at (running base made) = Running
 status_at (ready base) = Ready
@@ -79,14 +79,14 @@ status_at (committed r) = Settled
 status_at (conflict n) = Settled
 
 -- the stage of a batch after its last read: ready if it has changes to commit, and otherwise answered with its reply
-abbrev pub stage_settled : Bool → ℕ → Reply → Stage
+abbrev pub stage_settled : Bool → ℕ → Reply → CallStage
 stage_settled true base reply = ready base
 stage_settled false base reply = answered reply
 
 -- the stage of a batch on these books after this number of reads
-abbrev pub stage_on : Batch → List Book → ℕ → ℕ → Stage
+abbrev pub stage_on : Batch → List Book → ℕ → ℕ → CallStage
 stage_on batch books base made = if nat_lt made (length (footprint_of batch books)) then running base made else stage_settled (awaits_commit batch books) base (reply_to batch books)
 
 -- the same on the books up to its base, of these committed batches
-abbrev pub stage_after : Batch → List Batch → ℕ → ℕ → Stage
+abbrev pub stage_after : Batch → List Batch → ℕ → ℕ → CallStage
 stage_after batch journal base made = stage_on batch (books_of (take base journal)) base made

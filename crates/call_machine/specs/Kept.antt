@@ -2,7 +2,7 @@
 use Rattle.std.specs.Prelude.{◌≡◌, ℕ, ◌+◌, ◌≤◌, ◌^◌, Bool, true, false, ◌&&◌, ◌||◌, ⊤, ◌⊎◌, List, ◌∷◌, ◌++◌, [], map, length, take, slice_get, nat_lt, Option, Some, None, Result, Ok, Err, is_none, is_some, if◌then◌else◌, ◌<◌}
 use Rattle.std.specs.List.{AllByRecursion}
 use Rattle.entry_book.specs.declared.limit.Limit.{Limit}
-use Rattle.entry_book.specs.declared.reply.Outcome.TheVariants.{Committed, Refused}
+use Rattle.entry_book.specs.declared.reply.ReplyOutcome.TheVariants.{Committed, Refused}
 use Rattle.entry_book.specs.declared.reply.Refusal.TheVariants.{Full}
 use Rattle.entry_book.specs.Rows.{Bytes}
 use Rattle.entry_book.specs.Book.{Book}
@@ -15,8 +15,8 @@ use Rattle.batch_work.specs.declared.status.Status.TheVariants.{Settled}
 use Rattle.batch_work.specs.Reads.{footprint_of, awaits_commit}
 use Rattle.batch_work.specs.Working.{Base, Work, footprint_there, awaits_there, reply_there, status_of}
 use Rattle.commit_head.specs.declared.item.Item.{Item}
-use Rattle.commit_head.specs.Heads.{Head, IsAppended, IsJournal, place_of}
-use Rattle.commit_head.specs.Journals.{Leads, batches_of, first_state}
+use Rattle.commit_head.specs.Heads.{Head, IsAppended, IsJournal, head_place}
+use Rattle.commit_head.specs.Journals.{Leads, batches_of, empty_version}
 use Rattle.call_answers.specs.declared.answer.CallAnswer.{CallAnswer}
 use Rattle.call_answers.specs.declared.answer.CallAnswer.TheVariants.{Replied, Conflict}
 use Rattle.call_answers.specs.declared.answer.Decision.{Decision}
@@ -28,40 +28,40 @@ use Rattle.call_events.specs.declared.event.EventRefusal.TheVariants.{NotNow, No
 use Rattle.call_machine.specs.declared.slot.Slot.{Slot}
 use Rattle.call_machine.specs.declared.slot.SlotState.{SlotState}
 use Rattle.call_machine.specs.declared.slot.SlotState.TheVariants.{Open, Over}
-use Rattle.call_machine.specs.Schedules.{Answer, IsDue}
-use Rattle.call_machine.specs.Calls.{Stage, waiting, running, ready, answered, committed, conflict, Call, State, stage_settled, stage_after, status_at}
+use Rattle.call_machine.specs.Schedules.{EventAnswer, IsDue}
+use Rattle.call_machine.specs.Calls.{CallStage, waiting, running, ready, answered, committed, conflict, Call, MachineState, stage_settled, stage_after, status_at}
 use Rattle.call_machine.specs.Machine.{is_waiting, is_ready, is_running, is_over}
 
 -- ---- a call
 
 -- the stage of a work with this base after n reads
-abbrev pub stage_from : Option Base → Batch → ℕ → Stage
+abbrev pub stage_from : Option Base → Batch → ℕ → CallStage
 stage_from None batch n = waiting
 stage_from (Some base) batch n = if nat_lt n (length (footprint_there batch base)) then running base.newest.number n else stage_settled (awaits_there batch base) base.newest.number (reply_there batch base)
 
-abbrev pub stage_replied : Bool → Reply → Stage
+abbrev pub stage_replied : Bool → Reply → CallStage
 stage_replied true r = committed r
 stage_replied false r = answered r
 
 -- the stage of a call with this answer
-abbrev pub stage_over : CallAnswer → Stage
+abbrev pub stage_over : CallAnswer → CallStage
 stage_over (Replied r) = stage_replied (is_committed r.outcome) r
 stage_over (Conflict n) = conflict n
 
-abbrev pub stage_kept : SlotState → Stage
+abbrev pub stage_kept : SlotState → CallStage
 stage_kept (Open w) = stage_from w.base w.batch w.steps
 stage_kept (Over a) = stage_over a
 
-abbrev pub stage_of_slot : Slot → Stage
+abbrev pub stage_of_slot : Slot → CallStage
 stage_of_slot slot = stage_kept slot.state
 
-abbrev pub IsOver : SlotState → Type 0
-IsOver (Open w) = ⊥
-IsOver (Over a) = ⊤
+abbrev pub IsOverSlot : SlotState → Type 0
+IsOverSlot (Open w) = ⊥
+IsOverSlot (Over a) = ⊤
 
-abbrev pub IsSettled : SlotState → Type 0
-IsSettled (Open w) = status_of w ≡ Settled
-IsSettled (Over a) = ⊥
+abbrev pub IsSettledSlot : SlotState → Type 0
+IsSettledSlot (Open w) = status_of w ≡ Settled
+IsSettledSlot (Over a) = ⊥
 
 -- an open call has a work that isn't settled
 abbrev pub AnsweredWhenSettled : SlotState → Type 0
@@ -104,49 +104,49 @@ pub record IsOn (batch : Batch) (base : Base) (books : List Book) : Type 0 where
   pub reply : reply_there batch base ≡ reply_to batch books
 
 -- The base is the version to which the first items of the journal lead.
-pub record BeganInside (own : Bytes) (items : List Item) (batch : Batch) (base : Base) : Type 0 where
+pub record BaseIsInJournal (own_domain : Bytes) (items : List Item) (batch : Batch) (base : Base) : Type 0 where
   pub low : base.newest.number ≤ length items
-  pub leads : Leads (first_state own) (take base.newest.number items) base.newest
+  pub leads : Leads (empty_version own_domain) (take base.newest.number items) base.newest
   pub is_on : IsOn batch base (books_of (take base.newest.number (batches_of items)))
 
 abbrev pub BeganWithin : Bytes → List Item → Batch → ℕ → Option Base → Type 0
-BeganWithin own items batch steps None = steps ≡ 0
-BeganWithin own items batch steps (Some base) = BeganInside own items batch base
+BeganWithin own_domain items batch steps None = steps ≡ 0
+BeganWithin own_domain items batch steps (Some base) = BaseIsInJournal own_domain items batch base
 
 -- The work's batch was made for the trust domain. The work has not begun and has read nothing, or its base is inside the journal.
-pub record RestsOn (own : Bytes) (items : List Item) (w : Work) : Type 0 where
-  pub made : IsMadeFor own w.batch
-  pub began : BeganWithin own items w.batch w.steps w.base
+pub record RestsOn (own_domain : Bytes) (items : List Item) (w : Work) : Type 0 where
+  pub made : IsMadeFor own_domain w.batch
+  pub began : BeganWithin own_domain items w.batch w.steps w.base
 
 -- the work of an open call is as above, and has the call's batch
 abbrev pub StateRests : Bytes → List Item → Batch → SlotState → Type 0
-StateRests own items batch (Open w) = RestsOn own items w × (w.batch ≡ batch)
-StateRests own items batch (Over a) = ⊤
+StateRests own_domain items batch (Open w) = RestsOn own_domain items w × (w.batch ≡ batch)
+StateRests own_domain items batch (Over a) = ⊤
 
-pub record SlotRests (own : Bytes) (items : List Item) (slot : Slot) : Type 0 where
-  pub made : IsMadeFor own slot.batch
-  pub state : StateRests own items slot.batch slot.state
+pub record SlotRests (own_domain : Bytes) (items : List Item) (slot : Slot) : Type 0 where
+  pub made : IsMadeFor own_domain slot.batch
+  pub state : StateRests own_domain items slot.batch slot.state
   pub answered : AnsweredWhenSettled slot.state
 
 abbrev pub AllRest : Bytes → List Item → List (ℕ × Slot) → Type 0
-AllRest own items es = AllByRecursion (λ e. SlotRests own items e.1) es
+AllRest own_domain items es = AllByRecursion (λ e. SlotRests own_domain items e.1) es
 
 -- the head stores its whole journal
-abbrev pub IsWhole : Head → Type 0
-IsWhole h = IsJournal h.kept h
+abbrev pub HasWholeJournal : Head → Type 0
+HasWholeJournal h = IsJournal h.kept h
 
-abbrev pub domain_of : Head → Bytes
-domain_of h = h.window.newest.domain
+abbrev pub head_domain : Head → Bytes
+head_domain h = h.window.newest.domain
 
 abbrev pub journal_of : Head → List Batch
 journal_of h = batches_of h.kept
 
-abbrev pub state_of : Head → ℕ → List (ℕ × Slot) → State
-state_of h count es = record { domain = domain_of h; journal = journal_of h; count = count; calls = calls_kept es }
+abbrev pub state_of : Head → ℕ → List (ℕ × Slot) → MachineState
+state_of h count es = record { domain = head_domain h; journal = journal_of h; count = count; calls = calls_kept es }
 
 -- the maximum number of accepted events of a call at this stage, without its reply: its invoke, its begin, a step for each read, its
 -- commit
-abbrev pub stage_events : Stage → ℕ
+abbrev pub stage_events : CallStage → ℕ
 stage_events waiting = 1
 stage_events (running base made) = 2 + made
 stage_events (ready base) = 2 + 2 ^ 21
@@ -166,9 +166,9 @@ all_events [] = 0
 all_events (e ∷ es) = slot_events e.1 + all_events es
 
 -- The invariant of a machine's fields. As the calls are few and so are the events of each, the count stays far below 2^64.
-pub record Holds (h : Head) (count : ℕ) (es : List (ℕ × Slot)) : Type 0 where
-  pub whole : IsWhole h
-  pub rest : AllRest (domain_of h) h.kept es
+pub record MachineInvariant (h : Head) (count : ℕ) (es : List (ℕ × Slot)) : Type 0 where
+  pub whole : HasWholeJournal h
+  pub rest : AllRest (head_domain h) h.kept es
   pub few : length es ≤ 4096
   pub counted : count ≤ all_events es
 
@@ -196,37 +196,37 @@ SlotRefuses in_turn r = ((r ≡ NotNow) × (in_turn ≡ false)) ⊎ ((r ≡ NoMe
 pub record SlotBegins (h : Head) (old : Slot) (turn : ℕ) (status : Status) (later : Slot) : Type 0 where
   pub in_turn : stage_of_slot old ≡ waiting
   pub stage : stage_of_slot later ≡ stage_after old.batch (journal_of h) (length (journal_of h)) 0
-  pub told : status ≡ status_at (stage_of_slot later)
+  pub logged : status ≡ status_at (stage_of_slot later)
   pub batch : later.batch ≡ old.batch
   pub invoked : later.invoked ≡ old.invoked
   pub turn_is : later.turn ≡ turn
   pub replied : later.replied ≡ old.replied
-  pub rests : SlotRests (domain_of h) h.kept later
+  pub rests : SlotRests (head_domain h) h.kept later
 
-pub record SlotSteps (own : Bytes) (items : List Item) (old : Slot) (mark : MarkKind) (status : Status) (later : Slot) : Type 0 where
+pub record SlotSteps (own_domain : Bytes) (items : List Item) (old : Slot) (mark : MarkKind) (status : Status) (later : Slot) : Type 0 where
   pub base : ℕ
   pub made : ℕ
   pub in_turn : stage_of_slot old ≡ running base made
   pub mark_is : slice_get (footprint_of old.batch (books_of (take base (batches_of items)))) made ≡ Some mark
   pub stage : stage_of_slot later ≡ stage_after old.batch (batches_of items) base (made + 1)
-  pub told : status ≡ status_at (stage_of_slot later)
+  pub logged : status ≡ status_at (stage_of_slot later)
   pub batch : later.batch ≡ old.batch
   pub invoked : later.invoked ≡ old.invoked
   pub turn : later.turn ≡ old.turn
   pub replied : later.replied ≡ old.replied
-  pub rests : SlotRests own items later
+  pub rests : SlotRests own_domain items later
 
 -- ---- a commit
 
 -- the effect of each decision on the machine's journal, and on the call's stage
-pub record DecidesCommitted (journal : List Batch) (batch : Batch) (decision : Decision) (place : ℕ) (stage : Stage) (after : List Batch) : Type 0 where
+pub record DecidesCommitted (journal : List Batch) (batch : Batch) (decision : Decision) (place : ℕ) (stage : CallStage) (after : List Batch) : Type 0 where
   pub commits : commits batch (books_of journal) ≡ true
   pub stage_is : stage ≡ committed (reply_to batch (books_of journal))
   pub decision_is : decision ≡ to.Committed
   pub place_is : place ≡ length journal + 1
   pub journal_is : after ≡ journal ++ batch ∷ []
 
-pub record DecidesFull (journal : List Batch) (batch : Batch) (decision : Decision) (place : ℕ) (stage : Stage) (after : List Batch) : Type 0 where
+pub record DecidesFull (journal : List Batch) (batch : Batch) (decision : Decision) (place : ℕ) (stage : CallStage) (after : List Batch) : Type 0 where
   pub limit : Limit
   pub full : reply_to batch (books_of journal) ≡ record { place = length journal; outcome = Refused (Full limit) }
   pub stage_is : stage ≡ answered (reply_to batch (books_of journal))
@@ -234,47 +234,47 @@ pub record DecidesFull (journal : List Batch) (batch : Batch) (decision : Decisi
   pub place_is : place ≡ length journal
   pub journal_is : after ≡ journal
 
-pub record DecidesConflict (journal : List Batch) (batch : Batch) (base : ℕ) (decision : Decision) (place : ℕ) (stage : Stage) (after : List Batch) : Type 0 where
+pub record DecidesConflict (journal : List Batch) (batch : Batch) (base : ℕ) (decision : Decision) (place : ℕ) (stage : CallStage) (after : List Batch) : Type 0 where
   pub due : IsDue journal batch base
   pub stage_is : stage ≡ conflict (length journal)
   pub decision_is : decision ≡ to.Conflict
   pub place_is : place ≡ length journal
   pub journal_is : after ≡ journal
 
-abbrev pub Decides : List Batch → Batch → ℕ → Decision → ℕ → Stage → List Batch → Type 0
+abbrev pub Decides : List Batch → Batch → ℕ → Decision → ℕ → CallStage → List Batch → Type 0
 Decides journal batch base decision place stage after = DecidesCommitted journal batch decision place stage after ⊎ (DecidesFull journal batch decision place stage after ⊎ DecidesConflict journal batch base decision place stage after)
 
 -- The new head has the same trust domain, and its whole journal: the old one's, perhaps with more items.
-pub record GoesOn (old new : Head) : Type 0 where
-  pub domain : domain_of new ≡ domain_of old
+pub record ExtendsJournal (old new : Head) : Type 0 where
+  pub domain : head_domain new ≡ head_domain old
   pub more : List Item
   pub kept : new.kept ≡ old.kept ++ more
-  pub whole : IsWhole new
+  pub whole : HasWholeJournal new
 
 -- A prepared commit is finished: the call has its answer, and the head its item.
 pub record Finishes (old : Head) (item : Item) (answer : CallAnswer) (place : ℕ) (new : Head) : Type 0 where
-  pub answer_is : answer ≡ Replied (record { place = place_of old + 1; outcome = Committed item.replies })
-  pub place_is : place ≡ place_of old + 1
+  pub answer_is : answer ≡ Replied (record { place = head_place old + 1; outcome = Committed item.replies })
+  pub place_is : place ≡ head_place old + 1
   pub appended : IsAppended old item new
 
 pub record IsDecided (old : Head) (w : Work) (answer : CallAnswer) (decision : Decision) (place : ℕ) (new : Head) : Type 0 where
   pub base : ℕ
   pub in_turn : stage_kept (Open w) ≡ ready base
   pub decided : Decides (journal_of old) w.batch base decision place (stage_over answer) (journal_of new)
-  pub goes_on : GoesOn old new
+  pub extends : ExtendsJournal old new
 
 pub record SlotDecides (old_head : Head) (old : Slot) (turn : ℕ) (decision : Decision) (place : ℕ) (later : Slot) (head : Head) : Type 0 where
   pub base : ℕ
   pub in_turn : stage_of_slot old ≡ ready base
   pub decided : Decides (journal_of old_head) old.batch base decision place (stage_of_slot later) (journal_of head)
-  pub goes_on : GoesOn old_head head
-  pub over : IsOver later.state
+  pub extends : ExtendsJournal old_head head
+  pub over : IsOverSlot later.state
   pub batch : later.batch ≡ old.batch
   pub invoked : later.invoked ≡ old.invoked
   pub turn_is : later.turn ≡ turn
   pub replied : later.replied ≡ old.replied
 
-abbrev pub with_event : Result Done EventRefusal → Event → Answer
+abbrev pub with_event : Result Done EventRefusal → Event → EventAnswer
 with_event (Ok done) event = Ok done
 with_event (Err refusal) event = Err (record { refusal = refusal; event = event })
 

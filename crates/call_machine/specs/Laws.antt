@@ -2,7 +2,7 @@
 use Rattle.std.specs.Prelude.{◌≡◌, ◌↔◌, ◌⊎◌, ℕ, ◌+◌, ◌≤◌, Bool, true, false, ⊤, List, [], ◌∷◌, ◌++◌, filter, map, Option, Some, None, Err, is_some}
 use Rattle.std.specs.List.Sorted.{IsPermutation, IsNonDecreasingBy}
 use Rattle.entry_book.specs.declared.limit.Limit.{Limit}
-use Rattle.entry_book.specs.declared.reply.Outcome.TheVariants.{Refused}
+use Rattle.entry_book.specs.declared.reply.ReplyOutcome.TheVariants.{Refused}
 use Rattle.entry_book.specs.declared.reply.Refusal.TheVariants.{Full as TooMuch}
 use Rattle.entry_book.specs.declared.reply.Reply.{Reply}
 use Rattle.entry_book.specs.Rows.{Bytes}
@@ -20,13 +20,13 @@ use Rattle.call_answers.specs.declared.answer.Done.{Done}
 use Rattle.call_answers.specs.declared.answer.Done.TheVariants.{Begun, Decided, Answered}
 use Rattle.call_answers.specs.declared.answer.CallAnswer.{CallAnswer}
 use Rattle.call_answers.specs.declared.answer.CallAnswer.TheVariants.{Replied}
-use Rattle.call_machine.specs.Schedules.{Answer, At, Happened, Headline, accepted}
-use Rattle.call_machine.specs.Calls.{Stage, waiting, running, ready, answered, committed, conflict, Call, State, answer_of, call_at, first_state}
+use Rattle.call_machine.specs.Schedules.{EventAnswer, EventAt, Happened, Headline, accepted}
+use Rattle.call_machine.specs.Calls.{CallStage, waiting, running, ready, answered, committed, conflict, Call, MachineState, answer_of, call_at, first_machine}
 use Rattle.call_machine.specs.Known.{decided_of}
 use Rattle.call_machine.specs.Machine.{Accepts, Applies, Runs, refusal_of}
 
 -- committed, or replied with something other than a conflict
-abbrev pub is_listed_at : Stage → Option ℕ → Bool
+abbrev pub is_listed_at : CallStage → Option ℕ → Bool
 is_listed_at waiting r = false
 is_listed_at (running base made) r = false
 is_listed_at (ready base) r = false
@@ -44,66 +44,66 @@ turn_of c = (c.turn, c.number)
 abbrev pub turn_in : ℕ × ℕ → ℕ
 turn_in p = p.0
 
-abbrev pub number_in : ℕ × ℕ → ℕ
-number_in p = p.1
+abbrev pub number_of_turn : ℕ × ℕ → ℕ
+number_of_turn p = p.1
 
 -- The numbers of the listed calls, in the order of their deciding events.
-pub record IsOrder (s : State) (order : List ℕ) : Type 0 where
+pub record IsOrder (s : MachineState) (order : List ℕ) : Type 0 where
   pub turns : List (ℕ × ℕ)
   pub listed : IsPermutation (map turn_of (filter is_listed s.calls)) turns
   pub by_turn : IsNonDecreasingBy turn_in turns
-  pub numbers : order ≡ map number_in turns
+  pub numbers : order ≡ map number_of_turn turns
 
 abbrev pub HeadlineHolds : Type 0
-HeadlineHolds = (own : Bytes) (events : List Event) (answers : List Answer) (s : State) (order : List ℕ) → Runs (first_state own) events answers s → IsOrder s order → Headline (accepted events answers) order
+HeadlineHolds = (own_domain : Bytes) (events : List Event) (answers : List EventAnswer) (s : MachineState) (order : List ℕ) → Runs (first_machine own_domain) events answers s → IsOrder s order → Headline (accepted events answers) order
 
 -- ---- the accepted numbers that calls hold
 
 -- Event n is the call's begin, and the reply is not a refusal by a limit. Or event n is the call's commit, decided as full by the limit
 -- that the reply names, at the reply's place.
 abbrev pub SettledAt : List Happened → ℕ → ℕ → Reply → Type 0
-SettledAt log n c r = ((base : ℕ) × (status : Status) × ((limit : Limit) → r.outcome ≡ Refused (TooMuch limit) → ⊥) × At log n (Begin c) (Begun c base status)) ⊎ ((limit : Limit) × (r.outcome ≡ Refused (TooMuch limit)) × At log n (Commit c) (Decided c (is.Full limit) r.place))
+SettledAt log n c r = ((base : ℕ) × (status : Status) × ((limit : Limit) → r.outcome ≡ Refused (TooMuch limit) → ⊥) × EventAt log n (Begin c) (Begun c base status)) ⊎ ((limit : Limit) × (r.outcome ≡ Refused (TooMuch limit)) × EventAt log n (Commit c) (Decided c (is.Full limit) r.place))
 
 -- event n is the one that decided the call
-abbrev pub DecidedAt : List Happened → ℕ → ℕ → Stage → Type 0
+abbrev pub DecidedAt : List Happened → ℕ → ℕ → CallStage → Type 0
 DecidedAt log n c (answered r) = SettledAt log n c r
-DecidedAt log n c (committed r) = At log n (Commit c) (Decided c is.Committed r.place)
+DecidedAt log n c (committed r) = EventAt log n (Commit c) (Decided c is.Committed r.place)
 DecidedAt log n c stage = ⊥
 
 -- The call's numbers are exactly those of its events among the accepted ones: `invoked` for an invoke with its batch, `decided_of` for
 -- the event that decided it, and `replied` for its reply. A reply event has the answer that the call holds.
 pub record IsStamped (log : List Happened) (call : Call) : Type 0 where
-  pub invoked : (n : ℕ) (batch : Batch) → ((n ≡ call.invoked) × (batch ≡ call.batch)) ↔ ((done : Done) × At log n (Invoke call.number batch) done)
+  pub invoked : (n : ℕ) (batch : Batch) → ((n ≡ call.invoked) × (batch ≡ call.batch)) ↔ ((done : Done) × EventAt log n (Invoke call.number batch) done)
   pub decided : (n : ℕ) → (decided_of call.stage call.turn ≡ Some n) ↔ DecidedAt log n call.number call.stage
-  pub replied : (n : ℕ) → (call.replied ≡ Some n) ↔ ((done : Done) × At log n (on.Reply call.number) done)
-  pub told : (n : ℕ) (done : Done) → At log n (on.Reply call.number) done → (answer : CallAnswer) × (answer_of call.stage ≡ Some answer) × (done ≡ Answered call.number answer)
+  pub replied : (n : ℕ) → (call.replied ≡ Some n) ↔ ((done : Done) × EventAt log n (on.Reply call.number) done)
+  pub logged : (n : ℕ) (done : Done) → EventAt log n (on.Reply call.number) done → (answer : CallAnswer) × (answer_of call.stage ≡ Some answer) × (done ≡ Answered call.number answer)
 
 abbrev pub CallsAreStamped : Type 0
-CallsAreStamped = (own : Bytes) (events : List Event) (answers : List Answer) (s : State) (c : ℕ) (call : Call) → Runs (first_state own) events answers s → call_at c s.calls ≡ Some call → IsStamped (accepted events answers) call
+CallsAreStamped = (own_domain : Bytes) (events : List Event) (answers : List EventAnswer) (s : MachineState) (c : ℕ) (call : Call) → Runs (first_machine own_domain) events answers s → call_at c s.calls ≡ Some call → IsStamped (accepted events answers) call
 
 -- ---- how a run continues
 
 -- one more event: its answer is the last
-abbrev pub RunsGoOn : Type 0
-RunsGoOn = (events : List Event) (answers : List Answer) (s t u : State) (event : Event) (answer : Answer) → Runs s events answers t → Applies t event answer u → Runs s (events ++ event ∷ []) (answers ++ answer ∷ []) u
+abbrev pub RunsExtend : Type 0
+RunsExtend = (events : List Event) (answers : List EventAnswer) (s t u : MachineState) (event : Event) (answer : EventAnswer) → Runs s events answers t → Applies t event answer u → Runs s (events ++ event ∷ []) (answers ++ answer ∷ []) u
 
 -- After one event the trust domain is the same, and the count is at most one more.
-pub record AreLeft (s t : State) : Type 0 where
+pub record AreLeft (s t : MachineState) : Type 0 where
   pub domain : t.domain ≡ s.domain
   pub count : t.count ≤ s.count + 1
 
 abbrev pub EventLeaves : Type 0
-EventLeaves = (s : State) (event : Event) (answer : Answer) (t : State) → Applies s event answer t → AreLeft s t
+EventLeaves = (s : MachineState) (event : Event) (answer : EventAnswer) (t : MachineState) → Applies s event answer t → AreLeft s t
 
 -- ---- which events are refused
 
 -- an event is accepted only if no refusal is due
 abbrev pub AcceptedUnrefused : Type 0
-AcceptedUnrefused = (s : State) (event : Event) (done : Done) (t : State) → Accepts s event done t → refusal_of s event ≡ None
+AcceptedUnrefused = (s : MachineState) (event : Event) (done : Done) (t : MachineState) → Accepts s event done t → refusal_of s event ≡ None
 
 -- a refusal other than out of memory is due exactly if the event is handed back with it
 abbrev pub RefusedWhereDue : Type 0
-RefusedWhereDue = (s : State) (event : Event) (answer : Answer) (t : State) (r : EventRefusal) → Applies s event answer t → (r ≡ NoMemory → ⊥) → (refusal_of s event ≡ Some r) ↔ (answer ≡ Err (record { refusal = r; event = event }))
+RefusedWhereDue = (s : MachineState) (event : Event) (answer : EventAnswer) (t : MachineState) (r : EventRefusal) → Applies s event answer t → (r ≡ NoMemory → ⊥) → (refusal_of s event ≡ Some r) ↔ (answer ≡ Err (record { refusal = r; event = event }))
 
 -- ---- the replies that calls hold
 
@@ -113,4 +113,4 @@ HoldReplies calls books [] = ⊤
 HoldReplies calls books (c ∷ cs) = (call : Call) × (call_at c calls ≡ Some call) × (answer_of call.stage ≡ Some (Replied (reply_to call.batch books))) × HoldReplies calls (books_after call.batch books) cs
 
 abbrev pub RepliesHeld : Type 0
-RepliesHeld = (own : Bytes) (events : List Event) (answers : List Answer) (s : State) (order : List ℕ) → Runs (first_state own) events answers s → IsOrder s order → HoldReplies s.calls first_books order
+RepliesHeld = (own_domain : Bytes) (events : List Event) (answers : List EventAnswer) (s : MachineState) (order : List ℕ) → Runs (first_machine own_domain) events answers s → IsOrder s order → HoldReplies s.calls first_books order

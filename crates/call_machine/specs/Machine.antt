@@ -2,7 +2,7 @@
 use Rattle.std.specs.Prelude.{◌≡◌, ℕ, ◌+◌, ◌<◌, Bool, true, false, ◌&&◌, ◌⊎◌, List, [], ◌∷◌, ◌++◌, length, take, slice_get, nat_lt, Option, Some, None, is_some, is_none, Ok, Err, if◌then◌else◌}
 use Rattle.std.specs.List.{AllByRecursion}
 use Rattle.entry_book.specs.declared.limit.Limit.{Limit}
-use Rattle.entry_book.specs.declared.reply.Outcome.TheVariants.{Refused}
+use Rattle.entry_book.specs.declared.reply.ReplyOutcome.TheVariants.{Refused}
 use Rattle.entry_book.specs.declared.reply.Refusal.TheVariants.{Full}
 use Rattle.entry_book.specs.Rows.{Bytes}
 use Rattle.entry_book.specs.Batches.{Batch}
@@ -20,30 +20,30 @@ use Rattle.call_answers.specs.declared.answer.CallAnswer.{CallAnswer}
 use Rattle.call_events.specs.declared.event.EventRefusal.{EventRefusal}
 use Rattle.call_events.specs.declared.event.EventRefusal.TheVariants.{CallTaken, UnknownCall, NotNow, TooManyCalls, NoMemory}
 use Rattle.call_events.specs.declared.event.RefusedEvent.{RefusedEvent}
-use Rattle.call_machine.specs.Schedules.{Answer, IsDue}
-use Rattle.call_machine.specs.Calls.{Stage, waiting, running, ready, answered, committed, conflict, Call, State, answer_of, call_at, moved, status_at, stage_after}
+use Rattle.call_machine.specs.Schedules.{EventAnswer, IsDue}
+use Rattle.call_machine.specs.Calls.{CallStage, waiting, running, ready, answered, committed, conflict, Call, MachineState, answer_of, call_at, moved, status_at, stage_after}
 
 abbrev pub AreFor : Bytes → List Event → Type 0
-AreFor own events = AllByRecursion (IsFor own) events
+AreFor own_domain events = AllByRecursion (IsFor own_domain) events
 
 -- ---- accepted events
 
-pub record Invokes (s : State) (n : ℕ) (batch : Batch) (done : Done) (t : State) : Type 0 where
+pub record Invokes (s : MachineState) (n : ℕ) (batch : Batch) (done : Done) (t : MachineState) : Type 0 where
   pub unknown : call_at n s.calls ≡ None
   pub room : length s.calls < 4096
   pub answer : done ≡ Invoked n
   pub after : t ≡ record s { count = s.count + 1; calls = s.calls ++ record { number = n; batch = batch; stage = waiting; invoked = s.count + 1; turn = 0; replied = None } ∷ [] }
 
-pub record Begins (s : State) (n : ℕ) (done : Done) (t : State) : Type 0 where
+pub record Begins (s : MachineState) (n : ℕ) (done : Done) (t : MachineState) : Type 0 where
   pub call : Call
   pub found : call_at n s.calls ≡ Some call
   pub in_turn : call.stage ≡ waiting
-  pub stage : Stage
+  pub stage : CallStage
   pub stage_is : stage ≡ stage_after call.batch s.journal (length s.journal) 0
   pub answer : done ≡ Begun n (length s.journal) (status_at stage)
   pub after : t ≡ moved (record call { stage = stage; turn = s.count + 1 }) s
 
-pub record Steps (s : State) (n : ℕ) (done : Done) (t : State) : Type 0 where
+pub record Steps (s : MachineState) (n : ℕ) (done : Done) (t : MachineState) : Type 0 where
   pub call : Call
   pub found : call_at n s.calls ≡ Some call
   pub base : ℕ
@@ -51,37 +51,37 @@ pub record Steps (s : State) (n : ℕ) (done : Done) (t : State) : Type 0 where
   pub in_turn : call.stage ≡ running base made
   pub mark : MarkKind
   pub mark_is : slice_get (footprint_of call.batch (books_of (take base s.journal))) made ≡ Some mark
-  pub stage : Stage
+  pub stage : CallStage
   pub stage_is : stage ≡ stage_after call.batch s.journal base (made + 1)
   pub answer : done ≡ Stepped n mark (status_at stage)
   pub after : t ≡ moved (record call { stage = stage }) s
 
 -- without a conflict, the decision is that of the plain book on the newest books: the batch is committed, or a limit refuses it
-pub record CommitsNow (s : State) (call : Call) (done : Done) (t : State) : Type 0 where
+pub record CommitsNow (s : MachineState) (call : Call) (done : Done) (t : MachineState) : Type 0 where
   pub commits : commits call.batch (books_of s.journal) ≡ true
   pub answer : done ≡ Decided call.number is.Committed (length s.journal + 1)
   pub after : t ≡ record (moved (record call { stage = committed (reply_to call.batch (books_of s.journal)); turn = s.count + 1 }) s) { journal = s.journal ++ call.batch ∷ [] }
 
-pub record IsFull (s : State) (call : Call) (done : Done) (t : State) : Type 0 where
+pub record IsFull (s : MachineState) (call : Call) (done : Done) (t : MachineState) : Type 0 where
   pub limit : Limit
   pub full : reply_to call.batch (books_of s.journal) ≡ record { place = length s.journal; outcome = Refused (Full limit) }
   pub answer : done ≡ Decided call.number (is.Full limit) (length s.journal)
   pub after : t ≡ moved (record call { stage = answered (reply_to call.batch (books_of s.journal)); turn = s.count + 1 }) s
 
 -- a conflict is decided only if it is due, and changes only the call, apart from the count
-pub record Conflicts (s : State) (call : Call) (base : ℕ) (done : Done) (t : State) : Type 0 where
+pub record Conflicts (s : MachineState) (call : Call) (base : ℕ) (done : Done) (t : MachineState) : Type 0 where
   pub due : IsDue s.journal call.batch base
   pub answer : done ≡ Decided call.number is.Conflict (length s.journal)
   pub after : t ≡ moved (record call { stage = conflict (length s.journal); turn = s.count + 1 }) s
 
-pub record Commits (s : State) (n : ℕ) (done : Done) (t : State) : Type 0 where
+pub record Commits (s : MachineState) (n : ℕ) (done : Done) (t : MachineState) : Type 0 where
   pub call : Call
   pub found : call_at n s.calls ≡ Some call
   pub base : ℕ
   pub in_turn : call.stage ≡ ready base
   pub decision : CommitsNow s call done t ⊎ (IsFull s call done t ⊎ Conflicts s call base done t)
 
-pub record Replies (s : State) (n : ℕ) (done : Done) (t : State) : Type 0 where
+pub record Replies (s : MachineState) (n : ℕ) (done : Done) (t : MachineState) : Type 0 where
   pub call : Call
   pub found : call_at n s.calls ≡ Some call
   pub once : call.replied ≡ None
@@ -91,7 +91,7 @@ pub record Replies (s : State) (n : ℕ) (done : Done) (t : State) : Type 0 wher
   pub after : t ≡ moved (record call { replied = Some (s.count + 1) }) s
 
 -- in state s the event may be accepted with this answer, and the next state is t
-abbrev pub Accepts : State → Event → Done → State → Type 0
+abbrev pub Accepts : MachineState → Event → Done → MachineState → Type 0
 Accepts s (Invoke n batch) done t = Invokes s n batch done t
 Accepts s (Begin n) done t = Begins s n done t
 Accepts s (Step n) done t = Steps s n done t
@@ -100,10 +100,10 @@ Accepts s (on.Reply n) done t = Replies s n done t
 
 -- ---- refused events
 
-abbrev pub is_over : Stage → Bool
+abbrev pub is_over : CallStage → Bool
 is_over stage = is_some (answer_of stage)
 
-abbrev pub is_waiting : Stage → Bool
+abbrev pub is_waiting : CallStage → Bool
 is_waiting waiting = true
 is_waiting (running base made) = false
 is_waiting (ready base) = false
@@ -111,7 +111,7 @@ is_waiting (answered r) = false
 is_waiting (committed r) = false
 is_waiting (conflict n) = false
 
-abbrev pub is_running : Stage → Bool
+abbrev pub is_running : CallStage → Bool
 is_running waiting = false
 is_running (running base made) = true
 is_running (ready base) = false
@@ -119,7 +119,7 @@ is_running (answered r) = false
 is_running (committed r) = false
 is_running (conflict n) = false
 
-abbrev pub is_ready : Stage → Bool
+abbrev pub is_ready : CallStage → Bool
 is_ready waiting = false
 is_ready (running base made) = false
 is_ready (ready base) = true
@@ -133,7 +133,7 @@ refusal_at None in_turn = Some UnknownCall
 refusal_at (Some c) in_turn = if in_turn c then None else Some NotNow
 
 -- the refusal that is due, if there is one
-abbrev pub refusal_of : State → Event → Option EventRefusal
+abbrev pub refusal_of : MachineState → Event → Option EventRefusal
 refusal_of s (Invoke n batch) = if is_some (call_at n s.calls) then Some CallTaken else (if nat_lt (length s.calls) 4096 then None else Some TooManyCalls)
 refusal_of s (Begin n) = refusal_at (call_at n s.calls) (λ c. is_waiting c.stage)
 refusal_of s (Step n) = refusal_at (call_at n s.calls) (λ c. is_running c.stage)
@@ -141,18 +141,18 @@ refusal_of s (Commit n) = refusal_at (call_at n s.calls) (λ c. is_ready c.stage
 refusal_of s (on.Reply n) = refusal_at (call_at n s.calls) (λ c. is_none c.replied && is_over c.stage)
 
 -- the event is handed back; out of memory only if no other refusal is due
-pub record Refuses (s : State) (event : Event) (r : RefusedEvent) : Type 0 where
+pub record Refuses (s : MachineState) (event : Event) (r : RefusedEvent) : Type 0 where
   pub back : r.event ≡ event
   pub due : (refusal_of s event ≡ Some r.refusal) ⊎ ((refusal_of s event ≡ None) × (r.refusal ≡ NoMemory))
 
 -- ---- runs
 
-abbrev pub Applies : State → Event → Answer → State → Type 0
+abbrev pub Applies : MachineState → Event → EventAnswer → MachineState → Type 0
 Applies s event (Ok done) t = Accepts s event done t
 Applies s event (Err r) t = Refuses s event r × (t ≡ s)
 
-abbrev pub Runs : State → List Event → List Answer → State → Type 0
+abbrev pub Runs : MachineState → List Event → List EventAnswer → MachineState → Type 0
 Runs s [] [] t = s ≡ t
-Runs s [] (a ∷ told) t = ⊥
+Runs s [] (a ∷ logged) t = ⊥
 Runs s (e ∷ es) [] t = ⊥
-Runs s (e ∷ es) (a ∷ told) t = (u : State) × Applies s e a u × Runs u es told t
+Runs s (e ∷ es) (a ∷ logged) t = (u : MachineState) × Applies s e a u × Runs u es logged t

@@ -22,8 +22,8 @@ use Rattle.call_events.specs.declared.event.RefusedEvent.{RefusedEvent}
 -- ---- a schedule
 
 -- the answer to an event
-abbrev pub Answer : Type 0
-Answer = Result Done RefusedEvent
+abbrev pub EventAnswer : Type 0
+EventAnswer = Result Done RefusedEvent
 
 -- An event that was accepted, with its answer.
 pub record Happened : Type 0 where
@@ -31,46 +31,46 @@ pub record Happened : Type 0 where
   pub done : Done
 
 -- the accepted events, in order: those that weren't refused
-abbrev pub accepted : List Event → List Answer → List Happened
+abbrev pub accepted : List Event → List EventAnswer → List Happened
 accepted [] answers = []
 accepted (e ∷ es) [] = []
 accepted (e ∷ es) (Ok d ∷ answers) = record { event = e; done = d } ∷ accepted es answers
 accepted (e ∷ es) (Err r ∷ answers) = accepted es answers
 
 -- accepted events are numbered from 1; this is the one of number n
-abbrev pub At : List Happened → ℕ → Event → Done → Type 0
-At log n event done = (k : ℕ) × (n ≡ k + 1) × (slice_get log k ≡ Some (record { event = event; done = done }))
+abbrev pub EventAt : List Happened → ℕ → Event → Done → Type 0
+EventAt log n event done = (k : ℕ) × (n ≡ k + 1) × (slice_get log k ≡ Some (record { event = event; done = done }))
 
 -- ---- the outcome of a call
 
 abbrev pub HandedIn : List Happened → ℕ → Batch → Type 0
-HandedIn log c batch = (n : ℕ) × (done : Done) × At log n (Invoke c batch) done
+HandedIn log c batch = (n : ℕ) × (done : Done) × EventAt log n (Invoke c batch) done
 
 -- it began at this place
-abbrev pub BeganAt : List Happened → ℕ → ℕ → Type 0
-BeganAt log c base = (n : ℕ) × (status : Status) × At log n (Begin c) (Begun c base status)
+abbrev pub BeganOnBook : List Happened → ℕ → ℕ → Type 0
+BeganOnBook log c base = (n : ℕ) × (status : Status) × EventAt log n (Begin c) (Begun c base status)
 
 -- its commit was decided as committed, at this place
-abbrev pub CommittedAt : List Happened → ℕ → ℕ → Type 0
-CommittedAt log c place = (n : ℕ) × At log n (Commit c) (Decided c is.Committed place)
+abbrev pub CommittedAsBook : List Happened → ℕ → ℕ → Type 0
+CommittedAsBook log c place = (n : ℕ) × EventAt log n (Commit c) (Decided c is.Committed place)
 
 -- it replied with this reply
 abbrev pub GaveOut : List Happened → ℕ → Reply → Type 0
-GaveOut log c reply = (n : ℕ) × At log n (on.Reply c) (Answered c (Replied reply))
+GaveOut log c reply = (n : ℕ) × EventAt log n (on.Reply c) (Answered c (Replied reply))
 
 -- a committed call, replied or not, or a call that has replied with something other than a conflict
 abbrev pub IsListed : List Happened → ℕ → Type 0
-IsListed log c = ((place : ℕ) × CommittedAt log c place) ⊎ ((reply : Reply) × GaveOut log c reply)
+IsListed log c = ((place : ℕ) × CommittedAsBook log c place) ⊎ ((reply : Reply) × GaveOut log c reply)
 
 -- The reply of the first call has a smaller accepted number than the invoke of the second.
 pub record EndedBefore (log : List Happened) (first second : ℕ) : Type 0 where
   pub reply_number : ℕ
   pub invoke_number : ℕ
-  pub told : Done
+  pub logged : Done
   pub batch : Batch
   pub done : Done
-  pub reply : At log reply_number (on.Reply first) told
-  pub invoke : At log invoke_number (Invoke second batch) done
+  pub reply : EventAt log reply_number (on.Reply first) logged
+  pub invoke : EventAt log invoke_number (Invoke second batch) done
   pub earlier : reply_number < invoke_number
 
 -- ---- serial
@@ -89,7 +89,7 @@ pub record IsSerial (log : List Happened) (order : List ℕ) : Type 0 where
 -- Each reply of the call is this one. If its commit was decided as committed, this reply is that of a committed batch, at the same place.
 pub record IsReplyOf (log : List Happened) (c : ℕ) (reply : Reply) : Type 0 where
   pub given : (out : Reply) → GaveOut log c out → out ≡ reply
-  pub committed : (place : ℕ) → CommittedAt log c place → (place ≡ reply.place) × (is_committed reply.outcome ≡ true)
+  pub committed : (place : ℕ) → CommittedAsBook log c place → (place ≡ reply.place) × (is_committed reply.outcome ≡ true)
 
 -- the plain book, run through these calls' batches, gives each of them the reply that it returned, with its place; of a committed call
 -- that hasn't replied, the events show only the place, and `HoldReplies` in `Laws` says the rest
@@ -102,13 +102,13 @@ IsLegal log order = RunsFrom log first_books order
 
 -- ---- strict
 
-abbrev pub StandsBefore : List ℕ → ℕ → ℕ → Type 0
-StandsBefore [] a b = ⊥
-StandsBefore (c ∷ cs) a b = ((c ≡ a) × Within cs b) ⊎ StandsBefore cs a b
+abbrev pub IsListedBefore : List ℕ → ℕ → ℕ → Type 0
+IsListedBefore [] a b = ⊥
+IsListedBefore (c ∷ cs) a b = ((c ≡ a) × Within cs b) ⊎ IsListedBefore cs a b
 
 -- of two listed calls, one that ended before the other was invoked comes first in the order
 abbrev pub IsStrict : List Happened → List ℕ → Type 0
-IsStrict log order = (a b : ℕ) → IsListed log a → IsListed log b → EndedBefore log a b → StandsBefore order a b
+IsStrict log order = (a b : ℕ) → IsListed log a → IsListed log b → EndedBefore log a b → IsListedBefore order a b
 
 -- ---- begins
 
@@ -156,7 +156,7 @@ pub record IsDueConflict (log : List Happened) (c place : ℕ) : Type 0 where
   pub batch : Batch
   pub handed_in : HandedIn log c batch
   pub base : ℕ
-  pub began : BeganAt log c base
+  pub began : BeganOnBook log c base
   pub place_is : place ≡ length journal
   pub due : IsDue journal batch base
 
@@ -165,11 +165,11 @@ ConflictsAreDue log = (k c place : ℕ) → slice_get log k ≡ Some (record { e
 
 -- a call whose commit was a conflict is not listed
 abbrev pub ConflictsAreOver : List Happened → Type 0
-ConflictsAreOver log = (n c place : ℕ) → At log n (Commit c) (Decided c is.Conflict place) → IsListed log c → ⊥
+ConflictsAreOver log = (n c place : ℕ) → EventAt log n (Commit c) (Decided c is.Conflict place) → IsListed log c → ⊥
 
 -- a call replies with a conflict only if its commit was decided as that conflict
 abbrev pub ConflictsWereMet : List Happened → Type 0
-ConflictsWereMet log = (n c place : ℕ) → At log n (on.Reply c) (Answered c (Conflict place)) → (m : ℕ) × At log m (Commit c) (Decided c is.Conflict place)
+ConflictsWereMet log = (n c place : ℕ) → EventAt log n (on.Reply c) (Answered c (Conflict place)) → (m : ℕ) × EventAt log m (Commit c) (Decided c is.Conflict place)
 
 -- ---- the main theorem
 

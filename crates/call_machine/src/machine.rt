@@ -3,7 +3,7 @@
 ghost use Rattle.std.specs.Prelude.{◌≡◌, ◌≤◌, IfOk, OnOk, filter, length, map, nat_lt, not};
 ghost use Rattle.indexmap.specs.IndexMap.{spare};
 ghost use Rattle.call_machine.specs.Kept.{is_listed_entry, turn_of_entry, with_event};
-ghost use Rattle.call_machine.specs.Laws.{number_in};
+ghost use Rattle.call_machine.specs.Laws.{number_of_turn};
 
 use crate::slot::Slot;
 use call_answers::{Done, KnownCall};
@@ -31,14 +31,14 @@ pub struct Machine {
 }
 
 impl Model for Machine {
-    ghost use Rattle.call_machine.specs.Calls.{State};
-    ghost use Rattle.call_machine.specs.Kept.{Holds, state_of};
+    ghost use Rattle.call_machine.specs.Calls.{MachineState};
+    ghost use Rattle.call_machine.specs.Kept.{MachineInvariant, state_of};
 
-    ghost Value = { State };
+    ghost Value = { MachineState };
 
     ghost view = { λ machine. state_of machine.head machine.count machine.calls.entries };
 
-    ghost invariant = { λ machine. Holds machine.head machine.count machine.calls.entries };
+    ghost invariant = { λ machine. MachineInvariant machine.head machine.count machine.calls.entries };
 }
 
 impl Machine {
@@ -46,9 +46,9 @@ impl Machine {
     ghost use Rattle.entry_book.specs.Rows.{Bytes};
     ghost use Rattle.entry_book.specs.History.{first_books};
     ghost use Rattle.call_events.specs.declared.event.Event.{Event as AnEvent};
-    ghost use Rattle.call_machine.specs.Schedules.{Answer, accepted, Headline};
-    ghost use Rattle.call_machine.specs.Calls.{call_at, first_state};
-    ghost use Rattle.call_machine.specs.Known.{Tells};
+    ghost use Rattle.call_machine.specs.Schedules.{EventAnswer, accepted, Headline};
+    ghost use Rattle.call_machine.specs.Calls.{call_at, first_machine};
+    ghost use Rattle.call_machine.specs.Known.{Reports};
     ghost use Rattle.call_events.specs.declared.event.Event.TheVariants as event;
     ghost use Rattle.call_machine.specs.Kept.{IsRefusalOr};
     ghost use Rattle.call_events.specs.Events.{IsFor};
@@ -58,7 +58,7 @@ impl Machine {
     /// Makes the machine of a trust domain's server, with no calls and the empty book at place 0. The error is out of
     /// memory.
     pub fn new(alloc: Global, domain: TrustDomain) -> Result<Machine, AllocError>
-        ensures { IfOk result (λ machine. machine ≡ first_state domain) }
+        ensures { IfOk result (λ machine. machine ≡ first_machine domain) }
     {
         Ok(Machine {
             alloc,
@@ -109,10 +109,10 @@ impl Machine {
     /// queries, repeats and other refusals. The error is out of memory.
     pub fn order(&self) -> Result<Vec<u64>, AllocError>
         ensures order { IfOk result (λ order. IsOrder self.now order.items) }
-        ensures headline { IfOk result (λ order. (own : Bytes) (events : List AnEvent) (answers : List Answer)
-            → Runs (first_state own) events answers self.now → Headline (accepted events answers) order.items) }
-        ensures held { IfOk result (λ order. (own : Bytes) (events : List AnEvent) (answers : List Answer)
-            → Runs (first_state own) events answers self.now → HoldReplies self.now.calls first_books order.items) }
+        ensures headline { IfOk result (λ order. (own_domain : Bytes) (events : List AnEvent) (answers : List EventAnswer)
+            → Runs (first_machine own_domain) events answers self.now → Headline (accepted events answers) order.items) }
+        ensures held { IfOk result (λ order. (own_domain : Bytes) (events : List AnEvent) (answers : List EventAnswer)
+            → Runs (first_machine own_domain) events answers self.now → HoldReplies self.now.calls first_books order.items) }
     {
         let mut turns = turns_of(self.alloc, &self.calls)?;
         turns.sort_by_key(|turn| turn.0)?;
@@ -121,7 +121,7 @@ impl Machine {
 
     /// Returns what is known of a call; `None` for an unknown one.
     pub fn call(&self, number: u64) -> Option<KnownCall<'_>>
-        ensures { Tells (call_at number self.now.calls) result }
+        ensures { Reports (call_at number self.now.calls) result }
     {
         match self.calls.get(&number) {
             Some(slot) => Some(slot.known()),
@@ -134,7 +134,7 @@ impl Machine {
         requires domain { batch.domain ≡ self.old.domain }
         ensures ok { IfOk result (λ done. Invokes self.old number batch done self.new) }
         ensures err { IfErr result (λ r. (r.1 ≡ batch) × IsRefusalOr (refusal_of self.old (event.Invoke number batch)) r.0) }
-        ensures stays { OnErr result (self.new ≡ self.old) }
+        ensures is_unchanged { OnErr result (self.new ≡ self.old) }
     {
         // The contract then knows that the batch was made for its trust domain.
         let _ = batch.ops();
@@ -158,7 +158,7 @@ impl Machine {
     fn begin(&mut self, number: u64) -> Result<Done, EventRefusal>
         ensures ok { IfOk result (λ done. Begins self.old number done self.new) }
         ensures err { IfErr result (IsRefusalOr (refusal_of self.old (event.Begin number))) }
-        ensures stays { OnErr result (self.new ≡ self.old) }
+        ensures is_unchanged { OnErr result (self.new ≡ self.old) }
     {
         let turn = self.count + 1;
         let Some(slot) = self.calls.get_mut(&number) else {
@@ -176,7 +176,7 @@ impl Machine {
     fn step(&mut self, number: u64) -> Result<Done, EventRefusal>
         ensures ok { IfOk result (λ done. Steps self.old number done self.new) }
         ensures err { IfErr result (IsRefusalOr (refusal_of self.old (event.Step number))) }
-        ensures stays { OnErr result (self.new ≡ self.old) }
+        ensures is_unchanged { OnErr result (self.new ≡ self.old) }
     {
         let Some(slot) = self.calls.get_mut(&number) else {
             return Err(EventRefusal::UnknownCall);
@@ -193,7 +193,7 @@ impl Machine {
     fn commit(&mut self, number: u64) -> Result<Done, EventRefusal>
         ensures ok { IfOk result (λ done. Commits self.old number done self.new) }
         ensures err { IfErr result (IsRefusalOr (refusal_of self.old (event.Commit number))) }
-        ensures stays { OnErr result (self.new ≡ self.old) }
+        ensures is_unchanged { OnErr result (self.new ≡ self.old) }
     {
         let turn = self.count + 1;
         let Some(slot) = self.calls.get_mut(&number) else {
@@ -211,7 +211,7 @@ impl Machine {
     fn reply(&mut self, number: u64) -> Result<Done, EventRefusal>
         ensures ok { IfOk result (λ done. Replies self.old number done self.new) }
         ensures err { IfErr result (IsRefusalOr (refusal_of self.old (event.Reply number))) }
-        ensures stays { OnErr result (self.new ≡ self.old) }
+        ensures is_unchanged { OnErr result (self.new ≡ self.old) }
     {
         let turn = self.count + 1;
         let Some(slot) = self.calls.get_mut(&number) else {
@@ -258,7 +258,7 @@ fn turns_of(alloc: Global, calls: &IndexMap<u64, Slot>) -> Result<Vec<(u64, u64)
 
 /// Returns their numbers, in this order. The error is out of memory.
 fn numbers_of(alloc: Global, turns: &[(u64, u64)]) -> Result<Vec<u64>, AllocError>
-    ensures { IfOk result (λ numbers. numbers.items ≡ map number_in turns.now) }
+    ensures { IfOk result (λ numbers. numbers.items ≡ map number_of_turn turns.now) }
 {
     let mut numbers = Vec::new(alloc);
     for (_, number) in turns {

@@ -3,15 +3,15 @@
 ghost use Rattle.std.specs.Prelude.{◌≡◌, ◌⊎◌, IfSome, None, false, true};
 ghost use Rattle.entry_book.specs.History.{is_committed};
 ghost use Rattle.batch_work.specs.Working.{status_of};
-ghost use Rattle.commit_head.specs.Heads.{Fits, Stays};
-ghost use Rattle.call_machine.specs.Kept.{AnsweredWhenSettled, Finishes, IsDecided, IsOver, IsSettled, IsWhole, RestsOn, domain_of, stage_kept};
+ghost use Rattle.commit_head.specs.Heads.{Fits, IsUnchangedHead};
+ghost use Rattle.call_machine.specs.Kept.{AnsweredWhenSettled, Finishes, IsDecided, IsOverSlot, IsSettledSlot, HasWholeJournal, RestsOn, head_domain, stage_kept};
 ghost use Rattle.call_machine.specs.declared.slot.SlotState.TheVariants as slot;
 
 use batch_work::{Status, Work};
 use call_answers::{CallAnswer, Decision, KnownCall};
 use call_events::EventRefusal;
 use commit_head::{Commit, Head, Prepared};
-use entry_book::{Batch, Outcome, Refusal, Reply};
+use entry_book::{Batch, ReplyOutcome, Refusal, Reply};
 use std::alloc::{AllocError, Global};
 use std::mem::replace;
 use version_book::Mark;
@@ -40,10 +40,10 @@ impl Slot {
     ghost use Rattle.std.specs.Option.{option_copied};
     ghost use Rattle.entry_book.specs.Rows.{Bytes};
     ghost use Rattle.commit_head.specs.declared.item.Item.{Item};
-    ghost use Rattle.commit_head.specs.Heads.{Stays};
+    ghost use Rattle.commit_head.specs.Heads.{IsUnchangedHead};
     ghost use Rattle.call_machine.specs.Calls.{answer_of, status_at};
-    ghost use Rattle.call_machine.specs.Known.{TellsCall, decided_of};
-    ghost use Rattle.call_machine.specs.Kept.{AnsweredWhenSettled, IsWhole, SlotBegins, SlotDecides, SlotRefuses, SlotRests, SlotSteps, call_kept, domain_of, is_listed_slot, is_ready_slot, is_running_slot, is_waiting_slot, may_reply, new_slot, stage_of_slot};
+    ghost use Rattle.call_machine.specs.Known.{ReportsCall, decided_of};
+    ghost use Rattle.call_machine.specs.Kept.{AnsweredWhenSettled, HasWholeJournal, SlotBegins, SlotDecides, SlotRefuses, SlotRests, SlotSteps, call_kept, head_domain, is_listed_slot, is_ready_slot, is_running_slot, is_waiting_slot, may_reply, new_slot, stage_of_slot};
 
     /// Makes the call that is invoked under this accepted number, with a copy of its batch for its work. Takes no memory.
     pub(crate) fn new(alloc: Global, batch: Batch, copy: Batch, invoked: u64) -> Slot
@@ -104,7 +104,7 @@ impl Slot {
     /// Returns what is known of the call.
     pub(crate) fn known(&self) -> KnownCall<'_>
         requires answered { AnsweredWhenSettled self.now.state }
-        ensures { (n : ℕ) → TellsCall (call_kept n self.now) result }
+        ensures { (n : ℕ) → ReportsCall (call_kept n self.now) result }
     {
         KnownCall {
             batch: &self.batch,
@@ -128,11 +128,11 @@ impl Slot {
 
     /// Begins on the head's window, under this accepted number.
     pub(crate) fn begin(&mut self, head: &Head, turn: u64) -> Result<Status, EventRefusal>
-        requires whole { IsWhole head.now }
-        requires rests { SlotRests (domain_of head.now) head.now.kept self.old }
+        requires whole { HasWholeJournal head.now }
+        requires rests { SlotRests (head_domain head.now) head.now.kept self.old }
         ensures ok { IfOk result (λ status. SlotBegins head.now self.old turn status self.new) }
         ensures err { IfErr result (SlotRefuses (is_waiting_slot self.old)) }
-        ensures stays { OnErr result (self.new ≡ self.old) }
+        ensures is_unchanged { OnErr result (self.new ≡ self.old) }
     {
         let Status::New = self.status() else {
             return Err(EventRefusal::NotNow);
@@ -143,16 +143,16 @@ impl Slot {
         let Ok(()) = work.begin(head.window()) else {
             return Err(EventRefusal::NoMemory);
         };
-        let_go(&mut self.state);
+        discard(&mut self.state);
         self.turn = turn;
         Ok(self.status())
     }
 
     /// Makes the next read.
     pub(crate) fn step(&mut self) -> Result<(Mark, Status), EventRefusal>
-        ensures ok { (own : Bytes) (items : List Item) → SlotRests own items self.old → IfOk result (λ read. SlotSteps own items self.old read.0 read.1 self.new) }
+        ensures ok { (own_domain : Bytes) (items : List Item) → SlotRests own_domain items self.old → IfOk result (λ read. SlotSteps own_domain items self.old read.0 read.1 self.new) }
         ensures err { IfErr result (SlotRefuses (is_running_slot self.old)) }
-        ensures stays { OnErr result (self.new ≡ self.old) }
+        ensures is_unchanged { OnErr result (self.new ≡ self.old) }
     {
         let Status::Running = self.status() else {
             return Err(EventRefusal::NotNow);
@@ -166,7 +166,7 @@ impl Slot {
         let Ok(()) = work.step() else {
             return Err(EventRefusal::NoMemory);
         };
-        let_go(&mut self.state);
+        discard(&mut self.state);
         Ok((mark, self.status()))
     }
 
@@ -177,12 +177,12 @@ impl Slot {
         number: u64,
         turn: u64,
     ) -> Result<(Decision, u64), EventRefusal>
-        requires whole { IsWhole head.old }
-        requires rests { SlotRests (domain_of head.old) head.old.kept self.old }
+        requires whole { HasWholeJournal head.old }
+        requires rests { SlotRests (head_domain head.old) head.old.kept self.old }
         ensures ok { IfOk result (λ decided. SlotDecides head.old self.old turn decided.0 decided.1 self.new head.new) }
         ensures err { IfErr result (SlotRefuses (is_ready_slot self.old)) }
-        ensures stays { OnErr result (self.new ≡ self.old) }
-        ensures head_stays { OnErr result (Stays head.old head.new) }
+        ensures is_unchanged { OnErr result (self.new ≡ self.old) }
+        ensures head_unchanged { OnErr result (IsUnchangedHead head.old head.new) }
     {
         let Status::Ready = self.status() else {
             return Err(EventRefusal::NotNow);
@@ -203,7 +203,7 @@ impl Slot {
         requires answered { AnsweredWhenSettled self.old.state }
         ensures ok { IfOk result (λ answer. (self.old.replied ≡ None) × (answer_of (stage_of_slot self.old) ≡ Some answer) × (self.new ≡ record self.old { replied = Some number })) }
         ensures err { IfErr result (SlotRefuses (may_reply self.old)) }
-        ensures stays { OnErr result (self.new ≡ self.old) }
+        ensures is_unchanged { OnErr result (self.new ≡ self.old) }
     {
         if self.replied.is_some() {
             return Err(EventRefusal::NotNow);
@@ -221,7 +221,7 @@ impl Slot {
 
 /// Returns true if the call is open and its work is settled.
 fn is_settled(state: &SlotState) -> bool
-    ensures settled { result ≡ true → IsSettled state.now }
+    ensures settled { result ≡ true → IsSettledSlot state.now }
     ensures answered { result ≡ false → AnsweredWhenSettled state.now }
 {
     match state {
@@ -234,7 +234,7 @@ fn is_settled(state: &SlotState) -> bool
 fn over(work: Work) -> SlotState
     requires settled { status_of work ≡ Status.Settled }
     ensures stage { stage_kept result ≡ stage_kept (slot.Open work) }
-    ensures over { IsOver result }
+    ensures over { IsOverSlot result }
 {
     let Some(reply) = work.into_reply() else {
         unreachable!()
@@ -243,10 +243,10 @@ fn over(work: Work) -> SlotState
 }
 
 /// Replaces a settled work by its reply, which drops its versions.
-fn let_go(state: &mut SlotState)
+fn discard(state: &mut SlotState)
     ensures stage { stage_kept state.new ≡ stage_kept state.old }
     ensures answered { AnsweredWhenSettled state.new }
-    ensures kept { (state.new ≡ state.old) ⊎ IsOver state.new }
+    ensures kept { (state.new ≡ state.old) ⊎ IsOverSlot state.new }
 {
     if !is_settled(state) {
         return;
@@ -264,8 +264,8 @@ fn is_commit(reply: &Reply) -> bool
     ensures { result ≡ is_committed reply.now.outcome }
 {
     match &reply.outcome {
-        Outcome::Committed(_) => true,
-        Outcome::Answered(_) | Outcome::Repeated(_) | Outcome::Refused(_) => false,
+        ReplyOutcome::Committed(_) => true,
+        ReplyOutcome::Answered(_) | ReplyOutcome::Repeated(_) | ReplyOutcome::Refused(_) => false,
     }
 }
 
@@ -280,7 +280,7 @@ fn finish(head: &mut Head, prepared: Prepared) -> Option<(CallAnswer, u64)>
     let Ok(replies) = prepared.item().replies.clone() else {
         return None;
     };
-    let outcome = Outcome::Committed(replies);
+    let outcome = ReplyOutcome::Committed(replies);
     let answer = CallAnswer::Replied(Reply { place, outcome });
     Some((answer, head.finish(prepared)))
 }
@@ -289,10 +289,10 @@ fn finish(head: &mut Head, prepared: Prepared) -> Option<(CallAnswer, u64)>
 /// the new book, or of the newest one if nothing was committed. `None` is a failed allocation, and no book has changed
 /// then.
 fn decide(head: &mut Head, number: u64, work: &Work) -> Option<(CallAnswer, Decision, u64)>
-    requires whole { IsWhole head.old }
-    requires rests { RestsOn (domain_of head.old) head.old.kept work.now }
+    requires whole { HasWholeJournal head.old }
+    requires rests { RestsOn (head_domain head.old) head.old.kept work.now }
     requires ready { status_of work.now ≡ Status.Ready }
-    ensures none { result ≡ None → Stays head.old head.new }
+    ensures none { result ≡ None → IsUnchangedHead head.old head.new }
     ensures some { IfSome result (λ done. IsDecided head.old work.now done.0 done.1 done.2 head.new) }
 {
     match head.prepare(0, number, work) {
@@ -304,7 +304,7 @@ fn decide(head: &mut Head, number: u64, work: &Work) -> Option<(CallAnswer, Deci
             Some((CallAnswer::Conflict(place), Decision::Conflict, place))
         }
         Err(Commit::Full(limit, place)) => {
-            let outcome = Outcome::Refused(Refusal::Full(limit));
+            let outcome = ReplyOutcome::Refused(Refusal::Full(limit));
             let answer = CallAnswer::Replied(Reply { place, outcome });
             Some((answer, Decision::Full(limit), place))
         }

@@ -50,9 +50,9 @@ pub struct DomainMachine {
 
 impl Model for DomainMachine {
     ghost use Rattle.std.specs.Prelude.{◌≡◌};
-    ghost use Rattle.call_machine.specs.Calls.{State};
+    ghost use Rattle.call_machine.specs.Calls.{MachineState};
 
-    ghost Value = { State };
+    ghost Value = { MachineState };
 
     ghost view = { λ kept. kept.machine };
 

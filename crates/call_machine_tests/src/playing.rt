@@ -142,9 +142,9 @@ fn plays_line(
     machine: &mut DomainMachine,
     line: &str,
 ) -> Result<(), Fail> {
-    if let Some((question, want)) = line.split_once(" => ") {
+    if let Some((question, expected)) = line.split_once(" => ") {
         let got = reply_to(rt, alloc, machine, question)?;
-        is_text(rt, got.as_str(), want, line);
+        is_text(rt, got.as_str(), expected, line);
     } else if !line.is_empty() {
         prepares(alloc, machine, line)?;
     }
@@ -177,21 +177,21 @@ pub fn plays(rt: &impl Abort, alloc: Global, table: &str) -> Result<(), Fail> {
 
 /// The event of a line and its answer, if it has one.
 fn event_of(line: &str) -> Option<(&str, &str)> {
-    let (question, want) = line.split_once(" => ")?;
+    let (question, expected) = line.split_once(" => ")?;
     if question == "ORDER" || question.starts_with("CALL ") {
         return None;
     }
-    Some((question, want))
+    Some((question, expected))
 }
 
-fn add_event(alloc: Global, events: &mut Vec<Event>, told: &str) -> Result<(), Fail> {
-    Ok(events.push(event(alloc, told)?)?)
+fn add_event(alloc: Global, events: &mut Vec<Event>, as_text: &str) -> Result<(), Fail> {
+    Ok(events.push(event(alloc, as_text)?)?)
 }
 
 fn add_events(alloc: Global, events: &mut Vec<Event>, table: &str) -> Result<(), Fail> {
     for line in table.lines() {
-        if let Some((told, _)) = event_of(line) {
-            add_event(alloc, events, told)?;
+        if let Some((as_text, _)) = event_of(line) {
+            add_event(alloc, events, as_text)?;
         }
     }
     Ok(())
@@ -225,9 +225,9 @@ fn check_answers(
 ) -> Result<(), Fail> {
     let mut answers = answers.iter();
     for line in table.lines() {
-        if let Some((told, want)) = event_of(line) {
+        if let Some((as_text, expected)) = event_of(line) {
             let got = listed_answer(alloc, answers.next())?;
-            is_text(rt, got.as_str(), want, told);
+            is_text(rt, got.as_str(), expected, as_text);
         }
     }
     holds(rt, answers.next().is_none(), "an answer for each event");

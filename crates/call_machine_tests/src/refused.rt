@@ -50,8 +50,8 @@ fn is_same_event(alloc: Global, first: &Event, second: &Event) -> Result<bool, F
 }
 
 /// Returns true if it is the event of a text.
-fn is_told(alloc: Global, told: &str, refused: &Event) -> Result<bool, Fail> {
-    let event = event(alloc, told)?;
+fn is_as_text(alloc: Global, as_text: &str, refused: &Event) -> Result<bool, Fail> {
+    let event = event(alloc, as_text)?;
     let is_same = is_same_event(alloc, &event, refused);
     drop(event);
     is_same
@@ -72,13 +72,13 @@ fn check_refused(
     rt: &impl Abort,
     alloc: Global,
     machine: &DomainMachine,
-    told: &str,
+    as_text: &str,
     refused: &Event,
     (last, before): (u64, &str),
 ) -> Result<(), Fail> {
-    holds(rt, is_told(alloc, told, refused)?, told);
+    holds(rt, is_as_text(alloc, as_text, refused)?, as_text);
     let after = machine_text(alloc, machine, last)?;
-    is_text(rt, after.as_str(), before, told);
+    is_text(rt, after.as_str(), before, as_text);
     Ok(())
 }
 
@@ -87,12 +87,12 @@ fn checked_text(
     rt: &impl Abort,
     alloc: Global,
     machine: &DomainMachine,
-    told: &str,
+    as_text: &str,
     answer: &Result<Done, RefusedEvent>,
     before: (u64, &str),
 ) -> Result<String, Fail> {
     if let Err(refused) = answer {
-        check_refused(rt, alloc, machine, told, &refused.event, before)?;
+        check_refused(rt, alloc, machine, as_text, &refused.event, before)?;
     }
     Ok(answer_text(alloc, answer)?)
 }
@@ -103,12 +103,12 @@ pub fn answer(
     rt: &impl Abort,
     alloc: Global,
     machine: &mut DomainMachine,
-    told: &str,
+    as_text: &str,
     last: u64,
 ) -> Result<String, Fail> {
     let before = machine_text(alloc, machine, last)?;
-    let answer = machine.apply(event(alloc, told)?)?;
-    let text = checked_text(rt, alloc, machine, told, &answer, (last, before.as_str()));
+    let answer = machine.apply(event(alloc, as_text)?)?;
+    let text = checked_text(rt, alloc, machine, as_text, &answer, (last, before.as_str()));
     drop(answer);
     text
 }

@@ -4,18 +4,18 @@ use batch_work::Status;
 use call_answers::{CallAnswer, Decision, Done, KnownCall};
 use call_events::RefusedEvent;
 use std::alloc::Global;
-use test_batches::{Failed, mark_text, placed, reply_text};
+use test_batches::{Failed, mark_words, kind_at_place, reply_text};
 use version_book::Mark;
 
 fn conflict_text(alloc: Global, place: u64) -> Result<String, Failed> {
-    placed(alloc, "conflict", place)
+    kind_at_place(alloc, "conflict", place)
 }
 
 fn decided_text(alloc: Global, decision: &Decision, place: u64) -> Result<String, Failed> {
     match decision {
-        Decision::Committed => placed(alloc, "committed", place),
+        Decision::Committed => kind_at_place(alloc, "committed", place),
         Decision::Conflict => conflict_text(alloc, place),
-        Decision::Full(limit) => placed(alloc, limit.code(), place),
+        Decision::Full(limit) => kind_at_place(alloc, limit.code(), place),
     }
 }
 
@@ -46,7 +46,7 @@ fn begun_text(alloc: Global, call: u64, place: u64, status: &Status) -> Result<S
 }
 
 fn stepped_text(alloc: Global, call: u64, mark: &Mark, status: &Status) -> Result<String, Failed> {
-    let (read, word) = (mark_text(alloc, mark)?, status_word(status));
+    let (read, word) = (mark_words(alloc, mark)?, status_word(status));
     Ok(format!(in alloc; "{call} {word} by {read}")?)
 }
 

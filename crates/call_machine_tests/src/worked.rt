@@ -434,7 +434,7 @@ fn no_read_is_of_what_isnt_committed(rt: HostRuntime) -> Result<(), Fail> {
 }
 
 #[test]
-fn two_calls_that_pass_a_limit_together_are_not_both_let_in(rt: HostRuntime) -> Result<(), Fail> {
+fn two_calls_that_pass_a_limit_together_are_not_both_admitted(rt: HostRuntime) -> Result<(), Fail> {
     plays(&rt, rt.alloc(), LIMIT_PASSED_BY_TWO)
 }
 
@@ -444,7 +444,7 @@ fn calls_on_different_rows_are_both_committed(rt: HostRuntime) -> Result<(), Fai
 }
 
 #[test]
-fn a_query_settles_and_stands_where_it_began(rt: HostRuntime) -> Result<(), Fail> {
+fn a_query_settles_at_the_place_where_it_began(rt: HostRuntime) -> Result<(), Fail> {
     plays(&rt, rt.alloc(), QUERY)?;
     plays(&rt, rt.alloc(), AUTHORISED)
 }

@@ -149,13 +149,13 @@ abbrev pub seed_text : List Text → Text
 seed_text words = unwrap_or (seed_word words) first_seed
 
 -- no 32 bytes have this text
-abbrev pub TellsNoSeed : Text → Type 0
-TellsNoSeed text = (seed : List ℕ) → length seed ≡ 32 → IsBytes seed → encode_lower seed ≢ text
+abbrev pub ParsesNoSeed : Text → Type 0
+ParsesNoSeed text = (seed : List ℕ) → length seed ≡ 32 → IsBytes seed → encode_lower seed ≢ text
 
 -- ---- a server
 
 -- the text is a decimal numeral, possibly after a plus, of this number, which is 1 to `most`
-pub record TellsNumber (most : ℕ) (text : Text) (n : ℕ) : Type 0 where
+pub record ParsesNumber (most : ℕ) (text : Text) (n : ℕ) : Type 0 where
   pub digits : IsNumeral 10 (without_leading_plus text)
   pub value : n ≡ digits_value 10 (without_leading_plus text)
   pub least : 1 ≤ n
@@ -166,29 +166,29 @@ abbrev pub server_word : Text → Option (Text × List Row) → Text
 server_word id met = unwrap_or (option_in (codes "serve") id met) []
 
 -- The words give a server this address and these numbers, each in its range.
-pub record TellsServer (met : Option (Text × List Row)) (plan : ServerPlan) : Type 0 where
+pub record ParsesServer (met : Option (Text × List Row)) (plan : ServerPlan) : Type 0 where
   pub listen : IsSocketV4Text (server_word (codes "listen") met) plan.listen
-  pub workers : TellsNumber most_workers (server_word (codes "workers") met) plan.workers
-  pub connections : TellsNumber most_connections (server_word (codes "connections") met) plan.connections
+  pub workers : ParsesNumber most_workers (server_word (codes "workers") met) plan.workers
+  pub connections : ParsesNumber most_connections (server_word (codes "connections") met) plan.connections
 
 -- there is a plan exactly if a server is requested, and the words give it the plan's values
 abbrev pub AsksServer : Option (Text × List Row) → Program → Option ServerPlan → Type 0
-AsksServer met Serve (Some plan) = TellsServer met plan
+AsksServer met Serve (Some plan) = ParsesServer met plan
 AsksServer met Serve None = ⊥
 AsksServer met program (Some plan) = ⊥
 AsksServer met program None = ⊤
 
 -- the text is an address
-abbrev pub TellsAddress : Text → Type 0
-TellsAddress text = (a : SocketAddrV4) × IsSocketV4Text text a
+abbrev pub ParsesAddress : Text → Type 0
+ParsesAddress text = (a : SocketAddrV4) × IsSocketV4Text text a
 
 -- the text isn't an address
-abbrev pub TellsNoAddress : Text → Type 0
-TellsNoAddress text = (a : SocketAddrV4) → IsSocketV4Text text a → ⊥
+abbrev pub ParsesNoAddress : Text → Type 0
+ParsesNoAddress text = (a : SocketAddrV4) → IsSocketV4Text text a → ⊥
 
 -- the words don't give a number of workers in its range, or not one of connections
-abbrev pub TellsNoNumbers : Option (Text × List Row) → Type 0
-TellsNoNumbers met = ((n : ℕ) → TellsNumber most_workers (server_word (codes "workers") met) n → ⊥) ⊎ ((n : ℕ) → TellsNumber most_connections (server_word (codes "connections") met) n → ⊥)
+abbrev pub ParsesNoNumbers : Option (Text × List Row) → Type 0
+ParsesNoNumbers met = ((n : ℕ) → ParsesNumber most_workers (server_word (codes "workers") met) n → ⊥) ⊎ ((n : ℕ) → ParsesNumber most_connections (server_word (codes "connections") met) n → ⊥)
 
 -- ---- the faults of a command line
 
@@ -197,7 +197,7 @@ pub record AsksWell (words : List Text) : Type 0 where
   pub taken : line_faults words ≡ []
   pub asked : program_asked words ≡ Serve
   pub domain : domain_refusal (unwrap_or (domain_word words) []) ≡ None
-  pub seed : TellsNoSeed (seed_text words) → ⊥
+  pub seed : ParsesNoSeed (seed_text words) → ⊥
 
 -- The words have this fault: the parser refuses them; or it accepts them, and their domain (the empty text if there is none) isn't a
 -- trust domain; or it is one, and the text of the seed isn't a seed; or it is one, and the words request a server without a valid
@@ -208,8 +208,8 @@ IsFaultOf words (Refused error) = IsAmong (kind_of error) (line_faults words)
 IsFaultOf words (Domain refusal) =
     (line_faults words ≡ []) × (domain_refusal (unwrap_or (domain_word words) []) ≡ Some refusal)
 IsFaultOf words Seed =
-    (line_faults words ≡ []) × (domain_refusal (unwrap_or (domain_word words) []) ≡ None) × TellsNoSeed (seed_text words)
-IsFaultOf words Address = AsksWell words × TellsNoAddress (server_word (codes "listen") (subcommand_of regd_command words))
-IsFaultOf words Number = AsksWell words × TellsAddress (server_word (codes "listen") (subcommand_of regd_command words)) × TellsNoNumbers (subcommand_of regd_command words)
+    (line_faults words ≡ []) × (domain_refusal (unwrap_or (domain_word words) []) ≡ None) × ParsesNoSeed (seed_text words)
+IsFaultOf words Address = AsksWell words × ParsesNoAddress (server_word (codes "listen") (subcommand_of regd_command words))
+IsFaultOf words Number = AsksWell words × ParsesAddress (server_word (codes "listen") (subcommand_of regd_command words)) × ParsesNoNumbers (subcommand_of regd_command words)
 IsFaultOf words NotText = ⊥
 IsFaultOf words NoMemory = ⊤

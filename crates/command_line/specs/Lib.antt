@@ -1,4 +1,4 @@
-pub mod Asked
+pub mod ParsedCommands
 pub mod CommandLinePrivate
 pub mod CommandLine
 pub mod Conversions

@@ -4,7 +4,7 @@
 //! - [`LineFault`]: why a command line is invalid.
 //! - [`a_line_gives_its_domain`]: which words give which domain.
 //!
-//! The definitions are in `specs/`: `CommandLine` and `Asked` define what words request, and which faults they have.
+//! The definitions are in `specs/`: `CommandLine` and `ParsedCommand` define what words request, and which faults they have.
 //! `CommandLinePrivate` is for this crate's own contracts.
 //!
 //! `docs/GLOSSARY.md` explains the terms.

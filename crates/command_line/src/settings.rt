@@ -31,10 +31,10 @@ pub struct Settings {
 }
 
 impl Model for Settings {
-    ghost use Rattle.command_line.specs.Asked.{Asked};
+    ghost use Rattle.command_line.specs.ParsedCommands.{ParsedCommand};
     ghost use Rattle.command_line.specs.CommandLinePrivate.{HasServer};
 
-    ghost Value = { Asked };
+    ghost Value = { ParsedCommand };
 
     ghost view = { λ settings. record { program = settings.program; domain = settings.domain; seed = settings.seed; server = settings.server } };
 
@@ -117,7 +117,7 @@ ghost use Rattle.std.specs.Prelude.{◌≡◌, ℕ, IfErr, IfNone, IfOk, IfSome,
 ghost use Rattle.clap.specs.Words.{app_of, rule_of, subcommand_rows_of};
 ghost use Rattle.clap.specs.declared.Command.TheViews.{out-Command};
 ghost use Rattle.command_line.specs.CommandLinePrivate.{HasServer, IsServerFault};
-ghost use Rattle.command_line.specs.CommandLine.{AsksServer, TellsNumber, TellsServer, audit_command, book_commands, domain_option, is_recorded, listen_command, listen_option, most_connections, most_workers, number_option, option_in, plain_command, program_in, record_option, regd_command, schedule_command, seed_option, serve_command, server_word};
+ghost use Rattle.command_line.specs.CommandLine.{AsksServer, ParsesNumber, ParsesServer, audit_command, book_commands, domain_option, is_recorded, listen_command, listen_option, most_connections, most_workers, number_option, option_in, plain_command, program_in, record_option, regd_command, schedule_command, seed_option, serve_command, server_word};
 
 fn domain_option<'a>(alloc: Global) -> Arg<'a>
     ensures rule { rule_of result ≡ domain_option }
@@ -296,7 +296,7 @@ fn server_of(matches: &ArgMatches<'_>, program: Program) -> Result<Option<Server
 
 /// Returns the address and the numbers that the words give to a server.
 fn plan_of(matches: &ArgMatches<'_>) -> Result<ServerPlan, LineFault>
-    ensures server { IfOk result (TellsServer (subcommand_rows_of matches.now)) }
+    ensures server { IfOk result (ParsesServer (subcommand_rows_of matches.now)) }
     ensures fault { IfErr result (IsServerFault (subcommand_rows_of matches.now) Program.Serve) }
 {
     let Ok(listen) = server_word(matches, "listen").parse() else {
@@ -324,8 +324,8 @@ fn server_word<'a>(matches: &ArgMatches<'a>, id: &str) -> &'a str
 
 /// Returns the number of the text, if it is 1 to `most`.
 fn number_of(text: &str, most: u16) -> Option<u16>
-    ensures some { IfSome result (TellsNumber most text.now) }
-    ensures none { IfNone result ((n : ℕ) → TellsNumber most text.now n → ⊥) }
+    ensures some { IfSome result (ParsesNumber most text.now) }
+    ensures none { IfNone result ((n : ℕ) → ParsesNumber most text.now n → ⊥) }
 {
     let number: u16 = text.parse().ok()?;
     if number >= 1 && number <= most {

@@ -7,50 +7,50 @@ use Rattle.entry_book.specs.Book.{Book}
 use Rattle.entry_book.specs.History.{place_of as place_in, adds, reply_with, books_with, books_after, books_of, first_books}
 use Rattle.entry_book.specs.Laws.{IsWithinLimits}
 use Rattle.entry_book.proofs.Histories.{history_bounded}
-use Rattle.version_book.specs.CommittedRows.{State, book_of}
-use Rattle.version_book.specs.History.{Commits, Follows, IsLast, state_with, replies_on}
+use Rattle.version_book.specs.CommittedRows.{VersionState, book_of}
+use Rattle.version_book.specs.History.{CommitsOn, Follows, IsLast, version_with, replies_on}
 use Rattle.version_book.proofs.Batches.{books_join, replies_follow}
-use Rattle.version_book.proofs.Histories.{books_follow, domain_stays, limits_follow, newest_read, verdict_last}
-use Rattle.batch_work.specs.Windows.{Window, StandsFor, book_in, pushed}
-use Rattle.batch_work.proofs.Windows.{window_begins, window_goes_on, window_last}
+use Rattle.version_book.proofs.Histories.{books_follow, domain_is_unchanged, limits_follow, newest_read, verdict_last}
+use Rattle.batch_work.specs.Windows.{Window, WindowRepresents, book_in, pushed}
+use Rattle.batch_work.proofs.Windows.{window_begins, window_extends, window_last}
 use Rattle.commit_head.specs.declared.item.Item.{Item}
-use Rattle.commit_head.specs.Heads.{Goes, HasJournal, Head, IsJournal, Prepared, last_items, newest_of}
-use Rattle.commit_head.specs.Journals.{Joins, Leads, batches_of, committed_after, first_state}
-use Rattle.commit_head.specs.Laws.{ItemsFollow, JoinsOnBooks, JournalBegins, JournalGoesOn, JournalIsLawful, JournalLast, LeadsInParts, LeadsToOne}
+use Rattle.commit_head.specs.Heads.{IsPreparedFor, HasJournal, Head, IsJournal, Prepared, last_items, newest_of}
+use Rattle.commit_head.specs.Journals.{Joins, Leads, batches_of, committed_after, empty_version}
+use Rattle.commit_head.specs.Laws.{ItemsFollow, JoinsOnBooks, JournalBegins, JournalExtends, JournalIsLawful, JournalLast, LeadsInParts, LeadsToOne}
 
-pub commits : (item : Item) (s : State) → Joins item s → Commits item.batch s
+pub commits : (item : Item) (s : VersionState) → Joins item s → CommitsOn item.batch s
 commits item s j = record { made = j.made; replies = item.replies; added = j.added }
 
-pub leads_follow : (items : List Item) (s t : State) → Leads s items t → Follows s (batches_of items) t
+pub leads_follow : (items : List Item) (s t : VersionState) → Leads s items t → Follows s (batches_of items) t
 leads_follow [] s t l = l
-leads_follow (item ∷ items) s t l = (commits item s l.0, leads_follow items (state_with item.batch s) t l.1)
+leads_follow (item ∷ items) s t l = (commits item s l.0, leads_follow items (version_with item.batch s) t l.1)
 
-pub leads_count : (items : List Item) (s t : State) → Leads s items t → length items + s.number ≡ t.number
+pub leads_count : (items : List Item) (s t : VersionState) → Leads s items t → length items + s.number ≡ t.number
 leads_count [] s t l = let k : s.number ≡ t.number = ap (λ s. s.number) l in omega arith
-leads_count (item ∷ items) s t l = let k = leads_count items (state_with item.batch s) t l.1 in omega arith
+leads_count (item ∷ items) s t l = let k = leads_count items (version_with item.batch s) t l.1 in omega arith
 
 pub items_follow : ItemsFollow
 items_follow items older newer l = record { follows = leads_follow items older newer l; count = leads_count items older newer l }
 
-pub leads_more : (items : List Item) (item : Item) (s t : State) → Leads s items t → Joins item t → Leads s (items ++ item ∷ []) (state_with item.batch t)
-leads_more [] item s t l j = (subst (Joins item) (sym l) j, ap (state_with item.batch) l)
-leads_more (i ∷ is) item s t l j = (l.0, leads_more is item (state_with i.batch s) t l.1 j)
+pub leads_more : (items : List Item) (item : Item) (s t : VersionState) → Leads s items t → Joins item t → Leads s (items ++ item ∷ []) (version_with item.batch t)
+leads_more [] item s t l j = (subst (Joins item) (sym l) j, ap (version_with item.batch) l)
+leads_more (i ∷ is) item s t l j = (l.0, leads_more is item (version_with i.batch s) t l.1 j)
 
 pub leads_in_parts : LeadsInParts
 leads_in_parts [] second older newer l = (older, refl, l)
-leads_in_parts (item ∷ items) second older newer l = let rest = leads_in_parts items second (state_with item.batch older) newer l.1 in (rest.0, (l.0, rest.1), rest.2)
+leads_in_parts (item ∷ items) second older newer l = let rest = leads_in_parts items second (version_with item.batch older) newer l.1 in (rest.0, (l.0, rest.1), rest.2)
 
 pub leads_to_one : LeadsToOne
 leads_to_one [] older newer other l k = sym l ∙ k
-leads_to_one (item ∷ items) older newer other l k = leads_to_one items (state_with item.batch older) newer other l.1 k.1
+leads_to_one (item ∷ items) older newer other l k = leads_to_one items (version_with item.batch older) newer other l.1 k.1
 
 -- ---- the list of all books
 
-first_last : (own : Bytes) → IsLast (first_state own) first_books
-first_last own = record { book = refl; place = refl }
+first_last : (own_domain : Bytes) → IsLast (empty_version own_domain) first_books
+first_last own_domain = record { book = refl; place = refl }
 
 -- after an item, the list of books has the book of the next version
-books_more : (item : Item) (s : State) (books : List Book) → IsLast s books → Joins item s → books_after item.batch books ≡ books ++ book_in (state_with item.batch s) ∷ []
+books_more : (item : Item) (s : VersionState) (books : List Book) → IsLast s books → Joins item s → books_after item.batch books ≡ books ++ book_in (version_with item.batch s) ∷ []
 books_more item s books k j = ap (books_with books) (verdict_last item.batch s books k.book k.place (newest_read item.batch s (commits item s j)) ∙ j.added)
 
 batches_more : (items : List Item) (item : Item) → batches_of (items ++ item ∷ []) ≡ batches_of items ++ item.batch ∷ []
@@ -62,7 +62,7 @@ last_shown items h k = window_last h.window (books_of (batches_of items)) k.show
 pub journal_last : JournalLast
 journal_last items h k = last_shown items h k
 
-all_books : (items : List Item) (item : Item) (h : Head) → IsJournal items h → Joins item (newest_of h) → books_of (batches_of (items ++ item ∷ [])) ≡ books_of (batches_of items) ++ book_in (state_with item.batch (newest_of h)) ∷ []
+all_books : (items : List Item) (item : Item) (h : Head) → IsJournal items h → Joins item (newest_of h) → books_of (batches_of (items ++ item ∷ [])) ≡ books_of (batches_of items) ++ book_in (version_with item.batch (newest_of h)) ∷ []
 all_books items item h k j =
     ap books_of (batches_more items item)
     ∙ (books_join (batches_of items) (item.batch ∷ []) first_books
@@ -74,50 +74,50 @@ joins_on_books items item h k j =
     let books = books_of (batches_of items) in
     let last : IsLast s books = last_shown items h k in
     record {
-      reply = ap (reply_with (place_in books)) (verdict_last item.batch s books last.book last.place (newest_read item.batch s (commits item s j)) ∙ j.added) ∙ ap (λ n. reply_with n (adds item.replies (book_of (state_with item.batch s).rows))) last.place;
+      reply = ap (reply_with (place_in books)) (verdict_last item.batch s books last.book last.place (newest_read item.batch s (commits item s j)) ∙ j.added) ∙ ap (λ n. reply_with n (adds item.replies (book_of (version_with item.batch s).rows))) last.place;
       books = books_more item s books last j ∙ sym (all_books items item h k j);
     }
 
-pub journal_goes_on : JournalGoesOn
-journal_goes_on items item old new k j a =
-    let next : State = state_with item.batch (newest_of old) in
+pub journal_extends : JournalExtends
+journal_extends items item old new k j a =
+    let next : VersionState = version_with item.batch (newest_of old) in
     let newest : new.window.newest ≡ next = ap (λ w. w.newest) a.window in
     record {
-      leads = subst (λ s. Leads (first_state s.domain) (items ++ item ∷ []) s) (sym newest) (leads_more items item (first_state old.window.newest.domain) old.window.newest k.leads j);
+      leads = subst (λ s. Leads (empty_version s.domain) (items ++ item ∷ []) s) (sym newest) (leads_more items item (empty_version old.window.newest.domain) old.window.newest k.leads j);
       ending = (k.ending.0, ap (λ l. l ++ item ∷ []) k.ending.1 ∙ (append_assoc k.ending.0 old.kept (item ∷ []) ∙ ap (λ l. k.ending.0 ++ l) (sym a.kept)));
-      shown = subst (λ w. StandsFor w (books_of (batches_of (items ++ item ∷ [])))) (sym a.window) (subst (StandsFor (pushed next old.window)) (sym (all_books items item old k j)) (window_goes_on old.window next (books_of (batches_of items)) k.shown (record { number = refl; domain = refl })));
+      shown = subst (λ w. WindowRepresents w (books_of (batches_of (items ++ item ∷ [])))) (sym a.window) (subst (WindowRepresents (pushed next old.window)) (sym (all_books items item old k j)) (window_extends old.window next (books_of (batches_of items)) k.shown (record { number = refl; domain = refl })));
     }
 
 pub journal_begins : JournalBegins
-journal_begins own h w e =
-    let newest : h.window.newest ≡ first_state own = ap (λ w. w.newest) w in
+journal_begins own_domain h w e =
+    let newest : h.window.newest ≡ empty_version own_domain = ap (λ w. w.newest) w in
     record {
-      leads = subst (λ s. Leads (first_state s.domain) [] s) (sym newest) refl;
+      leads = subst (λ s. Leads (empty_version s.domain) [] s) (sym newest) refl;
       ending = ([], sym e);
-      shown = subst (λ w. StandsFor w first_books) (sym w) (window_begins (first_state own) refl);
+      shown = subst (λ w. WindowRepresents w first_books) (sym w) (window_begins (empty_version own_domain) refl);
     }
 
 -- ---- limits
 
 pub within : (items : List Item) (h : Head) → IsJournal items h → IsWithinLimits (book_of h.window.newest.rows)
-within items h k = limits_follow (batches_of items) (first_state h.window.newest.domain) h.window.newest (record { entries = omega arith; agents = omega arith; bundles = omega arith; tokens = omega arith }) (leads_follow items (first_state h.window.newest.domain) h.window.newest k.leads)
+within items h k = limits_follow (batches_of items) (empty_version h.window.newest.domain) h.window.newest (record { entries = omega arith; agents = omega arith; bundles = omega arith; tokens = omega arith }) (leads_follow items (empty_version h.window.newest.domain) h.window.newest k.leads)
 
 -- ---- lawful journals
 
-replied : (items : List Item) (s t : State) → Leads s items t → replies_on (batches_of items) s ≡ committed_after s.number items
+replied : (items : List Item) (s t : VersionState) → Leads s items t → replies_on (batches_of items) s ≡ committed_after s.number items
 replied [] s t l = refl
 replied (item ∷ items) s t l =
-    let first : Reply = record { place = s.number + 1; outcome = (reply_with s.number (adds item.replies (book_of (state_with item.batch s).rows))).outcome } in
-    ap (λ v. reply_with s.number v ∷ replies_on (batches_of items) (state_with item.batch s)) (l.0).added ∙ ap (λ l. first ∷ l) (replied items (state_with item.batch s) t l.1)
+    let first : Reply = record { place = s.number + 1; outcome = (reply_with s.number (adds item.replies (book_of (version_with item.batch s).rows))).outcome } in
+    ap (λ v. reply_with s.number v ∷ replies_on (batches_of items) (version_with item.batch s)) (l.0).added ∙ ap (λ l. first ∷ l) (replied items (version_with item.batch s) t l.1)
 
 pub journal_is_lawful : JournalIsLawful
-journal_is_lawful own items s l once =
-    let follows = leads_follow items (first_state own) s l in
-    let first = first_last own in
+journal_is_lawful own_domain items s l once =
+    let follows = leads_follow items (empty_version own_domain) s l in
+    let first = first_last own_domain in
     record {
-      made = (domain_stays (batches_of items) (first_state own) s follows).1;
-      committed = (books_follow (batches_of items) (first_state own) s first_books (omega arith) first.book first.place follows).0;
-      replies = replies_follow (batches_of items) (first_state own) s first_books (omega arith) first follows ∙ replied items (first_state own) s l;
+      made = (domain_is_unchanged (batches_of items) (empty_version own_domain) s follows).1;
+      committed = (books_follow (batches_of items) (empty_version own_domain) s first_books (omega arith) first.book first.place follows).0;
+      replies = replies_follow (batches_of items) (empty_version own_domain) s first_books (omega arith) first follows ∙ replied items (empty_version own_domain) s l;
       once = once;
     }
 
@@ -125,21 +125,21 @@ journal_is_lawful own items s l once =
 
 pub low : (items : List Item) (h : Head) → IsJournal items h → h.window.newest.number ≤ 2 ^ 48
 low items h k =
-    let own = h.window.newest.domain in
-    let follows = leads_follow items (first_state own) h.window.newest k.leads in
-    let first = first_last own in
-    let committed = (books_follow (batches_of items) (first_state own) h.window.newest first_books (omega arith) first.book first.place follows).0 in
-    let made = (domain_stays (batches_of items) (first_state own) h.window.newest follows).1 in
-    let bounded = history_bounded own (books_of (batches_of items)) (batches_of items, record { made = made; committed = committed; books_are = refl }) in
+    let own_domain = h.window.newest.domain in
+    let follows = leads_follow items (empty_version own_domain) h.window.newest k.leads in
+    let first = first_last own_domain in
+    let committed = (books_follow (batches_of items) (empty_version own_domain) h.window.newest first_books (omega arith) first.book first.place follows).0 in
+    let made = (domain_is_unchanged (batches_of items) (empty_version own_domain) h.window.newest follows).1 in
+    let bounded = history_bounded own_domain (books_of (batches_of items)) (batches_of items, record { made = made; committed = committed; books_are = refl }) in
     let count = k.shown.count in
     omega arith
 
 -- ---- the journal after a finish and after a checkpoint
 
-pub finished : (old : Head) (p : Prepared) (window : Window) (kept : List Item) (room : ℕ) → HasJournal old → Goes (newest_of old) p → window ≡ pushed p.version old.window → kept ≡ old.kept ++ p.item ∷ [] → HasJournal (record { window = window; kept = kept; room = room })
+pub finished : (old : Head) (p : Prepared) (window : Window) (kept : List Item) (room : ℕ) → HasJournal old → IsPreparedFor (newest_of old) p → window ≡ pushed p.version old.window → kept ≡ old.kept ++ p.item ∷ [] → HasJournal (record { window = window; kept = kept; room = room })
 finished old p window kept room k g w e =
     let new : Head = record { window = window; kept = kept; room = room } in
-    (k.0 ++ p.item ∷ [], journal_goes_on k.0 p.item old new k.1 g.joins (record { window = w ∙ ap (λ s. pushed s old.window) g.version; kept = e }))
+    (k.0 ++ p.item ∷ [], journal_extends k.0 p.item old new k.1 g.joins (record { window = w ∙ ap (λ s. pushed s old.window) g.version; kept = e }))
 
 pub dropped : (old : Head) (kept : List Item) (room : ℕ) → HasJournal old → kept ≡ last_items old.kept → HasJournal (record { window = old.window; kept = kept; room = room })
 dropped old kept room k e =

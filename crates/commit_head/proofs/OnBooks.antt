@@ -2,7 +2,7 @@
 use Rattle.std.proofs.Common.{◌≡◌, ℕ, ◌+◌, List, ◌∷◌, ◌++◌, length, length-append, take, drop, Some, None, refl, sym, ap, subst, ◌∙◌, arith}
 use Rattle.std.proofs.lemmas.List.{append_assoc, length-map, map-append, take-append-drop}
 use Rattle.entry_book.specs.declared.limit.Limit.{Limit}
-use Rattle.entry_book.specs.declared.reply.Outcome.TheVariants.{Committed as WasCommitted, Refused as WasRefused}
+use Rattle.entry_book.specs.declared.reply.ReplyOutcome.TheVariants.{Committed as WasCommitted, Refused as WasRefused}
 use Rattle.entry_book.specs.declared.reply.Refusal.TheVariants.{Full as TooMuch}
 use Rattle.entry_book.specs.Order.{Within}
 use Rattle.entry_book.specs.Rows.{Bytes}
@@ -11,7 +11,7 @@ use Rattle.entry_book.specs.History.{CommitAll, books_after, books_from, books_o
 use Rattle.entry_book.proofs.Histories.{count_of_books}
 use Rattle.entry_book.proofs.PastPages.{changes_newest}
 use Rattle.entry_book.proofs.Sets.{from_any}
-use Rattle.version_book.specs.CommittedRows.{State, book_of}
+use Rattle.version_book.specs.CommittedRows.{VersionState, book_of}
 use Rattle.version_book.specs.History.{IsLast, SomeHit, any_hits, writes_of}
 use Rattle.version_book.proofs.Batches.{books_join, commits_join}
 use Rattle.version_book.proofs.Histories.{books_follow, verdict_last}
@@ -24,11 +24,11 @@ use Rattle.batch_work.proofs.Cases.{waits}
 use Rattle.batch_work.proofs.Ready.{ready_has_read}
 use Rattle.commit_head.specs.declared.commit.Commit.TheVariants.{Conflict, Full, Committed, NoMemory}
 use Rattle.commit_head.specs.declared.item.Item.{Item}
-use Rattle.commit_head.specs.Heads.{Head, IsCommitted, IsDue, IsJournal, newest_of, place_of}
-use Rattle.commit_head.specs.Journals.{Leads, batches_of, first_state}
+use Rattle.commit_head.specs.Heads.{Head, IsCommitted, IsDueOnVersions, IsJournal, newest_of, head_place}
+use Rattle.commit_head.specs.Journals.{Leads, batches_of, empty_version}
 use Rattle.commit_head.specs.Outcomes.{CommitOnBooks, CommitsOnBooks, IsHitSince}
 use Rattle.commit_head.proofs.Begun.{began_inside, journal_kept}
-use Rattle.commit_head.proofs.Journals.{items_follow, joins_on_books, journal_goes_on, journal_last}
+use Rattle.commit_head.proofs.Journals.{items_follow, joins_on_books, journal_extends, journal_last}
 
 -- ---- items and batches
 
@@ -39,15 +39,15 @@ pub batches_join : (items more : List Item) → batches_of (items ++ more) ≡ b
 batches_join items more = map-append (λ item. item.batch) items more
 
 -- A version to which items lead from the first one has the last of the books of their batches, and each of them commits.
-pub record LedTo (items : List Item) (s : State) : Type 0 where
+pub record LedTo (items : List Item) (s : VersionState) : Type 0 where
   pub commit : CommitAll first_books (batches_of items)
   pub last : IsLast s (books_of (batches_of items))
   pub number : s.number ≡ length items
 
-pub led_to : (own : Bytes) (items : List Item) (s : State) → Leads (first_state own) items s → LedTo items s
-led_to own items s l =
-    let f = items_follow items (first_state own) s l in
-    let b = books_follow (batches_of items) (first_state own) s first_books (omega arith) refl refl f.follows in
+pub led_to : (own_domain : Bytes) (items : List Item) (s : VersionState) → Leads (empty_version own_domain) items s → LedTo items s
+led_to own_domain items s l =
+    let f = items_follow items (empty_version own_domain) s l in
+    let b = books_follow (batches_of items) (empty_version own_domain) s first_books (omega arith) refl refl f.follows in
     record {
       commit = b.0;
       last = record { book = b.1; place = b.2 };
@@ -57,7 +57,7 @@ led_to own items s l =
 -- ---- the outcomes
 
 -- if the newest version passes a limit, the specification refuses the batch for it on the list of all books
-pub full_on_books : (items : List Item) (h : Head) (batch : Batch) (limit : Limit) (n : ℕ) → IsJournal items h → past_place batch.ops ≡ None → n ≡ place_of h → verdict batch (place_of h) (Some (book_of (newest_of h).rows)) ≡ refuses (TooMuch limit) → reply_to batch (books_of (batches_of items)) ≡ record { place = n; outcome = WasRefused (TooMuch limit) }
+pub full_on_books : (items : List Item) (h : Head) (batch : Batch) (limit : Limit) (n : ℕ) → IsJournal items h → past_place batch.ops ≡ None → n ≡ head_place h → verdict batch (head_place h) (Some (book_of (newest_of h).rows)) ≡ refuses (TooMuch limit) → reply_to batch (books_of (batches_of items)) ≡ record { place = n; outcome = WasRefused (TooMuch limit) }
 full_on_books items h batch limit n k newest e v =
     let books = books_of (batches_of items) in
     let last = journal_last items h k in
@@ -65,9 +65,9 @@ full_on_books items h batch limit n k newest e v =
     ∙ ap (λ m. record { place = m; outcome = WasRefused (TooMuch limit) }) (last.place ∙ sym e)
 
 -- if each list of items that leads to the newest version has a batch that hits, the journal has one
-pub due_on_books : (items : List Item) (h : Head) (batch : Batch) (base : Base) → IsJournal items h → Leads (first_state h.window.newest.domain) (take base.newest.number items) base.newest → IsDue (Some base) batch (newest_of h) h.kept → IsHitSince (batches_of items) base.newest.number (footprint_there batch base)
+pub due_on_books : (items : List Item) (h : Head) (batch : Batch) (base : Base) → IsJournal items h → Leads (empty_version h.window.newest.domain) (take base.newest.number items) base.newest → IsDueOnVersions (Some base) batch (newest_of h) h.kept → IsHitSince (batches_of items) base.newest.number (footprint_there batch base)
 due_on_books items h batch base k leads due =
-    let own = h.window.newest.domain in
+    let own_domain = h.window.newest.domain in
     let n = base.newest.number in
     let before = take n items in
     let since = drop n items in
@@ -75,14 +75,14 @@ due_on_books items h batch base k leads due =
     let inside = began_inside before since base h (subst (λ l. IsJournal l h) (sym parts) k) leads in
     let marks = footprint_there batch base in
     let found = from_any (λ m. any_hits m base.newest (batches_of since)) marks (due since inside.leads inside.agrees) in
-    let led = led_to own before base.newest leads in
+    let led = led_to own_domain before base.newest leads in
     let books = books_of (batches_of before) in
     let count = count_of_books (batches_of before) led.commit in
     let follows = (items_follow since base.newest (newest_of h) inside.leads).follows in
     let some : SomeHit found.0 books (batches_of since) = (hits_in_books found.0 (batches_of since) base.newest (newest_of h) books (omega arith) led.last follows).0 found.2 in
     let journal : batches_of items ≡ batches_of before ++ batches_of since = ap batches_of (sym parts) ∙ batches_join before since in
     let split : batches_of items ≡ (batches_of before ++ some.before) ++ some.batch ∷ some.later = journal ∙ (ap (λ l. batches_of before ++ l) some.split ∙ sym (append_assoc (batches_of before) some.before (some.batch ∷ some.later))) in
-    let all : CommitAll first_books ((batches_of before ++ some.before) ++ some.batch ∷ some.later) = subst (CommitAll first_books) split (led_to own items (newest_of h) k.leads).commit in
+    let all : CommitAll first_books ((batches_of before ++ some.before) ++ some.batch ∷ some.later) = subst (CommitAll first_books) split (led_to own_domain items (newest_of h) k.leads).commit in
     let front = ((commits_join (batches_of before ++ some.before) (some.batch ∷ some.later) first_books).0 all).0 in
     let there : books_from books some.before ≡ books_of (batches_of before ++ some.before) = sym (books_join (batches_of before) some.before first_books) in
     let place : place_in (books_from books some.before) ≡ length (batches_of before ++ some.before) = (let c = count_of_books (batches_of before ++ some.before) front in let l = ap length there in omega arith) in
@@ -101,10 +101,10 @@ due_on_books items h batch base k leads due =
     }
 
 -- a batch that awaits its commit doesn't read an earlier book
-asks_newest : (own : Bytes) (w : Work) → IsMadeFor own w.batch → status_of w ≡ Ready → past_place w.batch.ops ≡ None
-asks_newest own w made ready =
-    let read = ready_has_read own w made ready in
-    changes_newest own w.batch made (waits w.batch (case_on w.batch (book_in read.base.newest)) read.awaits).2
+asks_newest : (own_domain : Bytes) (w : Work) → IsMadeFor own_domain w.batch → status_of w ≡ Ready → past_place w.batch.ops ≡ None
+asks_newest own_domain w made ready =
+    let read = ready_has_read own_domain w made ready in
+    changes_newest own_domain w.batch made (waits w.batch (case_on w.batch (book_in read.base.newest)) read.awaits).2
 
 committed_on_books : (items : List Item) (old new : Head) (seat call : ℕ) (w : Work) (n : ℕ) → IsJournal items old → IsCommitted old seat call w n new → CommitsOnBooks items seat call w n new
 committed_on_books items old new seat call w n k c =
@@ -117,7 +117,7 @@ committed_on_books items old new seat call w n k c =
       number = let m = c.number in omega arith;
       reply = ap (λ b. reply_to b (books_of (batches_of items))) (sym batch) ∙ (on.reply ∙ ap (λ m. record { place = m; outcome = WasCommitted c.item.replies }) (sym c.number));
       books = ap (λ b. books_after b (books_of (batches_of items))) (sym batch) ∙ on.books;
-      journal = journal_goes_on items c.item old new k c.joins c.appended;
+      journal = journal_extends items c.item old new k c.joins c.appended;
     }
 
 pub commit_on_books : CommitOnBooks
@@ -131,7 +131,7 @@ commit_on_books items old seat call w base (Full limit n) new k r c =
 commit_on_books items old seat call w base (Conflict n) new k r c =
     let number = (led_to old.window.newest.domain items (newest_of old) k.leads).number in (
       c.1.0 ∙ number,
-      due_on_books items old w.batch base k r.leads (subst (λ o. IsDue o w.batch (newest_of old) old.kept) r.base_is c.1.1),
+      due_on_books items old w.batch base k r.leads (subst (λ o. IsDueOnVersions o w.batch (newest_of old) old.kept) r.base_is c.1.1),
       journal_kept items old new k c.0,
     )
 commit_on_books items old seat call w base NoMemory new k r c = journal_kept items old new k c

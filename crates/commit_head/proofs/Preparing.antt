@@ -15,8 +15,8 @@ use Rattle.entry_book.specs.History.{batch_writes, verdict, adds, refuses}
 use Rattle.version_book.specs.declared.mark.MarkKind.{MarkKind}
 use Rattle.version_book.specs.Applying.{MayApply}
 use Rattle.version_book.specs.Marks.{Agree}
-use Rattle.version_book.specs.CommittedRows.{State, book_of, next_state}
-use Rattle.version_book.specs.History.{any_hits, state_with, writes_in, writes_of}
+use Rattle.version_book.specs.CommittedRows.{VersionState, book_of, next_state}
+use Rattle.version_book.specs.History.{any_hits, version_with, writes_in, writes_of}
 use Rattle.version_book.specs.Written.{placed}
 use Rattle.version_book.proofs.NamedRows.{book_after}
 use Rattle.version_book.proofs.Places.{places_put}
@@ -24,11 +24,11 @@ use Rattle.batch_work.specs.declared.status.Status.TheVariants.{Ready}
 use Rattle.batch_work.specs.Reads.{case_on, footprint_in}
 use Rattle.batch_work.specs.Windows.{book_in}
 use Rattle.batch_work.specs.Working.{Base, Work, HasReplies, HasWrites, IsAccepted, IsAcceptedOn, footprint_there, marks_so_far, status_of}
-use Rattle.batch_work.specs.Laws.{ComesTo, HasRead}
+use Rattle.batch_work.specs.Laws.{ResultsIn, HasRead}
 use Rattle.batch_work.proofs.Batches.{commit_check}
 use Rattle.batch_work.proofs.Ready.{ready_has_read}
 use Rattle.commit_head.specs.declared.item.Item.{Item}
-use Rattle.commit_head.specs.Heads.{Goes, BeganBefore, IsDue}
+use Rattle.commit_head.specs.Heads.{IsPreparedFor, BeganBefore, IsDueOnVersions}
 use Rattle.commit_head.specs.Journals.{Leads, Agrees, batches_of}
 use Rattle.commit_head.proofs.Journals.{leads_count}
 
@@ -39,20 +39,20 @@ one_effect (Err s) t u e f = cc
 one_base : (b c : Base) → Some b ≡ Some c → b ≡ c
 one_base b c e = cc
 
-newest_base : (o : Option Base) (b : Base) (base : State) → o ≡ Some b → option_map (λ b. b.newest) o ≡ Some base → base ≡ b.newest
+newest_base : (o : Option Base) (b : Base) (base : VersionState) → o ≡ Some b → option_map (λ b. b.newest) o ≡ Some base → base ≡ b.newest
 newest_base o b base e f = some_same base b.newest (sym f ∙ ap (option_map (λ b. b.newest)) e)
   where
-    some_same : (x y : State) → Some x ≡ Some y → x ≡ y
+    some_same : (x y : VersionState) → Some x ≡ Some y → x ≡ y
     some_same x y e = cc
 
 of_ok : (P : RunEffect → Type 0) (r : RunResult) (t : RunEffect) → r ≡ Ok t → IfOk r P → P t
 of_ok P r t e h = subst (λ r. IfOk r P) e h
 
-module _ (newest : State) (kept : List Item) (w : Work) (made : IsMadeFor newest.domain w.batch) (ready : status_of w ≡ Ready) where
+module _ (newest : VersionState) (kept : List Item) (w : Work) (made : IsMadeFor newest.domain w.batch) (ready : status_of w ≡ Ready) where
   read : HasRead w
   read = ready_has_read newest.domain w made ready
 
-  abbrev base : State
+  abbrev base : VersionState
   base = read.base.newest
 
   abbrev next : ℕ
@@ -68,7 +68,7 @@ module _ (newest : State) (kept : List Item) (w : Work) (made : IsMadeFor newest
     abbrev effect : RunEffect
     effect = accepted.effect
 
-    module _ (start : State) (start_is : option_map (λ b. b.newest) w.base ≡ Some start) (ascending : AscendingBook (book_of start.rows)) (marks : List MarkKind) (marks_are : marks ≡ marks_so_far w) (stands : (items : List Item) → Leads start items newest → Agrees items kept → AllByRecursion (Agree (book_of start.rows) (book_of newest.rows)) marks) where
+    module _ (start : VersionState) (start_is : option_map (λ b. b.newest) w.base ≡ Some start) (ascending : AscendingBook (book_of start.rows)) (marks : List MarkKind) (marks_are : marks ≡ marks_so_far w) (represents : (items : List Item) → Leads start items newest → Agrees items kept → AllByRecursion (Agree (book_of start.rows) (book_of newest.rows)) marks) where
       same : start ≡ base
       same = newest_base w.base read.base start read.base_is start_is
 
@@ -79,10 +79,10 @@ module _ (newest : State) (kept : List Item) (w : Work) (made : IsMadeFor newest
       agree =
           let items = began_there.0 in
           let leads : Leads start items newest = subst (λ s. Leads s items newest) (sym same) began_there.1 in
-          let h = stands items leads began_there.2 in
+          let h = represents items leads began_there.2 in
           subst (λ ms. AllByRecursion (Agree (book_of base.rows) (book_of newest.rows)) ms) all_marks (subst (λ s. AllByRecursion (Agree (book_of s.rows) (book_of newest.rows)) marks) same h)
 
-      comes : ComesTo w.batch newest effect
+      comes : ResultsIn w.batch newest effect
       comes =
           let count = leads_count began_there.0 base newest began_there.1 in
           let time = read.in_time in
@@ -95,7 +95,7 @@ module _ (newest : State) (kept : List Item) (w : Work) (made : IsMadeFor newest
       pub may : MayApply (placed next changes) next newest
       may = subst (λ ws. MayApply ws next newest) (sym writes_are) comes.may
 
-      module _ (version : State) (made_so : version ≡ next_state (placed next changes) newest) where
+      module _ (version : VersionState) (made_so : version ≡ next_state (placed next changes) newest) where
         version_is : version ≡ next_state (batch_writes w.batch next effect) newest
         version_is = made_so ∙ ap (λ ws. next_state ws newest) writes_are
 
@@ -108,7 +108,7 @@ module _ (newest : State) (kept : List Item) (w : Work) (made : IsMadeFor newest
         pub full : (limit : Limit) → Some limit ≡ limit_passed newest.number (book_of version.rows) → verdict w.batch newest.number (Some (book_of newest.rows)) ≡ refuses (TooMuch limit)
         full limit e = comes.is_full limit (limit_is (Some limit) e)
 
-        pub fits : None ≡ limit_passed newest.number (book_of version.rows) → (item : Item) → item.batch ≡ w.batch → HasReplies w item.replies → item.changes ≡ changes → Goes newest (record { item = item; version = version })
+        pub fits : None ≡ limit_passed newest.number (book_of version.rows) → (item : Item) → item.batch ≡ w.batch → HasReplies w item.replies → item.changes ≡ changes → IsPreparedFor newest (record { item = item; version = version })
         fits e item b r c =
             let commit = comes.commits (limit_is None e) in
             let other : IsAccepted w.batch (book_in base) item.replies r.0 = subst (λ b. IsAcceptedOn b w.batch item.replies r.0) read.base_is r.1 in
@@ -116,22 +116,22 @@ module _ (newest : State) (kept : List Item) (w : Work) (made : IsMadeFor newest
             record {
               joins = record {
                 made = subst (IsMadeFor newest.domain) (sym b) made;
-                added = ap (λ x. verdict x newest.number (Some (book_of newest.rows))) b ∙ (commit.2 ∙ (λ i. adds (sym replies i) (book_of (state_with (sym b i) newest).rows)));
+                added = ap (λ x. verdict x newest.number (Some (book_of newest.rows))) b ∙ (commit.2 ∙ (λ i. adds (sym replies i) (book_of (version_with (sym b i) newest).rows)));
                 writes = c ∙ (accepted.writes_are ∙ (sym (ap (writes_in w.batch 0) comes.ran) ∙ ap (λ x. writes_of x 0 (book_of newest.rows)) (sym b)));
               };
-              version = version_is ∙ (sym commit.1 ∙ ap (λ x. state_with x newest) (sym b));
+              version = version_is ∙ (sym commit.1 ∙ ap (λ x. version_with x newest) (sym b));
             }
 
 -- a conflict is justified
-pub due : (newest : State) (kept : List Item) (w : Work) → IsMadeFor newest.domain w.batch → status_of w ≡ Ready → (start : State) → option_map (λ b. b.newest) w.base ≡ Some start → (marks : List MarkKind) → marks ≡ marks_so_far w → ((items : List Item) → Leads start items newest → Agrees items kept → list_any (λ m. any_hits m start (batches_of items)) marks ≡ true) → IsDue w.base w.batch newest kept
+pub due : (newest : VersionState) (kept : List Item) (w : Work) → IsMadeFor newest.domain w.batch → status_of w ≡ Ready → (start : VersionState) → option_map (λ b. b.newest) w.base ≡ Some start → (marks : List MarkKind) → marks ≡ marks_so_far w → ((items : List Item) → Leads start items newest → Agrees items kept → list_any (λ m. any_hits m start (batches_of items)) marks ≡ true) → IsDueOnVersions w.base w.batch newest kept
 due newest kept w made ready start start_is marks marks_are hit =
     let read = ready_has_read newest.domain w made ready in
     let same : start ≡ read.base.newest = newest_base w.base read.base start read.base_is start_is in
     let all : marks ≡ footprint_there w.batch read.base = marks_are ∙ read.all_read in
-    subst (λ b. IsDue b w.batch newest kept) (sym read.base_is)
+    subst (λ b. IsDueOnVersions b w.batch newest kept) (sym read.base_is)
     (λ items l a. subst (λ ms. list_any (λ m. any_hits m read.base.newest (batches_of items)) ms ≡ true) all
     (subst (λ s. list_any (λ m. any_hits m s (batches_of items)) marks ≡ true) same (hit items (subst (λ s. Leads s items newest) (sym same) l) a)))
 
 -- the batch was made for the newest version's trust domain
-pub made_there : (newest : State) (batch : Batch) → batch.domain ≡ newest.domain → IsMadeFor batch.domain batch → IsMadeFor newest.domain batch
+pub made_there : (newest : VersionState) (batch : Batch) → batch.domain ≡ newest.domain → IsMadeFor batch.domain batch → IsMadeFor newest.domain batch
 made_there newest batch e m = subst (λ d. IsMadeFor d batch) e m

@@ -1,30 +1,30 @@
 -- The journal (commit log): one item for each commit, and how the items lead from version to version.
 use Rattle.std.specs.Prelude.{◌≡◌, ◌⊎◌, ⊤, ℕ, ◌+◌, List, [], ◌∷◌, ◌++◌, map, Some}
 use Rattle.std.specs.List.{AllByRecursion}
-use Rattle.entry_book.specs.declared.reply.Outcome.TheVariants.{Committed}
+use Rattle.entry_book.specs.declared.reply.ReplyOutcome.TheVariants.{Committed}
 use Rattle.entry_book.specs.declared.reply.Reply.{Reply}
 use Rattle.entry_book.specs.Rows.{Bytes}
 use Rattle.entry_book.specs.Batches.{Batch, IsMadeFor}
 use Rattle.entry_book.specs.History.{verdict, adds, first_books, CommitAll, replies_from}
-use Rattle.version_book.specs.CommittedRows.{State, book_of, no_rows}
-use Rattle.version_book.specs.History.{state_with, writes_of}
+use Rattle.version_book.specs.CommittedRows.{VersionState, book_of, no_rows}
+use Rattle.version_book.specs.History.{version_with, writes_of}
 use Rattle.commit_head.specs.declared.item.Item.{Item}
 
 -- the version of book 0
-abbrev pub first_state : Bytes → State
-first_state own = record { domain = own; number = 0; rows = no_rows }
+abbrev pub empty_version : Bytes → VersionState
+empty_version own_domain = record { domain = own_domain; number = 0; rows = no_rows }
 
 -- The item's batch commits on the version. Its replies are those of the specification, and its writes are those of the batch,
 -- with the place 0.
-pub record Joins (item : Item) (s : State) : Type 0 where
+pub record Joins (item : Item) (s : VersionState) : Type 0 where
   pub made : IsMadeFor s.domain item.batch
-  pub added : verdict item.batch s.number (Some (book_of s.rows)) ≡ adds item.replies (book_of (state_with item.batch s).rows)
+  pub added : verdict item.batch s.number (Some (book_of s.rows)) ≡ adds item.replies (book_of (version_with item.batch s).rows)
   pub writes : item.changes ≡ writes_of item.batch 0 (book_of s.rows)
 
 -- the items lead from the older version to the newer one: each joins the version that the items before it left
-abbrev pub Leads : State → List Item → State → Type 0
+abbrev pub Leads : VersionState → List Item → VersionState → Type 0
 Leads older [] newer = older ≡ newer
-Leads older (item ∷ items) newer = Joins item older × Leads (state_with item.batch older) items newer
+Leads older (item ∷ items) newer = Joins item older × Leads (version_with item.batch older) items newer
 
 abbrev pub batches_of : List Item → List Batch
 batches_of items = map (λ item. item.batch) items
@@ -54,8 +54,8 @@ EachCallOnce (item ∷ items) = AllByRecursion (IsOther item) items × EachCallO
 
 -- A lawful journal. Its batches were made for the trust domain. The specification commits each of them in turn at its number,
 -- with the item's replies. No two items have the same seat and call.
-pub record IsLawfulJournal (own : Bytes) (items : List Item) : Type 0 where
-  pub made : AllByRecursion (IsMadeFor own) (batches_of items)
+pub record IsLawfulJournal (own_domain : Bytes) (items : List Item) : Type 0 where
+  pub made : AllByRecursion (IsMadeFor own_domain) (batches_of items)
   pub committed : CommitAll first_books (batches_of items)
   pub replies : replies_from first_books (batches_of items) ≡ committed_after 0 items
   pub once : EachCallOnce items

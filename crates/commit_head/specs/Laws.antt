@@ -1,36 +1,36 @@
 -- Theorems about journals and heads. Each is a clause of a function of the module `laws`.
 use Rattle.std.specs.Prelude.{◌≡◌, ℕ, ◌+◌, ◌≤◌, ◌^◌, List, [], ◌∷◌, ◌++◌, length, Option, Some}
 use Rattle.entry_book.specs.Rows.{Bytes}
-use Rattle.entry_book.specs.declared.reply.Outcome.TheVariants.{Committed}
+use Rattle.entry_book.specs.declared.reply.ReplyOutcome.TheVariants.{Committed}
 use Rattle.entry_book.specs.Batches.{Batch, IsMadeFor}
 use Rattle.entry_book.specs.History.{books_after, books_of, reply_to}
-use Rattle.version_book.specs.CommittedRows.{State}
+use Rattle.version_book.specs.CommittedRows.{VersionState}
 use Rattle.version_book.specs.History.{Follows, IsLast}
 use Rattle.batch_work.specs.Reads.{footprint_of}
 use Rattle.batch_work.specs.Working.{Base}
 use Rattle.commit_head.specs.declared.item.Item.{Item}
-use Rattle.commit_head.specs.Heads.{BeganOn, Head, IsAppended, IsJournal, Stays, last_items, newest_of, place_of}
-use Rattle.commit_head.specs.Journals.{Agrees, Joins, Leads, EachCallOnce, IsLawfulJournal, batches_of, first_state}
+use Rattle.commit_head.specs.Heads.{BeganOn, Head, IsAppended, IsJournal, IsUnchangedHead, last_items, newest_of, head_place}
+use Rattle.commit_head.specs.Journals.{Agrees, Joins, Leads, EachCallOnce, IsLawfulJournal, batches_of, empty_version}
 
 -- The batches of the items lead from the older version to the newer one, whose number has grown by one for each item.
-pub record AreBatches (older : State) (items : List Item) (newer : State) : Type 0 where
+pub record AreBatches (older : VersionState) (items : List Item) (newer : VersionState) : Type 0 where
   pub follows : Follows older (batches_of items) newer
   pub count : length items + older.number ≡ newer.number
 
 abbrev pub ItemsFollow : Type 0
-ItemsFollow = (items : List Item) (older newer : State) → Leads older items newer → AreBatches older items newer
+ItemsFollow = (items : List Item) (older newer : VersionState) → Leads older items newer → AreBatches older items newer
 
 -- a new head's journal has no items
 abbrev pub JournalBegins : Type 0
-JournalBegins = (own : Bytes) (h : Head) → h.window ≡ record { older = []; newest = first_state own } → h.kept ≡ [] → IsJournal [] h
+JournalBegins = (own_domain : Bytes) (h : Head) → h.window ≡ record { older = []; newest = empty_version own_domain } → h.kept ≡ [] → IsJournal [] h
 
 -- if nothing has changed but the room, the journal is the same
 abbrev pub JournalKept : Type 0
-JournalKept = (items : List Item) (old new : Head) → IsJournal items old → Stays old new → IsJournal items new
+JournalKept = (items : List Item) (old new : Head) → IsJournal items old → IsUnchangedHead old new → IsJournal items new
 
 -- an item that joins the newest version and is appended is the last one of the journal
-abbrev pub JournalGoesOn : Type 0
-JournalGoesOn = (items : List Item) (item : Item) (old new : Head) → IsJournal items old → Joins item (newest_of old) → IsAppended old item new → IsJournal (items ++ item ∷ []) new
+abbrev pub JournalExtends : Type 0
+JournalExtends = (items : List Item) (item : Item) (old new : Head) → IsJournal items old → Joins item (newest_of old) → IsAppended old item new → IsJournal (items ++ item ∷ []) new
 
 -- On the list of all books, the specification commits the item's batch at this number with the item's replies. The list after
 -- it is that of the longer journal.
@@ -39,7 +39,7 @@ pub record IsCommittedOnBooks (items : List Item) (item : Item) (n : ℕ) : Type
   pub books : books_after item.batch (books_of (batches_of items)) ≡ books_of (batches_of (items ++ item ∷ []))
 
 abbrev pub JoinsOnBooks : Type 0
-JoinsOnBooks = (items : List Item) (item : Item) (h : Head) → IsJournal items h → Joins item (newest_of h) → IsCommittedOnBooks items item (place_of h + 1)
+JoinsOnBooks = (items : List Item) (item : Item) (h : Head) → IsJournal items h → Joins item (newest_of h) → IsCommittedOnBooks items item (head_place h + 1)
 
 -- the newest version has the last book of the journal, and its number
 abbrev pub JournalLast : Type 0
@@ -47,22 +47,22 @@ JournalLast = (items : List Item) (h : Head) → IsJournal items h → IsLast (n
 
 -- if no two items have the same seat and call, a journal is lawful
 abbrev pub JournalIsLawful : Type 0
-JournalIsLawful = (own : Bytes) (items : List Item) (s : State) → Leads (first_state own) items s → EachCallOnce items → IsLawfulJournal own items
+JournalIsLawful = (own_domain : Bytes) (items : List Item) (s : VersionState) → Leads (empty_version own_domain) items s → EachCallOnce items → IsLawfulJournal own_domain items
 
 -- on the books of a journal, the footprint of a batch has at most 2^21 marks
 abbrev pub JournalReadsFew : Type 0
-JournalReadsFew = (own : Bytes) (items : List Item) (s : State) (batch : Batch) → Leads (first_state own) items s → IsMadeFor own batch → length (footprint_of batch (books_of (batches_of items))) ≤ 2 ^ 21
+JournalReadsFew = (own_domain : Bytes) (items : List Item) (s : VersionState) (batch : Batch) → Leads (empty_version own_domain) items s → IsMadeFor own_domain batch → length (footprint_of batch (books_of (batches_of items))) ≤ 2 ^ 21
 
 -- a checkpoint doesn't change the journal
-abbrev pub JournalStays : Type 0
-JournalStays = (items : List Item) (old new : Head) → IsJournal items old → new.window ≡ old.window → new.kept ≡ last_items old.kept → IsJournal items new
+abbrev pub JournalUnchanged : Type 0
+JournalUnchanged = (items : List Item) (old new : Head) → IsJournal items old → new.window ≡ old.window → new.kept ≡ last_items old.kept → IsJournal items new
 
 -- items in two parts lead to a version in between, and a list of items leads to only one version
 abbrev pub LeadsInParts : Type 0
-LeadsInParts = (first second : List Item) (older newer : State) → Leads older (first ++ second) newer → (between : State) × Leads older first between × Leads between second newer
+LeadsInParts = (first second : List Item) (older newer : VersionState) → Leads older (first ++ second) newer → (between : VersionState) × Leads older first between × Leads between second newer
 
 abbrev pub LeadsToOne : Type 0
-LeadsToOne = (items : List Item) (older newer other : State) → Leads older items newer → Leads older items other → newer ≡ other
+LeadsToOne = (items : List Item) (older newer other : VersionState) → Leads older items newer → Leads older items other → newer ≡ other
 
 -- ---- A work began on the newest version of a head or an earlier one of its history: if it is the newest; if the first items
 -- of the journal lead to it; after an item is appended; if nothing changed but the room; and after a checkpoint.
@@ -78,13 +78,13 @@ pub record IsInside (base : Base) (since : List Item) (h : Head) : Type 0 where
   pub began : BeganOn (Some base) h
 
 abbrev pub BeganInside : Type 0
-BeganInside = (before since : List Item) (base : Base) (h : Head) → IsJournal (before ++ since) h → Leads (first_state h.window.newest.domain) before base.newest → IsInside base since h
+BeganInside = (before since : List Item) (base : Base) (h : Head) → IsJournal (before ++ since) h → Leads (empty_version h.window.newest.domain) before base.newest → IsInside base since h
 
 abbrev pub BeganKept : Type 0
-BeganKept = (base : Option Base) (old new : Head) → BeganOn base old → Stays old new → BeganOn base new
+BeganKept = (base : Option Base) (old new : Head) → BeganOn base old → IsUnchangedHead old new → BeganOn base new
 
-abbrev pub BeganGoesOn : Type 0
-BeganGoesOn = (base : Option Base) (item : Item) (old new : Head) → BeganOn base old → Joins item (newest_of old) → IsAppended old item new → BeganOn base new
+abbrev pub BeganExtends : Type 0
+BeganExtends = (base : Option Base) (item : Item) (old new : Head) → BeganOn base old → Joins item (newest_of old) → IsAppended old item new → BeganOn base new
 
-abbrev pub BeganStays : Type 0
-BeganStays = (base : Option Base) (old new : Head) → BeganOn base old → new.window ≡ old.window → new.kept ≡ last_items old.kept → BeganOn base new
+abbrev pub BeganUnchanged : Type 0
+BeganUnchanged = (base : Option Base) (old new : Head) → BeganOn base old → new.window ≡ old.window → new.kept ≡ last_items old.kept → BeganOn base new

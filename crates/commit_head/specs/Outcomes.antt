@@ -1,6 +1,6 @@
 -- The outcome of a commit, in terms of the specification.
 use Rattle.std.specs.Prelude.{◌≡◌, ℕ, ◌+◌, ◌≤◌, true, List, [], ◌∷◌, ◌++◌, length, take, Some}
-use Rattle.entry_book.specs.declared.reply.Outcome.TheVariants.{Committed as WasCommitted, Refused as WasRefused}
+use Rattle.entry_book.specs.declared.reply.ReplyOutcome.TheVariants.{Committed as WasCommitted, Refused as WasRefused}
 use Rattle.entry_book.specs.declared.reply.Refusal.TheVariants.{Full as TooMuch}
 use Rattle.entry_book.specs.Rows.{Bytes}
 use Rattle.entry_book.specs.Order.{Within}
@@ -16,7 +16,7 @@ use Rattle.commit_head.specs.declared.commit.Commit.{Commit}
 use Rattle.commit_head.specs.declared.commit.Commit.TheVariants.{Conflict, Full, Committed, NoMemory}
 use Rattle.commit_head.specs.declared.item.Item.{Item}
 use Rattle.commit_head.specs.Heads.{Head, IsCommit, IsItemOf, IsJournal}
-use Rattle.commit_head.specs.Journals.{Leads, batches_of, first_state}
+use Rattle.commit_head.specs.Journals.{Leads, batches_of, empty_version}
 
 -- Among these committed batches is one, `other`, after the first `base` ones: it was committed as book `length before + 1`. One
 -- of its writes, made on the last book before it, hits one of these marks.
@@ -34,11 +34,11 @@ pub record IsHitSince (journal : List Batch) (base : ℕ) (marks : List MarkKind
 
 -- The work is ready, its batch was made for the trust domain, and it began on a version. The first items of this journal, as
 -- many as the version's number, lead to that version.
-pub record IsReadyOn (own : Bytes) (items : List Item) (w : Work) (base : Base) : Type 0 where
-  pub made : IsMadeFor own w.batch
+pub record IsReadyOn (own_domain : Bytes) (items : List Item) (w : Work) (base : Base) : Type 0 where
+  pub made : IsMadeFor own_domain w.batch
   pub ready : status_of w ≡ Ready
   pub base_is : w.base ≡ Some base
-  pub leads : Leads (first_state own) (take base.newest.number items) base.newest
+  pub leads : Leads (empty_version own_domain) (take base.newest.number items) base.newest
 
 -- The specification commits the batch as the next book, with the replies of an item made from the work. The head's journal is
 -- longer by this item.

@@ -105,12 +105,12 @@ impl Head {
     ghost use Rattle.std.specs.Prelude.{◌≡◌, ◌+◌, ◌^◌, ◌≤◌, ◌++◌, [], IfErr, IfOk, OnOk, length, vec_capacity};
     ghost use Rattle.std.specs.Option.{option_copied};
     ghost use Rattle.batch_work.specs.Working.{status_of};
-    ghost use Rattle.commit_head.specs.Heads.{BeganOn, Fits, Goes, HasJournal, IsAppended, IsCommit, IsItemOf, IsRefused, Stays, item_at, place_of};
-    ghost use Rattle.commit_head.specs.Journals.{first_state};
+    ghost use Rattle.commit_head.specs.Heads.{BeganOn, Fits, IsPreparedFor, HasJournal, IsAppended, IsCommit, IsItemOf, IsRefused, IsUnchangedHead, item_at, head_place};
+    ghost use Rattle.commit_head.specs.Journals.{empty_version};
 
     /// Makes a head with book 0 and no item. The error is out of memory.
     pub fn new(alloc: Global, domain: TrustDomain) -> Result<Head, AllocError>
-        ensures window { IfOk result (λ head. head.window ≡ record { older = []; newest = first_state domain }) }
+        ensures window { IfOk result (λ head. head.window ≡ record { older = []; newest = empty_version domain }) }
         ensures kept { IfOk result (λ head. head.kept ≡ []) }
     {
         let version = Version::empty(alloc, domain)?;
@@ -132,7 +132,7 @@ impl Head {
 
     /// Returns the number of committed batches, which is that of the newest version. Allocates no memory.
     pub fn place(&self) -> u64
-        ensures { result ≡ place_of self.now }
+        ensures { result ≡ head_place self.now }
     {
         self.window.newest().number()
     }
@@ -160,7 +160,7 @@ impl Head {
         requires ready { status_of work.now ≡ Status.Ready }
         requires domain { work.now.batch.domain ≡ self.old.window.newest.domain }
         requires began { BeganOn work.now.base self.old }
-        ensures stays { Stays self.old self.new }
+        ensures is_unchanged { IsUnchangedHead self.old self.new }
         ensures fits { IfOk result (Fits self.new) }
         ensures of_work { IfOk result (λ prepared. IsItemOf seat call work.now prepared.item) }
         ensures refused { IfErr result (IsRefused self.old work.now) }
@@ -175,7 +175,7 @@ impl Head {
     /// Finishes a prepared commit and returns its number. No other commit may come in between. Allocates no memory.
     pub fn finish(&mut self, prepared: Prepared) -> u64
         requires fits { Fits self.old prepared }
-        ensures number { result ≡ place_of self.old + 1 }
+        ensures number { result ≡ head_place self.old + 1 }
         ensures appended { IsAppended self.old prepared.item self.new }
     {
         let Prepared { item, version } = prepared;
@@ -228,7 +228,7 @@ impl Head {
         requires ready { status_of work.now ≡ Status.Ready }
         requires domain { work.now.batch.domain ≡ self.now.window.newest.domain }
         requires began { BeganOn work.now.base self.now }
-        ensures goes { IfOk result (Goes self.now.window.newest) }
+        ensures goes { IfOk result (IsPreparedFor self.now.window.newest) }
         ensures of_work { IfOk result (λ prepared. IsItemOf seat call work.now prepared.item) }
         ensures refused { IfErr result (IsRefused self.now work.now) }
     {

@@ -3,7 +3,7 @@
 //! The bodies do nothing. Each contract is a theorem about the definitions, stated in `specs/Laws.antt` or
 //! `specs/Outcomes.antt`; a caller may rely on it after the call.
 
-ghost use Rattle.commit_head.specs.Laws.{BeganGoesOn, BeganHere, BeganInside, BeganKept, BeganStays, ItemsFollow, JoinsOnBooks, JournalBegins, JournalGoesOn, JournalIsLawful, JournalKept, JournalLast, JournalReadsFew, JournalStays, LeadsInParts, LeadsToOne};
+ghost use Rattle.commit_head.specs.Laws.{BeganExtends, BeganHere, BeganInside, BeganKept, BeganUnchanged, ItemsFollow, JoinsOnBooks, JournalBegins, JournalExtends, JournalIsLawful, JournalKept, JournalLast, JournalReadsFew, JournalUnchanged, LeadsInParts, LeadsToOne};
 ghost use Rattle.commit_head.specs.Outcomes.{CommitOnBooks};
 
 /// What a head's journal implies for its versions and for the list of all books.
@@ -13,16 +13,16 @@ pub fn journals()
     ensures one { LeadsToOne }
     ensures begins { JournalBegins }
     ensures remains { JournalKept }
-    ensures goes_on { JournalGoesOn }
+    ensures extends { JournalExtends }
     ensures on_books { JoinsOnBooks }
-    ensures stays { JournalStays }
+    ensures is_unchanged { JournalUnchanged }
     ensures last { JournalLast }
     ensures lawful { JournalIsLawful }
     ensures few { JournalReadsFew }
 {}
 
 /// What the outcome of a commit means in terms of the specification.
-pub fn commits()
+pub fn commit_outcomes()
     ensures { CommitOnBooks }
 {}
 
@@ -31,6 +31,6 @@ pub fn begun()
     ensures here { BeganHere }
     ensures inside { BeganInside }
     ensures remains { BeganKept }
-    ensures goes_on { BeganGoesOn }
-    ensures stays { BeganStays }
+    ensures extends { BeganExtends }
+    ensures is_unchanged { BeganUnchanged }
 {}

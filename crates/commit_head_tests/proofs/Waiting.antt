@@ -9,7 +9,7 @@ use Rattle.batch_work.specs.Working.{Base, Work, base_in}
 use Rattle.commit_head.specs.declared.commit.Commit.{Commit}
 use Rattle.commit_head.specs.declared.commit.Commit.TheVariants.{Conflict, Full, Committed, NoMemory}
 use Rattle.commit_head.specs.declared.item.Item.{Item}
-use Rattle.commit_head.specs.Heads.{BeganOn, Head, IsAppended, IsCommit, Stays, last_items, newest_of}
+use Rattle.commit_head.specs.Heads.{BeganOn, Head, IsAppended, IsCommit, IsUnchangedHead, last_items, newest_of}
 use Rattle.commit_head.specs.Journals.{Agrees, IsEnding, Joins, Leads}
 use Rattle.commit_head.proofs.Journals.{leads_more}
 
@@ -29,7 +29,7 @@ began_more (Some base) old new item j a b = (
   subst (Agrees (b.0 ++ item ∷ [])) (sym a.kept) (agrees_more b.0 old.kept item b.2),
 )
 
-began_same : (base : Option Base) (old new : Head) → Stays old new → BeganOn base old → BeganOn base new
+began_same : (base : Option Base) (old new : Head) → IsUnchangedHead old new → BeganOn base old → BeganOn base new
 began_same None old new s b = b
 began_same (Some base) old new s b = (b.0, subst (Leads base.newest b.0) (sym (ap (λ w. w.newest) s.window)) b.1, subst (Agrees b.0) (sym s.kept) b.2)
 

@@ -2,7 +2,7 @@
 //!
 //! The crate has tests alone, over the public calls of `commit_head`:
 //!
-//! - `worked`: small histories, as tables. `playing` plays a table on a `desk`: a head, and the works that wait for their commits.
+//! - `worked`: small histories, as tables. `playing` plays a table on a `test_head`: a head, and the works that wait for their commits.
 //!   `telling` writes commits and items as text.
 //! - `random`: a long history of random batches, compared with the plain book.
 //! - `wanted`: assertions.
@@ -11,7 +11,7 @@
 #![tactic(auto)]
 
 #[cfg(test)]
-mod desk;
+mod test_head;
 #[cfg(test)]
 mod playing;
 #[cfg(test)]

@@ -1,6 +1,6 @@
 //! Tables of histories on a desk, with the expected answers.
 
-use crate::desk::Desk;
+use crate::test_head::TestHead;
 use crate::telling::{commit_text, item_text};
 use crate::wanted::is_text;
 use commit_head::Commit;
@@ -9,36 +9,36 @@ use std::process::Abort;
 use std::test::Fail;
 use test_batches::{batch, number, trust_domain, word, words};
 
-pub fn first_desk(alloc: Global) -> Result<Desk, Fail> {
-    Desk::new(alloc, trust_domain(alloc, "ex.org")?)
+pub fn first_test_head(alloc: Global) -> Result<TestHead, Fail> {
+    TestHead::new(alloc, trust_domain(alloc, "ex.org")?)
 }
 
 /// Begins a work of the batch of a text. Returns true if it is ready, and then waits.
-pub fn begin(alloc: Global, desk: &mut Desk, text: &str) -> Result<bool, Fail> {
+pub fn begin(alloc: Global, test_head: &mut TestHead, text: &str) -> Result<bool, Fail> {
     let batch = batch(alloc, text)?;
-    desk.begin(alloc, batch)
+    test_head.begin(alloc, batch)
 }
 
 /// The same for a batch that must be ready in the end.
-fn begins(alloc: Global, desk: &mut Desk, text: &str) -> Result<(), Fail> {
-    if !begin(alloc, desk, text)? {
+fn begins(alloc: Global, test_head: &mut TestHead, text: &str) -> Result<(), Fail> {
+    if !begin(alloc, test_head, text)? {
         return Err(Fail::from("not ready"));
     }
     Ok(())
 }
 
 /// Commits the work at an index.
-fn commit_at(desk: &mut Desk, index: usize, seat: u32, call: u64) -> Result<Commit, Fail> {
-    let (commit, work) = desk.commit(index, seat, call)?;
+fn commit_at(test_head: &mut TestHead, index: usize, seat: u32, call: u64) -> Result<Commit, Fail> {
+    let (commit, work) = test_head.commit(index, seat, call)?;
     drop(work);
     Ok(commit)
 }
 
 /// Begins a batch and commits it immediately, which must succeed.
-fn goes_on(alloc: Global, desk: &mut Desk, text: &str) -> Result<(), Fail> {
-    begins(alloc, desk, text)?;
-    let last = desk.waiting().wrapping_sub(1);
-    match commit_at(desk, last, 0, desk.head().place())? {
+fn continues(alloc: Global, test_head: &mut TestHead, text: &str) -> Result<(), Fail> {
+    begins(alloc, test_head, text)?;
+    let last = test_head.waiting().wrapping_sub(1);
+    match commit_at(test_head, last, 0, test_head.head().place())? {
         Commit::Committed(_) => Ok(()),
         Commit::NoMemory => Err(Fail::from(AllocError)),
         _ => Err(Fail::from("not committed")),
@@ -46,9 +46,9 @@ fn goes_on(alloc: Global, desk: &mut Desk, text: &str) -> Result<(), Fail> {
 }
 
 /// Does the same for a batch this many times.
-fn goes_on_often(alloc: Global, desk: &mut Desk, times: u64, text: &str) -> Result<(), Fail> {
+fn continues_often(alloc: Global, test_head: &mut TestHead, times: u64, text: &str) -> Result<(), Fail> {
     for _ in 0..times {
-        goes_on(alloc, desk, text)?;
+        continues(alloc, test_head, text)?;
     }
     Ok(())
 }
@@ -59,9 +59,9 @@ fn seat(words: &[&str]) -> Result<u32, Fail> {
 }
 
 /// The result of committing the work at an index, for a seat and a call; these three are words.
-fn commits(alloc: Global, desk: &mut Desk, words: &[&str]) -> Result<String, Fail> {
+fn commits(alloc: Global, test_head: &mut TestHead, words: &[&str]) -> Result<String, Fail> {
     let (index, seat, call) = (number(words, 1)?, seat(words)?, number(words, 3)?);
-    let commit = commit_at(desk, index as usize, seat, call)?;
+    let commit = commit_at(test_head, index as usize, seat, call)?;
     Ok(commit_text(alloc, &commit)?)
 }
 
@@ -74,9 +74,9 @@ fn commit_in_two_text(alloc: Global, commit: &Commit, same: bool) -> Result<Stri
 }
 
 /// The same as `commits`, in two calls.
-fn commits_in_two(alloc: Global, desk: &mut Desk, words: &[&str]) -> Result<String, Fail> {
+fn commits_in_two(alloc: Global, test_head: &mut TestHead, words: &[&str]) -> Result<String, Fail> {
     let (index, seat, call) = (number(words, 1)?, seat(words)?, number(words, 3)?);
-    let (commit, same) = desk.commit_in_two(index as usize, seat, call)?;
+    let (commit, same) = test_head.commit_in_two(index as usize, seat, call)?;
     commit_in_two_text(alloc, &commit, same)
 }
 
@@ -84,57 +84,57 @@ fn number_text(alloc: Global, number: u64) -> Result<String, Fail> {
     Ok(format!(in alloc; "{number}")?)
 }
 
-fn item(alloc: Global, desk: &Desk, number: u64) -> Result<String, Fail> {
-    match desk.head().item(number) {
+fn item(alloc: Global, test_head: &TestHead, number: u64) -> Result<String, Fail> {
+    match test_head.head().item(number) {
         Some(item) => Ok(item_text(alloc, item)?),
         None => Ok(String::from_str(alloc, "none")?),
     }
 }
 
 /// The place, the number of stored items, and the number of the newest version.
-fn state_text(alloc: Global, desk: &Desk) -> Result<String, Fail> {
-    let (place, kept) = (desk.head().place(), desk.head().kept());
-    let newest = desk.head().window().newest().number();
+fn state_text(alloc: Global, test_head: &TestHead) -> Result<String, Fail> {
+    let (place, kept) = (test_head.head().place(), test_head.head().kept());
+    let newest = test_head.head().window().newest().number();
     Ok(format!(in alloc; "place {place} kept {kept} newest {newest}")?)
 }
 
-fn answer_to(alloc: Global, desk: &mut Desk, words: &[&str]) -> Result<String, Fail> {
+fn answer_to(alloc: Global, test_head: &mut TestHead, words: &[&str]) -> Result<String, Fail> {
     match word(words, 0) {
-        "COMMIT" => commits(alloc, desk, words),
-        "COMMIT-IN-TWO" => commits_in_two(alloc, desk, words),
-        "ITEM" => item(alloc, desk, number(words, 1)?),
-        "HEAD" => state_text(alloc, desk),
-        "CHECKPOINT" => number_text(alloc, desk.checkpoint()),
+        "COMMIT" => commits(alloc, test_head, words),
+        "COMMIT-IN-TWO" => commits_in_two(alloc, test_head, words),
+        "ITEM" => item(alloc, test_head, number(words, 1)?),
+        "HEAD" => state_text(alloc, test_head),
+        "CHECKPOINT" => number_text(alloc, test_head.checkpoint()),
         _ => Err(Fail::from("no such question")),
     }
 }
 
-fn answer(alloc: Global, desk: &mut Desk, question: &str) -> Result<String, Fail> {
+fn answer(alloc: Global, test_head: &mut TestHead, question: &str) -> Result<String, Fail> {
     let words = words(alloc, question)?;
-    answer_to(alloc, desk, words.as_slice())
+    answer_to(alloc, test_head, words.as_slice())
 }
 
 /// A line without an answer: `BEGIN` and a batch, `AGAIN`, a number and a batch, or a batch alone.
-fn runs(alloc: Global, desk: &mut Desk, line: &str) -> Result<(), Fail> {
+fn runs(alloc: Global, test_head: &mut TestHead, line: &str) -> Result<(), Fail> {
     if let Some(text) = line.strip_prefix("BEGIN ") {
-        return begins(alloc, desk, text);
+        return begins(alloc, test_head, text);
     }
     let Some(text) = line.strip_prefix("AGAIN ") else {
-        return goes_on(alloc, desk, line);
+        return continues(alloc, test_head, line);
     };
     match text.split_once(" ") {
-        Some((times, text)) => goes_on_often(alloc, desk, times.parse::<u64>()?, text),
+        Some((times, text)) => continues_often(alloc, test_head, times.parse::<u64>()?, text),
         None => Err(Fail::from("no such line")),
     }
 }
 
 /// Plays a line of a table.
-fn plays_line(rt: &impl Abort, alloc: Global, desk: &mut Desk, line: &str) -> Result<(), Fail> {
-    if let Some((question, want)) = line.split_once(" => ") {
-        let got = answer(alloc, desk, question)?;
-        is_text(rt, got.as_str(), want, line);
+fn plays_line(rt: &impl Abort, alloc: Global, test_head: &mut TestHead, line: &str) -> Result<(), Fail> {
+    if let Some((question, expected)) = line.split_once(" => ") {
+        let got = answer(alloc, test_head, question)?;
+        is_text(rt, got.as_str(), expected, line);
     } else if !line.is_empty() {
-        runs(alloc, desk, line)?;
+        runs(alloc, test_head, line)?;
     }
     Ok(())
 }
@@ -145,9 +145,9 @@ fn plays_line(rt: &impl Abort, alloc: Global, desk: &mut Desk, line: &str) -> Re
 /// window, `CHECKPOINT` the number of dropped items. `AGAIN` and a number begin and commit a batch that many times. Any other line
 /// that isn't empty is a batch to begin and commit immediately.
 pub fn plays(rt: &impl Abort, alloc: Global, table: &str) -> Result<(), Fail> {
-    let mut desk = first_desk(alloc)?;
+    let mut test_head = first_test_head(alloc)?;
     for line in table.lines() {
-        plays_line(rt, alloc, &mut desk, line)?;
+        plays_line(rt, alloc, &mut test_head, line)?;
     }
     Ok(())
 }

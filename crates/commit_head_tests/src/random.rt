@@ -3,8 +3,8 @@
 
 ghost use Rattle.std.specs.Prelude.{◌≡◌};
 
-use crate::desk::Desk;
-use crate::playing::{begin, first_desk};
+use crate::test_head::TestHead;
+use crate::playing::{begin, first_test_head};
 use crate::wanted::{holds, is_number, is_text};
 use batch_work::Work;
 use commit_head::{Commit, Head, Item};
@@ -66,7 +66,7 @@ fn kept_item<'a>(head: &'a Head, number: u64) -> Result<&'a Item, Fail> {
 }
 
 /// Asserts that the plain book commits the batch of this number too, with the same replies.
-fn is_as_told(
+fn matches_text(
     rt: &impl Abort,
     alloc: Global,
     head: &Head,
@@ -74,9 +74,9 @@ fn is_as_told(
     number: u64,
 ) -> Result<(), Fail> {
     let item = kept_item(head, number)?;
-    let want = plain_text(alloc, book, &item.batch)?;
+    let expected = plain_text(alloc, book, &item.batch)?;
     let got = accepted_text(alloc, "committed", number, item.replies.get().as_slice())?;
-    is_text(rt, got.as_str(), want.as_str(), "a committed batch");
+    is_text(rt, got.as_str(), expected.as_str(), "a committed batch");
     Ok(())
 }
 
@@ -140,7 +140,7 @@ fn compare(
         Commit::Committed(number) => {
             counts.committed = counts.committed.wrapping_add(1);
             is_due(rt, head, work, number.wrapping_sub(1), false)?;
-            is_as_told(rt, alloc, head, book, *number)
+            matches_text(rt, alloc, head, book, *number)
         }
         Commit::Conflict(place) => {
             is_number(rt, *place, head.place(), "the place of a conflict");
@@ -154,9 +154,9 @@ fn compare(
 }
 
 /// Begins a work of a random batch; one that isn't ready for a commit is dropped.
-fn begins_one(alloc: Global, desk: &mut Desk, state: &mut u64) -> Result<(), Fail> {
-    let text = batch_text(alloc, state, desk.head().place())?;
-    begin(alloc, desk, text.as_str())?;
+fn begins_one(alloc: Global, test_head: &mut TestHead, state: &mut u64) -> Result<(), Fail> {
+    let text = batch_text(alloc, state, test_head.head().place())?;
+    begin(alloc, test_head, text.as_str())?;
     Ok(())
 }
 
@@ -164,13 +164,13 @@ fn begins_one(alloc: Global, desk: &mut Desk, state: &mut u64) -> Result<(), Fai
 fn commits_one(
     rt: &impl Abort,
     alloc: Global,
-    desk: &mut Desk,
+    test_head: &mut TestHead,
     book: &mut PlainBook,
     index: usize,
     counts: &mut Counts,
 ) -> Result<(), Fail> {
-    let (commit, work) = desk.commit(index, 0, 0)?;
-    let compared = compare(rt, alloc, desk.head(), book, &commit, &work, counts);
+    let (commit, work) = test_head.commit(index, 0, 0)?;
+    let compared = compare(rt, alloc, test_head.head(), book, &commit, &work, counts);
     drop(work);
     compared
 }
@@ -190,23 +190,23 @@ fn index_of_one(state: &mut u64, count: usize) -> usize {
 fn rounds(
     rt: &impl Abort,
     alloc: Global,
-    desk: &mut Desk,
+    test_head: &mut TestHead,
     book: &mut PlainBook,
     state: &mut u64,
     most: usize,
     counts: &mut Counts,
 ) -> Result<(), Fail> {
     for _ in 0..600_u64 {
-        let waiting = desk.waiting();
+        let waiting = test_head.waiting();
         let begins = waiting < most && below(state, 8) > 0;
         if begins || waiting == 0 {
-            begins_one(alloc, desk, state)?;
+            begins_one(alloc, test_head, state)?;
         } else {
             let index = index_of_one(state, waiting);
-            commits_one(rt, alloc, desk, book, index, counts)?;
+            commits_one(rt, alloc, test_head, book, index, counts)?;
         }
     }
-    desk.checkpoint();
+    test_head.checkpoint();
     Ok(())
 }
 
@@ -214,13 +214,13 @@ fn rounds(
 fn all_rounds(
     rt: &impl Abort,
     alloc: Global,
-    desk: &mut Desk,
+    test_head: &mut TestHead,
     book: &mut PlainBook,
     counts: &mut Counts,
 ) -> Result<(), Fail> {
     let mut state = 7;
     for most in [1_usize, 2, 4, 100, 100, 8, 100, 4, 3] {
-        rounds(rt, alloc, desk, book, &mut state, most, counts)?;
+        rounds(rt, alloc, test_head, book, &mut state, most, counts)?;
     }
     Ok(())
 }
@@ -229,26 +229,26 @@ fn all_rounds(
 fn play_both(
     rt: &impl Abort,
     alloc: Global,
-    desk: &mut Desk,
+    test_head: &mut TestHead,
     book: &mut PlainBook,
 ) -> Result<(), Fail> {
     let mut counts = no_counts();
-    all_rounds(rt, alloc, desk, book, &mut counts)?;
-    is_number(rt, desk.head().place(), book.place(), "place");
-    is_number(rt, desk.head().place(), counts.committed, "committed");
+    all_rounds(rt, alloc, test_head, book, &mut counts)?;
+    is_number(rt, test_head.head().place(), book.place(), "place");
+    is_number(rt, test_head.head().place(), counts.committed, "committed");
     holds(rt, counts.committed > 200, "more than 200 commits");
     holds(rt, counts.conflicts > 50, "more than 50 conflicts");
     holds(rt, counts.late_conflicts > 0, "late conflicts");
     Ok(())
 }
 
-fn play_beside_the_plain_book(rt: &impl Abort, alloc: Global, desk: &mut Desk) -> Result<(), Fail> {
+fn play_with_the_plain_book(rt: &impl Abort, alloc: Global, test_head: &mut TestHead) -> Result<(), Fail> {
     let mut book = plain_book(alloc)?;
-    play_both(rt, alloc, desk, &mut book)
+    play_both(rt, alloc, test_head, &mut book)
 }
 
 #[test]
 fn works_that_began_at_once_commit_as_in_the_plain_book(rt: HostRuntime) -> Result<(), Fail> {
-    let mut desk = first_desk(rt.alloc())?;
-    play_beside_the_plain_book(&rt, rt.alloc(), &mut desk)
+    let mut test_head = first_test_head(rt.alloc())?;
+    play_with_the_plain_book(&rt, rt.alloc(), &mut test_head)
 }

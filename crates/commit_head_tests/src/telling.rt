@@ -3,18 +3,18 @@
 use commit_head::{Commit, Item};
 use entry_book::Limit;
 use std::alloc::Global;
-use test_batches::{Failed, placed, replies_text};
+use test_batches::{Failed, kind_at_place, replies_text};
 
 fn full_text(alloc: Global, limit: &Limit, place: u64) -> Result<String, Failed> {
     let code = limit.code();
-    placed(alloc, code, place)
+    kind_at_place(alloc, code, place)
 }
 
 /// The result of a commit, and its number. Out of memory is an error, so that no table has to handle it.
 pub fn commit_text(alloc: Global, commit: &Commit) -> Result<String, Failed> {
     match commit {
-        Commit::Committed(number) => placed(alloc, "committed", *number),
-        Commit::Conflict(place) => placed(alloc, "conflict", *place),
+        Commit::Committed(number) => kind_at_place(alloc, "committed", *number),
+        Commit::Conflict(place) => kind_at_place(alloc, "conflict", *place),
         Commit::Full(limit, place) => full_text(alloc, limit, *place),
         Commit::NoMemory => Err(Failed::NoMemory),
     }

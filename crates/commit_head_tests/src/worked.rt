@@ -253,7 +253,7 @@ fn others_that_hit_nothing_hinder_no_commit(rt: HostRuntime) -> Result<(), Fail>
 }
 
 #[test]
-fn a_write_that_stays_is_a_conflict_however_many_follow(rt: HostRuntime) -> Result<(), Fail> {
+fn a_lasting_write_is_a_conflict_however_many_follow(rt: HostRuntime) -> Result<(), Fail> {
     plays(&rt, rt.alloc(), FIRST_HITS)
 }
 

@@ -31,29 +31,29 @@ lines_pass false true agents h = cc
 lines_pass false false true h = (refl, refl)
 lines_pass false false false h = cc
 
-no_lines : (own : Bytes) (a : Agent) → agent_fault own a ≡ lines (is_foreign own a.id) (nat_lt 64 (length a.selectors)) (is_agent_path (path_of a.id))
+no_lines : (own_domain : Bytes) (a : Agent) → agent_fault own_domain a ≡ lines (is_foreign own_domain a.id) (nat_lt 64 (length a.selectors)) (is_agent_path (path_of a.id))
 unfolding agent_fault
-no_lines own a = refl
+no_lines own_domain a = refl
 
 -- its domain is the book's, and its path an agent's
-pub of_agent : (own : Bytes) (a : Agent) → agent_fault own a ≡ None → (domain_of a.id ≡ own) × (is_agent_path (path_of a.id) ≡ true)
-of_agent own a h =
-    let k = lines_pass _ _ _ (sym (no_lines own a) ∙ h) in
-    (text_is (domain_of a.id) own (not_false (bytes_eq (domain_of a.id) own) k.0), k.1)
+pub of_agent : (own_domain : Bytes) (a : Agent) → agent_fault own_domain a ≡ None → (domain_of a.id ≡ own_domain) × (is_agent_path (path_of a.id) ≡ true)
+of_agent own_domain a h =
+    let k = lines_pass _ _ _ (sym (no_lines own_domain a) ∙ h) in
+    (text_is (domain_of a.id) own_domain (not_false (bytes_eq (domain_of a.id) own_domain) k.0), k.1)
 
-behind : (own : Bytes) → drop (length prefix + length own) (server_text own) ≡ server_path
-behind own = drop-append-add prefix (own ++ server_path) (length own) ∙ drop-append_seam own server_path
+behind : (own_domain : Bytes) → drop (length prefix + length own_domain) (server_text own_domain) ≡ server_path
+behind own_domain = drop-append-add prefix (own_domain ++ server_path) (length own_domain) ∙ drop-append_seam own_domain server_path
 
-pub agent_not_server : (own : Bytes) (a : Agent) → agent_fault own a ≡ None → a.id ≢ server_text own
-agent_not_server own a h q =
-    let k = of_agent own a h in
-    let path : path_of a.id ≡ server_path = ap (λ d. drop (length prefix + length d) a.id) k.0 ∙ (ap (drop (length prefix + length own)) q ∙ behind own) in
+pub agent_not_server : (own_domain : Bytes) (a : Agent) → agent_fault own_domain a ≡ None → a.id ≢ server_text own_domain
+agent_not_server own_domain a h q =
+    let k = of_agent own_domain a h in
+    let path : path_of a.id ≡ server_path = ap (λ d. drop (length prefix + length d) a.id) k.0 ∙ (ap (drop (length prefix + length own_domain)) q ∙ behind own_domain) in
     both_ways (is_agent_path server_path) refl (sym (ap is_agent_path path) ∙ k.1)
 
 -- ---- an authorised alias
 
-pub alias_is_held : (own : Bytes) (most : ℕ) (a : Agent) (b : Book) (e : Entry) → Lawful own most b → Within b.agents a → Within (authorised (server_text own) a b) e → e.parent ≡ server_text own → Holds (server_text own) a e
-alias_is_held own most a b e l w v p = ⊎_elim
-    (λ s. ⊎_elim (λ h. h) (λ q. absurd (agent_not_server own a (l.no_agent_fault a w) (sym q ∙ p))) s)
-    (λ r. absurd (not_the_server own (given_of r.0) (l.no_fault r.0 r.1) (sym r.2 ∙ p)))
-    (reached_by (server_text own) a b e v)
+pub alias_is_held : (own_domain : Bytes) (most : ℕ) (a : Agent) (b : Book) (e : Entry) → Lawful own_domain most b → Within b.agents a → Within (authorised (server_text own_domain) a b) e → e.parent ≡ server_text own_domain → Holds (server_text own_domain) a e
+alias_is_held own_domain most a b e l w v p = ⊎_elim
+    (λ s. ⊎_elim (λ h. h) (λ q. absurd (agent_not_server own_domain a (l.no_agent_fault a w) (sym q ∙ p))) s)
+    (λ r. absurd (not_the_server own_domain (given_of r.0) (l.no_fault r.0 r.1) (sym r.2 ∙ p)))
+    (reached_by (server_text own_domain) a b e v)

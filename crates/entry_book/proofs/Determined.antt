@@ -15,7 +15,7 @@ use Rattle.entry_book.specs.Order.{Within, Ascending}
 use Rattle.entry_book.specs.Book.{Book, AscendingBook}
 use Rattle.entry_book.specs.Writes.{after}
 use Rattle.entry_book.specs.Ops.{OpEffect, next_sequence}
-use Rattle.entry_book.specs.Effects.{IsListOf, IsRowAt, EntriesBecome, AgentsBecome, BundlesBecome, Creates, Updates, Deletes, Shows, Lists, OfAgent, Prunes, SetsAgent, DropsAgent, IsNext, SetsBundle, DropsOne, DropsUnused, DropsDeleting, DropsDissociating, DropsBundle}
+use Rattle.entry_book.specs.Effects.{IsListOf, IsRowAt, EntriesBecome, AgentsBecome, BundlesBecome, Creates, Updates, Deletes, ShowsRow, Lists, OfAgent, Prunes, SetsAgent, DropsAgent, IsNextSequence, SetsBundle, DropsOne, DropsUnused, DropsDeleting, DropsDissociating, DropsBundle}
 use Rattle.entry_book.specs.Laws.{EffectOf}
 use Rattle.entry_book.specs.Listings.{ListsPage}
 use Rattle.entry_book.specs.declared.page.PageQuery.{PageQuery}
@@ -55,7 +55,7 @@ module _ (b c d : Book) where
 
 -- ---- bundles
 
-next_is : (o : Option Bundle) (n : ℕ) → IsNext o n → n ≡ next_sequence o
+next_is : (o : Option Bundle) (n : ℕ) → IsNextSequence o n → n ≡ next_sequence o
 next_is None n e = e
 next_is (Some x) n e = e
 
@@ -82,7 +82,7 @@ module _ (b : Book) (s : AscendingBook b) (c d : OpEffect) where
       let q : g.old ≡ h.old = same_key entry_key b.entries s.entries g.old h.old g.found.0 h.found.0 (g.found.1 ∙ sym h.found.1) in
       (g.reply ∙ (ap replied.Entry q ∙ sym h.reply), one_by_entries b _ _ _ g.after_it h.after_it)
 
-  one_show : {X : Type 0} (key : X → Bytes) (rows : List X) → Ascending key rows → (replies : Option X → OpReply) (k : Bytes) → Shows key rows replies k c → Shows key rows replies k d → Same b c d
+  one_show : {X : Type 0} (key : X → Bytes) (rows : List X) → Ascending key rows → (replies : Option X → OpReply) (k : Bytes) → ShowsRow key rows replies k c → ShowsRow key rows replies k d → Same b c d
   one_show key rows a replies k g h = (
     g.reply ∙ (ap replies (one_row key rows a k g.shown h.shown g.is_row h.is_row) ∙ sym h.reply),
     ap (λ ws. after ws b) (g.writes ∙ sym h.writes),
@@ -145,19 +145,19 @@ module _ (b : Book) (s : AscendingBook b) (c d : OpEffect) where
   one_drop domain mode.Delete g h = one_deleting domain g h
   one_drop domain mode.Dissociate g h = one_dissociating domain g h
 
-pub one_answer : (own : Bytes) (op : Op) (b : Book) → AscendingBook b → (c d : OpEffect) → EffectOf own op b c → EffectOf own op b d → (c.reply ≡ d.reply) × (after c.writes b ≡ after d.writes b)
-one_answer own (Create e) b s c d g h = one_create b s c d e g h
-one_answer own (Update e expected) b s c d g h = one_update b s c d e expected g h
-one_answer own (Delete k expected) b s c d g h = one_delete b s c d k expected g h
-one_answer own (Show k) b s c d g h = one_show b s c d entry_key b.entries s.entries replied.EntryShown k g h
-one_answer own (ShowAgent k) b s c d g h = one_show b s c d agent_key b.agents s.agents replied.AgentShown k g h
-one_answer own (ShowBundle k) b s c d g h = one_show b s c d bundle_key b.bundles s.bundles replied.BundleShown k g h
-one_answer own (Children p) b s c d g h = one_list b s c d entry_key replied.Entries _ g h
-one_answer own (Page q) b s c d g h = one_listed b s c d q g h
-one_answer own (Authorised k) b s c d g h = one_of_agent b s c d entry_key replied.Entries k _ g h
-one_answer own (Trust k) b s c d g h = one_of_agent b s c d bundle_key replied.Bundles k _ g h
-one_answer own (Prune moment) b s c d g h = one_prune b s c d moment g h
-one_answer own (SetAgent a) b s c d g h = one_set_agent b s c d a g h
-one_answer own (DropAgent k) b s c d g h = one_drop_agent b s c d k g h
-one_answer own (SetBundle domain text) b s c d g h = one_set_bundle b s c d domain text g h
-one_answer own (DropBundle domain m) b s c d g h = one_drop b s c d domain m g h
+pub one_answer : (own_domain : Bytes) (op : Op) (b : Book) → AscendingBook b → (c d : OpEffect) → EffectOf own_domain op b c → EffectOf own_domain op b d → (c.reply ≡ d.reply) × (after c.writes b ≡ after d.writes b)
+one_answer own_domain (Create e) b s c d g h = one_create b s c d e g h
+one_answer own_domain (Update e expected) b s c d g h = one_update b s c d e expected g h
+one_answer own_domain (Delete k expected) b s c d g h = one_delete b s c d k expected g h
+one_answer own_domain (Show k) b s c d g h = one_show b s c d entry_key b.entries s.entries replied.EntryShown k g h
+one_answer own_domain (ShowAgent k) b s c d g h = one_show b s c d agent_key b.agents s.agents replied.AgentShown k g h
+one_answer own_domain (ShowBundle k) b s c d g h = one_show b s c d bundle_key b.bundles s.bundles replied.BundleShown k g h
+one_answer own_domain (Children p) b s c d g h = one_list b s c d entry_key replied.Entries _ g h
+one_answer own_domain (Page q) b s c d g h = one_listed b s c d q g h
+one_answer own_domain (Authorised k) b s c d g h = one_of_agent b s c d entry_key replied.Entries k _ g h
+one_answer own_domain (Trust k) b s c d g h = one_of_agent b s c d bundle_key replied.Bundles k _ g h
+one_answer own_domain (Prune moment) b s c d g h = one_prune b s c d moment g h
+one_answer own_domain (SetAgent a) b s c d g h = one_set_agent b s c d a g h
+one_answer own_domain (DropAgent k) b s c d g h = one_drop_agent b s c d k g h
+one_answer own_domain (SetBundle domain text) b s c d g h = one_set_bundle b s c d domain text g h
+one_answer own_domain (DropBundle domain m) b s c d g h = one_drop b s c d domain m g h

@@ -126,5 +126,5 @@ drop_at domain m b s (Some d) h =
     let r = at_row bundle_key domain b.bundles d h in
     subst (λ k. MatchResult (drop_in m (users_of d.domain b) d) (DropsBundle k m b) (DropBundleRefused k m b)) r.1 (by_mode m d b s r.0)
 
-pub drop_bundle_effect : (own : Bytes) (domain : Bytes) (m : DropMode) (b : Book) → AscendingBook b → MatchResult (op_of own (DropBundle domain m) b) (DropsBundle domain m b) (DropBundleRefused domain m b)
-drop_bundle_effect own domain m b s = drop_at domain m b s (bundle_at domain b) refl
+pub drop_bundle_effect : (own_domain : Bytes) (domain : Bytes) (m : DropMode) (b : Book) → AscendingBook b → MatchResult (op_of own_domain (DropBundle domain m) b) (DropsBundle domain m b) (DropBundleRefused domain m b)
+drop_bundle_effect own_domain domain m b s = drop_at domain m b s (bundle_at domain b) refl

@@ -12,7 +12,7 @@ use Rattle.entry_book.specs.declared.reply.OpRefusal.TheVariants.{Similar, NoBun
 use Rattle.entry_book.specs.Rows.{Bytes, Entry, at_revision, entry_key}
 use Rattle.entry_book.specs.Order.{Within}
 use Rattle.entry_book.specs.Book.{Book, AscendingBook, HasBundle, entry_at, group_of}
-use Rattle.entry_book.specs.Ops.{OpEffect, similar, lacking, put, put_named, put_beside, create_over, is_stale, update_when, update_over, delete_when, delete_over, op_of}
+use Rattle.entry_book.specs.Ops.{OpEffect, similar, lacking, put, put_named, put_unless_similar, create_over, is_stale, update_when, update_over, delete_when, delete_over, op_of}
 use Rattle.entry_book.specs.Effects.{IsNew, IsAlone, IsSimilar, LacksBundle, Creates, CreateRefused, IsExpected, HasExpected, Updates, UpdateRefused, Deletes, DeleteRefused}
 use Rattle.entry_book.proofs.Changed.{not_is}
 use Rattle.entry_book.proofs.Keys.{first_within, at_row, no_row}
@@ -33,9 +33,9 @@ module _ (e : NewEntry) (n : ℕ) (b : Book) (old : Option Entry) (Good : OpEffe
   named a (Some k) h = let r = first_lacking e.domains b k h in bare k (record { alone = a; first = r.0; none = r.1 })
   named a None h = good a (all_bundled e.domains b h)
 
-  beside : (o : Option Entry) → similar (at_revision n e) b ≡ o → MatchResult (put_beside o old (at_revision n e) b) Good Bad
-  beside (Some x) h = let r = is_similar (at_revision n e) b x h in alike x.id (x, r.0, record { parent = r.1; identity = r.2; selectors = r.3 }, is_another (at_revision n e) b x h, refl)
-  beside None h = named (λ x w l. not_similar (at_revision n e) b h x w (sym l.parent) (sym l.identity) (sym l.selectors)) (lacking e.domains b) refl
+  unless_similar : (o : Option Entry) → similar (at_revision n e) b ≡ o → MatchResult (put_unless_similar o old (at_revision n e) b) Good Bad
+  unless_similar (Some x) h = let r = is_similar (at_revision n e) b x h in alike x.id (x, r.0, record { parent = r.1; identity = r.2; selectors = r.3 }, is_another (at_revision n e) b x h, refl)
+  unless_similar None h = named (λ x w l. not_similar (at_revision n e) b h x w (sym l.parent) (sym l.identity) (sym l.selectors)) (lacking e.domains b) refl
 
 -- ---- create
 
@@ -44,7 +44,7 @@ create_from e b s (Some x) h = let r = at_row entry_key e.id b.entries x h in (x
 create_from e b s None h =
     let new : IsNew e b = λ x w. no_row entry_key e.id b.entries h x w in
     let x : Entry = at_revision 0 e in
-    beside e 0 b None (Creates e b) (CreateRefused e b) (λ k v. (new, v)) (λ k v. (new, v))
+    unless_similar e 0 b None (Creates e b) (CreateRefused e b) (λ k v. (new, v)) (λ k v. (new, v))
     (λ a d. record {
       new = new;
       alone = a;
@@ -59,8 +59,8 @@ create_from e b s None h =
     })
     (similar x b) refl
 
-pub create_effect : (own : Bytes) (e : NewEntry) (b : Book) → AscendingBook b → MatchResult (op_of own (Create e) b) (Creates e b) (CreateRefused e b)
-create_effect own e b s = create_from e b s (entry_at e.id b) refl
+pub create_effect : (own_domain : Bytes) (e : NewEntry) (b : Book) → AscendingBook b → MatchResult (op_of own_domain (Create e) b) (Creates e b) (CreateRefused e b)
+create_effect own_domain e b s = create_from e b s (entry_at e.id b) refl
 
 -- ---- revisions
 
@@ -83,7 +83,7 @@ update_from e expected b s old w q true h = (old, w, q, stale expected old h)
 update_from e expected b s old w q false h =
     let found : HasExpected e.id expected b old = (w, q, not_stale expected old h) in
     let x : Entry = at_revision (old.revision + 1) e in
-    beside e (old.revision + 1) b (Some old) (Updates e expected b) (UpdateRefused e expected b) (λ k v. ((old, found), v)) (λ k v. ((old, found), v))
+    unless_similar e (old.revision + 1) b (Some old) (Updates e expected b) (UpdateRefused e expected b) (λ k v. ((old, found), v)) (λ k v. ((old, found), v))
     (λ a d. record {
       old = old;
       found = found;
@@ -98,8 +98,8 @@ update_at : (e : NewEntry) (expected : Option ℕ) (b : Book) → AscendingBook 
 update_at e expected b s None h = λ v. no_row entry_key e.id b.entries h v.0 v.1 v.2
 update_at e expected b s (Some old) h = let r = at_row entry_key e.id b.entries old h in update_from e expected b s old r.0 r.1 (is_stale expected old) refl
 
-pub update_effect : (own : Bytes) (e : NewEntry) (expected : Option ℕ) (b : Book) → AscendingBook b → MatchResult (op_of own (Update e expected) b) (Updates e expected b) (UpdateRefused e expected b)
-update_effect own e expected b s = update_at e expected b s (entry_at e.id b) refl
+pub update_effect : (own_domain : Bytes) (e : NewEntry) (expected : Option ℕ) (b : Book) → AscendingBook b → MatchResult (op_of own_domain (Update e expected) b) (Updates e expected b) (UpdateRefused e expected b)
+update_effect own_domain e expected b s = update_at e expected b s (entry_at e.id b) refl
 
 -- ---- delete
 
@@ -116,5 +116,5 @@ delete_at : (k : Bytes) (expected : Option ℕ) (b : Book) → AscendingBook b �
 delete_at k expected b s None h = λ v. no_row entry_key k b.entries h v.0 v.1 v.2
 delete_at k expected b s (Some old) h = let r = at_row entry_key k b.entries old h in delete_from k expected b s old r.0 r.1 (is_stale expected old) refl
 
-pub delete_effect : (own : Bytes) (k : Bytes) (expected : Option ℕ) (b : Book) → AscendingBook b → MatchResult (op_of own (Delete k expected) b) (Deletes k expected b) (DeleteRefused k expected b)
-delete_effect own k expected b s = delete_at k expected b s (entry_at k b) refl
+pub delete_effect : (own_domain : Bytes) (k : Bytes) (expected : Option ℕ) (b : Book) → AscendingBook b → MatchResult (op_of own_domain (Delete k expected) b) (Deletes k expected b) (DeleteRefused k expected b)
+delete_effect own_domain k expected b s = delete_at k expected b s (entry_at k b) refl

@@ -12,7 +12,7 @@ use Rattle.entry_book.specs.Order.{Within, first}
 use Rattle.entry_book.specs.Book.{Book, AscendingBook, agent_at, children_of, names}
 use Rattle.entry_book.specs.Authorised.{authorised, EndsChain}
 use Rattle.entry_book.specs.Ops.{OpEffect, OpResult, done, for_agent, is_named, bundles_of, op_of}
-use Rattle.entry_book.specs.Effects.{Names, Shows, ListsChildren, ListsAuthorised, ListsTrust, LacksAgent}
+use Rattle.entry_book.specs.Effects.{Names, ShowsRow, ListsChildren, ListsAuthorised, ListsTrust, LacksAgent}
 use Rattle.entry_book.proofs.Chains.{ends_of_chains, authorised_in_order}
 use Rattle.entry_book.proofs.Keys.{at_row, no_row}
 use Rattle.entry_book.proofs.Listed.{row_found, listed_filter}
@@ -20,22 +20,22 @@ use Rattle.entry_book.proofs.Sets.{within_any, from_any, text_is, text_same}
 
 -- ---- show, show_agent and show_bundle
 
-shows : {X : Type 0} (key : X → Bytes) (rows : List X) (replies : Option X → OpReply) (k : Bytes) → Shows key rows replies k (record { reply = replies (first (filter (λ x. bytes_eq (key x) k) rows)); writes = [] })
+shows : {X : Type 0} (key : X → Bytes) (rows : List X) (replies : Option X → OpReply) (k : Bytes) → ShowsRow key rows replies k (record { reply = replies (first (filter (λ x. bytes_eq (key x) k) rows)); writes = [] })
 shows key rows replies k = record { writes = refl; shown = first (filter (λ x. bytes_eq (key x) k) rows); reply = refl; is_row = row_found key k rows (first (filter (λ x. bytes_eq (key x) k) rows)) refl }
 
-pub show_effect : (own : Bytes) (k : Bytes) (b : Book) → AscendingBook b → MatchResult (op_of own (Show k) b) (Shows entry_key b.entries replied.EntryShown k) (λ refusal. ⊥)
-show_effect own k b s = shows entry_key b.entries replied.EntryShown k
+pub show_effect : (own_domain : Bytes) (k : Bytes) (b : Book) → AscendingBook b → MatchResult (op_of own_domain (Show k) b) (ShowsRow entry_key b.entries replied.EntryShown k) (λ refusal. ⊥)
+show_effect own_domain k b s = shows entry_key b.entries replied.EntryShown k
 
-pub show_agent_effect : (own : Bytes) (k : Bytes) (b : Book) → AscendingBook b → MatchResult (op_of own (ShowAgent k) b) (Shows agent_key b.agents replied.AgentShown k) (λ refusal. ⊥)
-show_agent_effect own k b s = shows agent_key b.agents replied.AgentShown k
+pub show_agent_effect : (own_domain : Bytes) (k : Bytes) (b : Book) → AscendingBook b → MatchResult (op_of own_domain (ShowAgent k) b) (ShowsRow agent_key b.agents replied.AgentShown k) (λ refusal. ⊥)
+show_agent_effect own_domain k b s = shows agent_key b.agents replied.AgentShown k
 
-pub show_bundle_effect : (own : Bytes) (k : Bytes) (b : Book) → AscendingBook b → MatchResult (op_of own (ShowBundle k) b) (Shows bundle_key b.bundles replied.BundleShown k) (λ refusal. ⊥)
-show_bundle_effect own k b s = shows bundle_key b.bundles replied.BundleShown k
+pub show_bundle_effect : (own_domain : Bytes) (k : Bytes) (b : Book) → AscendingBook b → MatchResult (op_of own_domain (ShowBundle k) b) (ShowsRow bundle_key b.bundles replied.BundleShown k) (λ refusal. ⊥)
+show_bundle_effect own_domain k b s = shows bundle_key b.bundles replied.BundleShown k
 
 -- ---- children
 
-pub children_effect : (own : Bytes) (p : Bytes) (b : Book) → AscendingBook b → MatchResult (op_of own (Children p) b) (ListsChildren p b) (λ refusal. ⊥)
-children_effect own p b s = record {
+pub children_effect : (own_domain : Bytes) (p : Bytes) (b : Book) → AscendingBook b → MatchResult (op_of own_domain (Children p) b) (ListsChildren p b) (λ refusal. ⊥)
+children_effect own_domain p b s = record {
   writes = refl;
   shown = children_of p b;
   reply = refl;
@@ -53,16 +53,16 @@ module _ (k : Bytes) (b : Book) (f : Agent → OpResult) (Good : OpEffect → Ty
   pub agent_effect : MatchResult (for_agent (agent_at k b) f) Good (LacksAgent k b)
   agent_effect = of_agent (agent_at k b) refl
 
-pub authorised_effect : (own : Bytes) (k : Bytes) (b : Book) → AscendingBook b → MatchResult (op_of own (Authorised k) b) (ListsAuthorised (server_text own) k b) (LacksAgent k b)
-authorised_effect own k b s = agent_effect k b (λ a. done (replied.Entries (authorised (server_text own) a b)) []) (ListsAuthorised (server_text own) k b) (λ a w q. (
+pub authorised_effect : (own_domain : Bytes) (k : Bytes) (b : Book) → AscendingBook b → MatchResult (op_of own_domain (Authorised k) b) (ListsAuthorised (server_text own_domain) k b) (LacksAgent k b)
+authorised_effect own_domain k b s = agent_effect k b (λ a. done (replied.Entries (authorised (server_text own_domain) a b)) []) (ListsAuthorised (server_text own_domain) k b) (λ a w q. (
   a,
   w,
   q,
   record {
     writes = refl;
-    shown = authorised (server_text own) a b;
+    shown = authorised (server_text own_domain) a b;
     reply = refl;
-    listed = record { members = ends_of_chains (server_text own) a b; order = authorised_in_order (server_text own) a b s.entries };
+    listed = record { members = ends_of_chains (server_text own_domain) a b; order = authorised_in_order (server_text own_domain) a b s.entries };
   },
 ))
 
@@ -80,15 +80,15 @@ named_is server a b d = (
   λ v. within_any (names d.domain) (authorised server a b) v.0 ((ends_of_chains server a b v.0).1 v.1) ((names_is d.domain v.0).1 v.2),
 )
 
-pub trust_effect : (own : Bytes) (k : Bytes) (b : Book) → AscendingBook b → MatchResult (op_of own (Trust k) b) (ListsTrust (server_text own) k b) (LacksAgent k b)
-trust_effect own k b s = agent_effect k b (λ a. done (replied.Bundles (bundles_of (authorised (server_text own) a b) b)) []) (ListsTrust (server_text own) k b) (λ a w q. (
+pub trust_effect : (own_domain : Bytes) (k : Bytes) (b : Book) → AscendingBook b → MatchResult (op_of own_domain (Trust k) b) (ListsTrust (server_text own_domain) k b) (LacksAgent k b)
+trust_effect own_domain k b s = agent_effect k b (λ a. done (replied.Bundles (bundles_of (authorised (server_text own_domain) a b) b)) []) (ListsTrust (server_text own_domain) k b) (λ a w q. (
   a,
   w,
   q,
   record {
     writes = refl;
-    shown = bundles_of (authorised (server_text own) a b) b;
+    shown = bundles_of (authorised (server_text own_domain) a b) b;
     reply = refl;
-    listed = listed_filter bundle_key (is_named (authorised (server_text own) a b)) (λ d. (e : Entry) × EndsChain (server_text own) a b e × Names d.domain e) b.bundles (named_is (server_text own) a b) s.bundles;
+    listed = listed_filter bundle_key (is_named (authorised (server_text own_domain) a b)) (λ d. (e : Entry) × EndsChain (server_text own_domain) a b e × Names d.domain e) b.bundles (named_is (server_text own_domain) a b) s.bundles;
   },
 ))

@@ -6,7 +6,7 @@ use Rattle.entry_book.specs.declared.kept.KeptBatch.{KeptBatch}
 use Rattle.entry_book.specs.declared.limit.Limit.{Limit}
 use Rattle.entry_book.specs.declared.op.Op.{Op}
 use Rattle.entry_book.specs.declared.reply.OpReply.{OpReply}
-use Rattle.entry_book.specs.declared.reply.Outcome.TheVariants.{Committed, Repeated}
+use Rattle.entry_book.specs.declared.reply.ReplyOutcome.TheVariants.{Committed, Repeated}
 use Rattle.entry_book.specs.declared.reply.Reply.{Reply}
 use Rattle.entry_book.specs.Rows.{Bytes}
 use Rattle.entry_book.specs.Book.{Book, AscendingBook, empty_book, token_at}
@@ -20,7 +20,7 @@ use Rattle.entry_book.specs.Laws.{ArePagesAlone, AskForLast, CommittedOnce}
 use Rattle.entry_book.specs.Tokens.{token_key}
 use Rattle.entry_book.proofs.Faults.{asks_last, not_refused}
 use Rattle.entry_book.proofs.Keys.{at_row}
-use Rattle.entry_book.proofs.Histories.{asks_with, history_goes_on, history_some, last-snoc, lawful_history}
+use Rattle.entry_book.proofs.Histories.{asks_with, history_extends, history_some, last-snoc, lawful_history}
 use Rattle.entry_book.proofs.OfVerdict.{of_verdict}
 use Rattle.entry_book.proofs.PastPages.{past_asks, IsPastPage, past_page}
 use Rattle.entry_book.proofs.Runs.{run_fits}
@@ -44,13 +44,13 @@ get_last (b ∷ books) h = last_at empty_book b books
 abbrev HasKept : Bytes → Option KeptBatch → List Book → Type 0
 HasKept token r books = token_at token (last_book books) ≡ r
 
-record Keeps (own token : Bytes) (r : KeptBatch) (books : List Book) : Type 0 where
-  history : IsHistory own books
+record Keeps (own_domain token : Bytes) (r : KeptBatch) (books : List Book) : Type 0 where
+  history : IsHistory own_domain books
   some : 0 < length books
   kept : HasKept token (Some r) books
 
-in_order_after : (own : Bytes) (books : List Book) → IsHistory own books → 0 < length books → AscendingBook (last_book books)
-in_order_after own books h s = let l : Lawful own (64 * place_of books) (last_book books) = lawful_history own books h (place_of books) (last_book books) (get_last books s) in l.ascending
+in_order_after : (own_domain : Bytes) (books : List Book) → IsHistory own_domain books → 0 < length books → AscendingBook (last_book books)
+in_order_after own_domain books h s = let l : Lawful own_domain (64 * place_of books) (last_book books) = lawful_history own_domain books h (place_of books) (last_book books) (get_last books s) in l.ascending
 
 -- ---- the effect of a batch on the row of a token
 
@@ -65,26 +65,26 @@ run_of batch b t a e =
     let l : (x : Book) → (after t.writes x).tokens ≡ x.tokens = subst (λ r. IfOk r (λ t. (x : Book) → (after t.writes x).tokens ≡ x.tokens)) e (run_leaves batch.domain batch.ops b) in
     record { order = f.1; leaves = l }
 
-stays_within : (token : Bytes) (r : KeptBatch) (books : List Book) (c : Book) (replies : List OpReply) (o : Option Limit) → HasKept token (Some r) books → token_at token c ≡ Some r → HasKept token (Some r) (books_with books (adds_within o replies c))
-stays_within token r books c replies (Some limit) h k = h
-stays_within token r books c replies None h k = ap (token_at token) (last-snoc empty_book books c) ∙ k
+is_unchanged_within : (token : Bytes) (r : KeptBatch) (books : List Book) (c : Book) (replies : List OpReply) (o : Option Limit) → HasKept token (Some r) books → token_at token c ≡ Some r → HasKept token (Some r) (books_with books (adds_within o replies c))
+is_unchanged_within token r books c replies (Some limit) h k = h
+is_unchanged_within token r books c replies None h k = ap (token_at token) (last-snoc empty_book books c) ∙ k
 
 other_token : (batch : Batch) (token : Bytes) (r : KeptBatch) (b : Book) → kept_under batch.token b ≡ None → token_at token b ≡ Some r → batch.token ≡ Some token → ⊥
 other_token batch token r b n h e = let q : Some r ≡ None = sym h ∙ (sym (ap (λ x. kept_under x b) e) ∙ n) in cc
 
-stays_when : (token : Bytes) (r : KeptBatch) (query : Bool) (batch : Batch) (n : ℕ) (books : List Book) (b : Book) (o : RunResult) → run batch.domain batch.ops b ≡ o → AscendingBook b → token_at token b ≡ Some r → kept_under batch.token b ≡ None → HasKept token (Some r) books → HasKept token (Some r) (books_with books (verdict_when query batch n b o))
-stays_when token r query batch n books b (Err s) e a k u h = h
-stays_when token r true batch n books b (Ok t) e a k u h = h
-stays_when token r false batch n books b (Ok t) e a k u h =
+is_unchanged_when : (token : Bytes) (r : KeptBatch) (query : Bool) (batch : Batch) (n : ℕ) (books : List Book) (b : Book) (o : RunResult) → run batch.domain batch.ops b ≡ o → AscendingBook b → token_at token b ≡ Some r → kept_under batch.token b ≡ None → HasKept token (Some r) books → HasKept token (Some r) (books_with books (verdict_when query batch n b o))
+is_unchanged_when token r query batch n books b (Err s) e a k u h = h
+is_unchanged_when token r true batch n books b (Ok t) e a k u h = h
+is_unchanged_when token r false batch n books b (Ok t) e a k u h =
     let q : RunOf batch b t = run_of batch b t a e in
     let c = after (batch_writes batch (n + 1) t) b in
-    stays_within token r books c t.replies (limit_passed n c) h (others_stay batch token (n + 1) t b q.order (other_token batch token r b u k) q.leaves ∙ k)
+    is_unchanged_within token r books c t.replies (limit_passed n c) h (others_stay batch token (n + 1) t b q.order (other_token batch token r b u k) q.leaves ∙ k)
 
-stays_run : (own token : Bytes) (r : KeptBatch) (batch : Batch) (books : List Book) (b : Book) (o : Option ℕ) → Keeps own token r books → IsMadeFor own batch → past_place batch.ops ≡ o → book_for o books ≡ Some b → kept_under batch.token b ≡ None → HasKept token (Some r) (books_with books (verdict_run batch (place_of books) b))
-stays_run own token r batch books b None k m p e u =
+is_unchanged_run : (own_domain token : Bytes) (r : KeptBatch) (batch : Batch) (books : List Book) (b : Book) (o : Option ℕ) → Keeps own_domain token r books → IsMadeFor own_domain batch → past_place batch.ops ≡ o → book_for o books ≡ Some b → kept_under batch.token b ≡ None → HasKept token (Some r) (books_with books (verdict_run batch (place_of books) b))
+is_unchanged_run own_domain token r batch books b None k m p e u =
     let q : last_book books ≡ b = some_is (last_book books) b e in
-    stays_when token r (is_query batch.ops) batch (place_of books) books b (run batch.domain batch.ops b) refl (subst AscendingBook q (in_order_after own books k.history k.some)) (sym (ap (token_at token) q) ∙ k.kept) u k.kept
-stays_run own token r batch books b (Some n) k m p e u = asks_with (HasKept token (Some r)) books (is_query batch.ops) batch (place_of books) b (run batch.domain batch.ops b) (past_asks own batch n m p) k.kept
+    is_unchanged_when token r (is_query batch.ops) batch (place_of books) books b (run batch.domain batch.ops b) refl (subst AscendingBook q (in_order_after own_domain books k.history k.some)) (sym (ap (token_at token) q) ∙ k.kept) u k.kept
+is_unchanged_run own_domain token r batch books b (Some n) k m p e u = asks_with (HasKept token (Some r)) books (is_query batch.ops) batch (place_of books) b (run batch.domain batch.ops b) (past_asks own_domain batch n m p) k.kept
 
 some_with : (books : List Book) (v : Verdict) → 0 < length books → 0 < length (books_with books v)
 some_with books (refuses r) h = h
@@ -92,16 +92,16 @@ some_with books (answers rs) h = h
 some_with books (adds rs b) h = let n = length-append books (b ∷ []) in omega arith
 some_with books (repeats n rs) h = h
 
-stays : (own token : Bytes) (r : KeptBatch) (batch : Batch) (books : List Book) → Keeps own token r books → IsMadeFor own batch → Keeps own token r (books_after batch books)
-stays own token r batch books k m = record {
-  history = history_goes_on own batch books k.history m;
+is_unchanged : (own_domain token : Bytes) (r : KeptBatch) (batch : Batch) (books : List Book) → Keeps own_domain token r books → IsMadeFor own_domain batch → Keeps own_domain token r (books_after batch books)
+is_unchanged own_domain token r batch books k m = record {
+  history = history_extends own_domain batch books k.history m;
   some = some_with books (verdict batch (place_of books) (book_for (past_place batch.ops) books)) k.some;
-  kept = of_verdict (λ v. HasKept token (Some r) (books_with books v)) batch (place_of books) (λ f. k.kept) (λ n rs. k.kept) (book_for (past_place batch.ops) books) (λ b e u. stays_run own token r batch books b (past_place batch.ops) k m refl e u);
+  kept = of_verdict (λ v. HasKept token (Some r) (books_with books v)) batch (place_of books) (λ f. k.kept) (λ n rs. k.kept) (book_for (past_place batch.ops) books) (λ b e u. is_unchanged_run own_domain token r batch books b (past_place batch.ops) k m refl e u);
 }
 
-stays_all : (own token : Bytes) (r : KeptBatch) (books : List Book) (batches : List Batch) → Keeps own token r books → AllByRecursion (IsMadeFor own) batches → Keeps own token r (books_from books batches)
-stays_all own token r books [] k m = k
-stays_all own token r books (x ∷ xs) k m = stays_all own token r (books_after x books) xs (stays own token r x books k m.0) m.1
+is_unchanged_all : (own_domain token : Bytes) (r : KeptBatch) (books : List Book) (batches : List Batch) → Keeps own_domain token r books → AllByRecursion (IsMadeFor own_domain) batches → Keeps own_domain token r (books_from books batches)
+is_unchanged_all own_domain token r books [] k m = k
+is_unchanged_all own_domain token r books (x ∷ xs) k m = is_unchanged_all own_domain token r (books_after x books) xs (is_unchanged own_domain token r x books k m.0) m.1
 
 -- ---- the batch that is committed
 
@@ -131,25 +131,25 @@ kept_when batch token false books b (Ok t) e a k u =
     kept_within batch token books c t.replies (limit_passed (place_of books) c) (row_kept batch token (place_of books + 1) t b k (sym (ap (λ x. kept_under x b) k) ∙ u) q.leaves)
 
 -- a batch with a token doesn't read an earlier book
-newest : (own token : Bytes) (batch : Batch) → IsMadeFor own batch → batch.token ≡ Some token → past_place batch.ops ≡ None
-newest own token batch m e = of_place (past_place batch.ops) refl
+newest : (own_domain token : Bytes) (batch : Batch) → IsMadeFor own_domain batch → batch.token ≡ Some token → past_place batch.ops ≡ None
+newest own_domain token batch m e = of_place (past_place batch.ops) refl
   where
     of_place : (o : Option ℕ) → past_place batch.ops ≡ o → past_place batch.ops ≡ None
     of_place None q = q
-    of_place (Some n) q = let p : IsPastPage batch n = past_page own batch n m q in let r : Some token ≡ None = sym e ∙ p.token in cc
+    of_place (Some n) q = let p : IsPastPage batch n = past_page own_domain batch n m q in let r : Some token ≡ None = sym e ∙ p.token in cc
 
-kept_run : (own token : Bytes) (batch : Batch) (books : List Book) (b : Book) → IsHistory own books → 0 < length books → IsMadeFor own batch → batch.token ≡ Some token → book_for (past_place batch.ops) books ≡ Some b → kept_under batch.token b ≡ None → IfCommitted batch token books (verdict_run batch (place_of books) b)
-kept_run own token batch books b h s m k e u =
-    let q : last_book books ≡ b = some_is (last_book books) b (sym (ap (λ o. book_for o books) (newest own token batch m k)) ∙ e) in
-    kept_when batch token (is_query batch.ops) books b (run batch.domain batch.ops b) refl (subst AscendingBook q (in_order_after own books h s)) k u
+kept_run : (own_domain token : Bytes) (batch : Batch) (books : List Book) (b : Book) → IsHistory own_domain books → 0 < length books → IsMadeFor own_domain batch → batch.token ≡ Some token → book_for (past_place batch.ops) books ≡ Some b → kept_under batch.token b ≡ None → IfCommitted batch token books (verdict_run batch (place_of books) b)
+kept_run own_domain token batch books b h s m k e u =
+    let q : last_book books ≡ b = some_is (last_book books) b (sym (ap (λ o. book_for o books) (newest own_domain token batch m k)) ∙ e) in
+    kept_when batch token (is_query batch.ops) books b (run batch.domain batch.ops b) refl (subst AscendingBook q (in_order_after own_domain books h s)) k u
 
-committed_keeps : (own token : Bytes) (batch : Batch) (books : List Book) → IsHistory own books → 0 < length books → IsMadeFor own batch → batch.token ≡ Some token → IfCommitted batch token books (verdict batch (place_of books) (book_for (past_place batch.ops) books))
-committed_keeps own token batch books h s m k = of_verdict (IfCommitted batch token books) batch (place_of books) (λ f rs e. cc) (λ n rs' rs e. cc) (book_for (past_place batch.ops) books) (λ b e u. kept_run own token batch books b h s m k e u)
+committed_keeps : (own_domain token : Bytes) (batch : Batch) (books : List Book) → IsHistory own_domain books → 0 < length books → IsMadeFor own_domain batch → batch.token ≡ Some token → IfCommitted batch token books (verdict batch (place_of books) (book_for (past_place batch.ops) books))
+committed_keeps own_domain token batch books h s m k = of_verdict (IfCommitted batch token books) batch (place_of books) (λ f rs e. cc) (λ n rs' rs e. cc) (book_for (past_place batch.ops) books) (λ b e u. kept_run own_domain token batch books b h s m k e u)
 
 -- ---- each later batch with the token
 
-asks_only_last : (own : Bytes) (batch : Batch) → IsMadeFor own batch → past_place batch.ops ≡ None → AskForLast batch.ops
-asks_only_last own batch m n = of_ops batch.ops ((not_refused batch.domain batch.ops batch.token).0 m.no_fault).1 n
+asks_only_last : (own_domain : Bytes) (batch : Batch) → IsMadeFor own_domain batch → past_place batch.ops ≡ None → AskForLast batch.ops
+asks_only_last own_domain batch m n = of_ops batch.ops ((not_refused batch.domain batch.ops batch.token).0 m.no_fault).1 n
   where
     of_ops : (ops : List Op) → ArePagesAlone ops → past_place ops ≡ None → AskForLast ops
     of_ops [] a n = λ q w. absurd w
@@ -162,13 +162,13 @@ not_committed n batch o h = of_verdict (λ v. is_committed (reply_with n v).outc
 books_left : (books : List Book) (batch : Batch) (o : Option Book) → ((b : Book) → o ≡ Some b → kept_under batch.token b ≡ None → ⊥) → books_with books (verdict batch (place_of books) o) ≡ books
 books_left books batch o h = of_verdict (λ v. books_with books v ≡ books) batch (place_of books) (λ r. refl) (λ k rs. refl) o (λ b e u. absurd (h b e u))
 
-later_again : (own token : Bytes) (first : Reply) (replies : List OpReply) (batch other : Batch) (n : ℕ) (books : List Book) → Keeps own token (row batch token n replies) books → IsMadeFor own other → other.token ≡ Some token → first.place ≡ n → CommittedOnce first replies batch other books
-later_again own token first replies batch other n books k m e p =
+later_again : (own_domain token : Bytes) (first : Reply) (replies : List OpReply) (batch other : Batch) (n : ℕ) (books : List Book) → Keeps own_domain token (row batch token n replies) books → IsMadeFor own_domain other → other.token ≡ Some token → first.place ≡ n → CommittedOnce first replies batch other books
+later_again own_domain token first replies batch other n books k m e p =
     let r : KeptBatch = row batch token n replies in
-    let now = newest own token other m e in
-    let order = in_order_after own books k.history k.some in
+    let now = newest own_domain token other m e in
+    let order = in_order_after own_domain books k.history k.some in
     let within = (at_row token_key token (last_book books).tokens r k.kept).0 in
-    let last = asks_only_last own other m (newest own token other m e) in
+    let last = asks_only_last own_domain other m (newest own_domain token other m e) in
     let found : kept_under other.token (last_book books) ≡ Some r = ap (λ x. kept_under x (last_book books)) e ∙ k.kept in
     let never : (b : Book) → book_for (past_place other.ops) books ≡ Some b → kept_under other.token b ≡ None → ⊥ = λ b q u.
     let s : last_book books ≡ b = some_is (last_book books) b (sym (ap (λ o. book_for o books) now) ∙ q) in
@@ -181,9 +181,9 @@ later_again own token first replies batch other n books k m e p =
       reused = λ t s. (reuse_refused other books r order t last within e (λ q. s (sym q))).0;
     }
 
-pub exactly_once : (own token : Bytes) (batch other : Batch) (between : List Batch) (books : List Book) (replies : List OpReply) → IsHistory own books → IsMadeFor own batch → IsMadeFor own other → AllByRecursion (IsMadeFor own) between → batch.token ≡ Some token → other.token ≡ Some token → (reply_to batch books).outcome ≡ Committed replies → CommittedOnce (reply_to batch books) replies batch other (books_from (books_after batch books) between)
-exactly_once own token batch other between books replies h m o a e f c =
-    let s = history_some own books h in
-    let k : IsKept batch token books replies (verdict batch (place_of books) (book_for (past_place batch.ops) books)) = committed_keeps own token batch books h s m e replies c in
-    let first : Keeps own token (row batch token (place_of books + 1) replies) (books_after batch books) = record { history = history_goes_on own batch books h m; some = some_with books (verdict batch (place_of books) (book_for (past_place batch.ops) books)) s; kept = k.kept } in
-    later_again own token (reply_to batch books) replies batch other (place_of books + 1) (books_from (books_after batch books) between) (stays_all own token (row batch token (place_of books + 1) replies) (books_after batch books) between first a) o f k.place
+pub exactly_once : (own_domain token : Bytes) (batch other : Batch) (between : List Batch) (books : List Book) (replies : List OpReply) → IsHistory own_domain books → IsMadeFor own_domain batch → IsMadeFor own_domain other → AllByRecursion (IsMadeFor own_domain) between → batch.token ≡ Some token → other.token ≡ Some token → (reply_to batch books).outcome ≡ Committed replies → CommittedOnce (reply_to batch books) replies batch other (books_from (books_after batch books) between)
+exactly_once own_domain token batch other between books replies h m o a e f c =
+    let s = history_some own_domain books h in
+    let k : IsKept batch token books replies (verdict batch (place_of books) (book_for (past_place batch.ops) books)) = committed_keeps own_domain token batch books h s m e replies c in
+    let first : Keeps own_domain token (row batch token (place_of books + 1) replies) (books_after batch books) = record { history = history_extends own_domain batch books h m; some = some_with books (verdict batch (place_of books) (book_for (past_place batch.ops) books)) s; kept = k.kept } in
+    later_again own_domain token (reply_to batch books) replies batch other (place_of books + 1) (books_from (books_after batch books) between) (is_unchanged_all own_domain token (row batch token (place_of books + 1) replies) (books_after batch books) between first a) o f k.place

@@ -11,7 +11,7 @@ use Rattle.entry_book.specs.declared.fault.OpFault.{OpFault}
 use Rattle.entry_book.specs.declared.fault.BatchRefusal.{BatchRefusal}
 use Rattle.entry_book.specs.declared.fault.BatchRefusal.TheVariants.{NoOps, TooManyOps, OfOp, PastPageNotAlone, TokenOnQuery}
 use Rattle.entry_book.specs.Rows.{Bytes}
-use Rattle.entry_book.specs.Batches.{batch_refusal, beside, first_past, is_query, op_fault, ops_refusal, or_later, or_token, place_asked}
+use Rattle.entry_book.specs.Batches.{batch_refusal, first_past_of_many, first_past, is_query, op_fault, ops_refusal, or_later, or_token, place_asked}
 use Rattle.entry_book.specs.Laws.{AreFaultless, ArePagesAlone, AskForLast, FaultAt, PastPageAt}
 
 abbrev NoneAtFault : Bytes → List Op → Type 0
@@ -23,7 +23,7 @@ NoneAsks ops = AllByRecursion (λ op. place_asked op ≡ None) ops
 -- ---- the table, line by line
 
 abbrev after_ops : List Op → Option Bytes → Option BatchRefusal
-after_ops ops token = or_token (beside ops) ops token
+after_ops ops token = or_token (first_past_of_many ops) ops token
 
 refused_of : (domain : Bytes) (ops : List Op) (token : Option Bytes) → batch_refusal domain ops token ≡ cond (length ops == 0) (Some NoOps) (cond (nat_lt 64 (length ops)) (Some TooManyOps) (ops_refusal domain 0 ops (after_ops ops token)))
 unfolding batch_refusal
@@ -31,19 +31,19 @@ refused_of domain ops token = refl
 
 -- a refusal after the operations is neither the fault of one of them, nor their number
 data Late (ops : List Op) (token : Option Bytes) (r : BatchRefusal) : Type 0 where
-  past : (n : ℕ) → beside ops ≡ Some n → r ≡ PastPageNotAlone n → Late ops token r
-  asks : beside ops ≡ None → (is_some token && is_query ops) ≡ true → r ≡ TokenOnQuery → Late ops token r
+  past : (n : ℕ) → first_past_of_many ops ≡ Some n → r ≡ PastPageNotAlone n → Late ops token r
+  asks : first_past_of_many ops ≡ None → (is_some token && is_query ops) ≡ true → r ≡ TokenOnQuery → Late ops token r
 
-late_when : (ops : List Op) (token : Option Bytes) (r : BatchRefusal) (b : Bool) → beside ops ≡ None → (is_some token && is_query ops) ≡ b → cond b (Some TokenOnQuery) None ≡ Some r → Late ops token r
+late_when : (ops : List Op) (token : Option Bytes) (r : BatchRefusal) (b : Bool) → first_past_of_many ops ≡ None → (is_some token && is_query ops) ≡ b → cond b (Some TokenOnQuery) None ≡ Some r → Late ops token r
 late_when ops token r true e q h = let p : r ≡ TokenOnQuery = cc in asks e q p
 late_when ops token r false e q h = cc
 
-late_of : (ops : List Op) (token : Option Bytes) (r : BatchRefusal) (o : Option ℕ) → beside ops ≡ o → or_token o ops token ≡ Some r → Late ops token r
+late_of : (ops : List Op) (token : Option Bytes) (r : BatchRefusal) (o : Option ℕ) → first_past_of_many ops ≡ o → or_token o ops token ≡ Some r → Late ops token r
 late_of ops token r (Some n) e h = let p : r ≡ PastPageNotAlone n = cc in past n e p
 late_of ops token r None e h = late_when ops token r (is_some token && is_query ops) e refl h
 
 late : (ops : List Op) (token : Option Bytes) (r : BatchRefusal) → after_ops ops token ≡ Some r → Late ops token r
-late ops token r h = late_of ops token r (beside ops) refl h
+late ops token r h = late_of ops token r (first_past_of_many ops) refl h
 
 -- a refused list has an operation with a fault, or none has a fault and it is refused later
 data Refused (domain : Bytes) (ops : List Op) (later : Option BatchRefusal) (r : BatchRefusal) : Type 0 where
@@ -241,32 +241,32 @@ none_past : (m : ℕ) (ops : List Op) → NoneAsks ops → first_past m ops ≡ 
 none_past m [] h = refl
 none_past m (op ∷ ops) h = past_later m op ops h.0 ∙ none_past (m + 1) ops h.1
 
-beside_many : (ops : List Op) → 1 < length ops → beside ops ≡ first_past 0 ops
-beside_many ops h = let k : nat_lt 1 (length ops) ≡ true = grind (arith, nat_tests) in rw k refl
+first_past_many : (ops : List Op) → 1 < length ops → first_past_of_many ops ≡ first_past 0 ops
+first_past_many ops h = let k : nat_lt 1 (length ops) ≡ true = grind (arith, nat_tests) in rw k refl
 
-beside_one : (ops : List Op) → length ops ≤ 1 → beside ops ≡ None
-beside_one ops h = let k : nat_lt 1 (length ops) ≡ false = grind (arith, nat_tests) in rw k refl
+first_past_one : (ops : List Op) → length ops ≤ 1 → first_past_of_many ops ≡ None
+first_past_one ops h = let k : nat_lt 1 (length ops) ≡ false = grind (arith, nat_tests) in rw k refl
 
 many_or : (ops : List Op) → (1 < length ops) ⊎ (length ops ≤ 1)
 many_or ops = ⊎_elim (λ t. inl (grind (arith, nat_tests, t))) (λ t. inr (grind (arith, nat_tests, t))) (cases_Bool (nat_lt 1 (length ops)))
 
-many_when_beside : (ops : List Op) (n : ℕ) → beside ops ≡ Some n → 1 < length ops
-many_when_beside ops n h = ⊎_elim (λ k. k) (λ k. let q : None ≡ Some n = sym (beside_one ops k) ∙ h in cc) (many_or ops)
+many_when_past : (ops : List Op) (n : ℕ) → first_past_of_many ops ≡ Some n → 1 < length ops
+many_when_past ops n h = ⊎_elim (λ k. k) (λ k. let q : None ≡ Some n = sym (first_past_one ops k) ∙ h in cc) (many_or ops)
 
-pub alone : (ops : List Op) → beside ops ≡ None → ArePagesAlone ops
-alone ops h = λ k. asks_last ops (none_asks 0 ops (sym (beside_many ops k) ∙ h))
+pub alone : (ops : List Op) → first_past_of_many ops ≡ None → ArePagesAlone ops
+alone ops h = λ k. asks_last ops (none_asks 0 ops (sym (first_past_many ops k) ∙ h))
 
-none_beside : (ops : List Op) → ArePagesAlone ops → beside ops ≡ None
-none_beside ops h = ⊎_elim (λ k. beside_many ops k ∙ none_past 0 ops (last_asks ops (h k))) (beside_one ops) (many_or ops)
+no_first_past : (ops : List Op) → ArePagesAlone ops → first_past_of_many ops ≡ None
+no_first_past ops h = ⊎_elim (λ k. first_past_many ops k ∙ none_past 0 ops (last_asks ops (h k))) (first_past_one ops) (many_or ops)
 
-past_page_of : (domain : Bytes) (ops : List Op) (n : ℕ) → AreFaultless domain ops → beside ops ≡ Some n → AreFaultless domain ops × (1 < length ops) × PastPageAt ops n
+past_page_of : (domain : Bytes) (ops : List Op) (n : ℕ) → AreFaultless domain ops → first_past_of_many ops ≡ Some n → AreFaultless domain ops × (1 < length ops) × PastPageAt ops n
 past_page_of domain ops n f e =
-    let many = many_when_beside ops n e in
-    let r : PastFrom 0 ops n = past_from 0 ops n (sym (beside_many ops many) ∙ e) in
+    let many = many_when_past ops n e in
+    let r : PastFrom 0 ops n = past_from 0 ops n (sym (first_past_many ops many) ∙ e) in
     let i = r.index in
     (f, many, record { front = r.front; query = r.query; rest = r.rest; split = r.split; index = omega arith; none_before = asks_last r.front r.none_before; place = r.place; asked = r.asked })
 
-past_late : (ops : List Op) (token : Option Bytes) (n : ℕ) → Late ops token (PastPageNotAlone n) → beside ops ≡ Some n
+past_late : (ops : List Op) (token : Option Bytes) (n : ℕ) → Late ops token (PastPageNotAlone n) → first_past_of_many ops ≡ Some n
 past_late ops token n (past m e q) = let k : m ≡ n = cc in e ∙ ap Some k
 past_late ops token n (asks e t q) = cc
 
@@ -290,7 +290,7 @@ past_page_refused domain ops token n = (
       let r : PastPageAt ops n = h.2 in
       let i : 0 + length r.front ≡ n = let q = r.index in omega arith in
       by_later domain ops token h.0
-      ∙ ap (λ o. or_token o ops token) (beside_many ops h.1 ∙ (ap (first_past 0) r.split ∙ (past_for 0 r.front (Page r.query) r.rest r.place (last_asks r.front r.none_before) r.asked ∙ ap Some i))),
+      ∙ ap (λ o. or_token o ops token) (first_past_many ops h.1 ∙ (ap (first_past 0) r.split ∙ (past_for 0 r.front (Page r.query) r.rest r.place (last_asks r.front r.none_before) r.asked ∙ ap Some i))),
 )
 
 both_true : (a b : Bool) → (a && b) ≡ true → (a ≡ true) × (b ≡ true)
@@ -305,36 +305,36 @@ token_late : (domain : Bytes) (ops : List Op) (token : Option Bytes) → AreFaul
 token_late domain ops token f (past m e q) = cc
 token_late domain ops token f (asks e t q) = let k = both_true (is_some token) (is_query ops) t in (f, alone ops e, k.0, k.1)
 
-token_when : (ops : List Op) (token : Option Bytes) (b : Bool) → beside ops ≡ None → (is_some token && is_query ops) ≡ b → after_ops ops token ≡ cond b (Some TokenOnQuery) None
+token_when : (ops : List Op) (token : Option Bytes) (b : Bool) → first_past_of_many ops ≡ None → (is_some token && is_query ops) ≡ b → after_ops ops token ≡ cond b (Some TokenOnQuery) None
 token_when ops token b e q = ap (λ o. or_token o ops token) e ∙ ap (λ x. cond x (Some TokenOnQuery) None) q
 
 pub token_refused : (domain : Bytes) (ops : List Op) (token : Option Bytes) → (batch_refusal domain ops token ≡ Some TokenOnQuery) ↔ (AreFaultless domain ops × ArePagesAlone ops × (is_some token ≡ true) × (is_query ops ≡ true))
 token_refused domain ops token = (
   λ h. let k = faultless_by domain ops token TokenOnQuery (λ e. cc) (λ e. cc) (λ m f e. cc) h in token_late domain ops token k.0 k.1,
-  λ h. by_later domain ops token h.0 ∙ token_when ops token true (none_beside ops h.1) (true_both (is_some token) (is_query ops) h.2 h.3),
+  λ h. by_later domain ops token h.0 ∙ token_when ops token true (no_first_past ops h.1) (true_both (is_some token) (is_query ops) h.2 h.3),
 )
 
-not_asking : (a b : Bool) → cond (a && b) (Some TokenOnQuery) None ≡ None → a ≡ true → b ≡ false
-not_asking true true h e = cc
-not_asking true false h e = refl
-not_asking false b h e = cc
+not_read_only : (a b : Bool) → cond (a && b) (Some TokenOnQuery) None ≡ None → a ≡ true → b ≡ false
+not_read_only true true h e = cc
+not_read_only true false h e = refl
+not_read_only false b h e = cc
 
 not_both : (a b : Bool) → (a ≡ true → b ≡ false) → (a && b) ≡ false
 not_both true b h = h refl
 not_both false b h = refl
 
 -- the parts of the checks after all operations, if none of them refuses
-after_none : (ops : List Op) (token : Option Bytes) (o : Option ℕ) → beside ops ≡ o → or_token o ops token ≡ None → (beside ops ≡ None) × (is_some token ≡ true → is_query ops ≡ false)
+after_none : (ops : List Op) (token : Option Bytes) (o : Option ℕ) → first_past_of_many ops ≡ o → or_token o ops token ≡ None → (first_past_of_many ops ≡ None) × (is_some token ≡ true → is_query ops ≡ false)
 after_none ops token (Some n) e h = cc
-after_none ops token None e h = (e, not_asking (is_some token) (is_query ops) h)
+after_none ops token None e h = (e, not_read_only (is_some token) (is_query ops) h)
 
 pub not_refused : (domain : Bytes) (ops : List Op) (token : Option Bytes) → (batch_refusal domain ops token ≡ None) ↔ (AreFaultless domain ops × ArePagesAlone ops × (is_some token ≡ true → is_query ops ≡ false))
 not_refused domain ops token = (
   λ h.
       let p = passed domain ops token h in
-      let k = after_none ops token (beside ops) refl p.1 in
+      let k = after_none ops token (first_past_of_many ops) refl p.1 in
       (p.0, alone ops k.0, k.1),
-  λ h. by_later domain ops token h.0 ∙ token_when ops token false (none_beside ops h.1) (not_both (is_some token) (is_query ops) h.2),
+  λ h. by_later domain ops token h.0 ∙ token_when ops token false (no_first_past ops h.1) (not_both (is_some token) (is_query ops) h.2),
 )
 
 -- ---- too few, and too many

@@ -36,5 +36,5 @@ shape_fits op b d a (one_row w f h n) = rw h (f a, tt)
 shape_fits op b d a (entries f k p h n) = rw h (rewritten_fits f k (filter p b.entries) b a.entries (ascending_filter entry_key p b.entries a.entries) (passing p b))
 shape_fits op b d a (entries_then f k p x w h n) = rw h (rewritten_then_fits f k (filter p b.entries) x b a (ascending_filter entry_key p b.entries a.entries) (passing p b) w)
 
-pub op_fits : (own : Bytes) (op : Op) (b : Book) → AscendingBook b → IfOk (op_of own op b) (λ d. FitAll d.writes b)
-op_fits own op b a = by_shape own op b (λ d. FitAll d.writes b) (λ d s. shape_fits op b d a s)
+pub op_fits : (own_domain : Bytes) (op : Op) (b : Book) → AscendingBook b → IfOk (op_of own_domain op b) (λ d. FitAll d.writes b)
+op_fits own_domain op b a = by_shape own_domain op b (λ d. FitAll d.writes b) (λ d s. shape_fits op b d a s)

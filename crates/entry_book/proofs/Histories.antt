@@ -11,7 +11,7 @@ use Rattle.entry_book.specs.Writes.{after}
 use Rattle.entry_book.specs.Runs.{RunEffect, RunResult, run}
 use Rattle.entry_book.specs.Limits.{limit_passed}
 use Rattle.entry_book.specs.Batches.{Batch, IsMadeFor, is_query, op_fault, past_place}
-use Rattle.entry_book.specs.History.{last_book, last_or, place_of, batch_writes, book_for, is_repeated, Verdict, refuses, answers, adds, repeats, adds_within, verdict_when, verdict_run, verdict, reply_with, books_with, reply_to, books_after, books_from, books_of, first_books, is_committed, commits, CommitAll, Leads, IsHistory, PlainState, Stands}
+use Rattle.entry_book.specs.History.{last_book, last_or, place_of, batch_writes, book_for, is_repeated, Verdict, refuses, answers, adds, repeats, adds_within, verdict_when, verdict_run, verdict, reply_with, books_with, reply_to, books_after, books_from, books_of, first_books, is_committed, commits, CommitAll, LeadToBooks, IsHistory, PlainState, RepresentsBooks}
 use Rattle.entry_book.specs.Lawful.{Lawful}
 use Rattle.entry_book.proofs.Keeps.{run_keeps}
 use Rattle.entry_book.proofs.LawfulRows.{wider}
@@ -102,19 +102,19 @@ count_of_books batches h = let k = count_from first_books batches (omega arith) 
 
 -- ---- histories
 
-pub history_goes_on : (own : Bytes) (batch : Batch) (books : List Book) → IsHistory own books → IsMadeFor own batch → IsHistory own (books_after batch books)
-history_goes_on own batch books h m =
-    let leads : Leads own h.0 books = h.1 in
+pub history_extends : (own_domain : Bytes) (batch : Batch) (books : List Book) → IsHistory own_domain books → IsMadeFor own_domain batch → IsHistory own_domain (books_after batch books)
+history_extends own_domain batch books h m =
+    let leads : LeadToBooks own_domain h.0 books = h.1 in
     ⊎_elim
     (λ t. (
       h.0 ++ batch ∷ [],
       record {
-        made = All-more (IsMadeFor own) h.0 batch leads.made m;
+        made = All-more (IsMadeFor own_domain) h.0 batch leads.made m;
         committed = commit_snoc first_books h.0 batch leads.committed (subst (λ l. commits batch l ≡ true) leads.books_are t);
         books_are = ap (books_after batch) leads.books_are ∙ sym (one_more h.0 batch);
       },
     ))
-    (λ t. subst (IsHistory own) (sym (others_leave batch books t).0) h)
+    (λ t. subst (IsHistory own_domain) (sym (others_leave batch books t).0) h)
     (cases_Bool (commits batch books))
 
 -- ---- a history is bounded
@@ -139,9 +139,9 @@ few_from : (books : List Book) (batches : List Batch) → length books ≤ 2 ^ 4
 few_from books [] l = l
 few_from books (x ∷ xs) l = few_from (books_after x books) xs (few_after books x l)
 
-pub history_bounded : (own : Bytes) (books : List Book) → IsHistory own books → length books ≤ 2 ^ 48 + 1
-history_bounded own books h =
-    let leads : Leads own h.0 books = h.1 in
+pub history_bounded : (own_domain : Bytes) (books : List Book) → IsHistory own_domain books → length books ≤ 2 ^ 48 + 1
+history_bounded own_domain books h =
+    let leads : LeadToBooks own_domain h.0 books = h.1 in
     let few = few_from first_books h.0 (omega arith) in
     let same = ap length leads.books_are in
     omega arith
@@ -150,24 +150,24 @@ history_bounded own books h =
 
 -- the books from number n on
 abbrev LawfulFrom : Bytes → ℕ → List Book → Type 0
-LawfulFrom own n [] = Unit {0}
-LawfulFrom own n (b ∷ bs) = Lawful own (64 * n) b × LawfulFrom own (n + 1) bs
+LawfulFrom own_domain n [] = Unit {0}
+LawfulFrom own_domain n (b ∷ bs) = Lawful own_domain (64 * n) b × LawfulFrom own_domain (n + 1) bs
 
-lawful_more : (own : Bytes) (n m : ℕ) (bs : List Book) (b : Book) → n + length bs ≡ m → LawfulFrom own n bs → Lawful own (64 * m) b → LawfulFrom own n (bs ++ b ∷ [])
-lawful_more own n m [] b e h l = let q : m ≡ n = omega arith in (subst (λ k. Lawful own (64 * k) b) q l, tt)
-lawful_more own n m (c ∷ cs) b e h l = (h.0, lawful_more own (n + 1) m cs b (omega arith) h.1 l)
+lawful_more : (own_domain : Bytes) (n m : ℕ) (bs : List Book) (b : Book) → n + length bs ≡ m → LawfulFrom own_domain n bs → Lawful own_domain (64 * m) b → LawfulFrom own_domain n (bs ++ b ∷ [])
+lawful_more own_domain n m [] b e h l = let q : m ≡ n = omega arith in (subst (λ k. Lawful own_domain (64 * k) b) q l, tt)
+lawful_more own_domain n m (c ∷ cs) b e h l = (h.0, lawful_more own_domain (n + 1) m cs b (omega arith) h.1 l)
 
-lawful_last : (own : Bytes) (n m : ℕ) (b : Book) (bs : List Book) → n + length bs ≡ m → Lawful own (64 * n) b → LawfulFrom own (n + 1) bs → Lawful own (64 * m) (last_or b bs)
-lawful_last own n m b [] e l h = let q : n ≡ m = omega arith in subst (λ k. Lawful own (64 * k) b) q l
-lawful_last own n m b (c ∷ cs) e l h = lawful_last own (n + 1) m c cs (omega arith) h.0 h.1
+lawful_last : (own_domain : Bytes) (n m : ℕ) (b : Book) (bs : List Book) → n + length bs ≡ m → Lawful own_domain (64 * n) b → LawfulFrom own_domain (n + 1) bs → Lawful own_domain (64 * m) (last_or b bs)
+lawful_last own_domain n m b [] e l h = let q : n ≡ m = omega arith in subst (λ k. Lawful own_domain (64 * k) b) q l
+lawful_last own_domain n m b (c ∷ cs) e l h = lawful_last own_domain (n + 1) m c cs (omega arith) h.0 h.1
 
-lawful_at : (own : Bytes) (n : ℕ) (bs : List Book) (k : ℕ) (b : Book) → LawfulFrom own n bs → slice_get bs k ≡ Some b → Lawful own (64 * (n + k)) b
-lawful_at own n [] k b h e = cc
-lawful_at own n (c ∷ cs) zero b h e = let q : c ≡ b = cc in let r : n ≡ n + 0 = omega arith in subst (λ k. Lawful own (64 * k) b) r (subst (Lawful own (64 * n)) q h.0)
-lawful_at own n (c ∷ cs) (suc k) b h e = let q : n + 1 + k ≡ n + suc k = omega arith in subst (λ k. Lawful own (64 * k) b) q (lawful_at own (n + 1) cs k b h.1 e)
+lawful_at : (own_domain : Bytes) (n : ℕ) (bs : List Book) (k : ℕ) (b : Book) → LawfulFrom own_domain n bs → slice_get bs k ≡ Some b → Lawful own_domain (64 * (n + k)) b
+lawful_at own_domain n [] k b h e = cc
+lawful_at own_domain n (c ∷ cs) zero b h e = let q : c ≡ b = cc in let r : n ≡ n + 0 = omega arith in subst (λ k. Lawful own_domain (64 * k) b) r (subst (Lawful own_domain (64 * n)) q h.0)
+lawful_at own_domain n (c ∷ cs) (suc k) b h e = let q : n + 1 + k ≡ n + suc k = omega arith in subst (λ k. Lawful own_domain (64 * k) b) q (lawful_at own_domain (n + 1) cs k b h.1 e)
 
-pub empty_lawful : (own : Bytes) → Lawful own (64 * 0) empty_book
-empty_lawful own = record {
+pub empty_lawful : (own_domain : Bytes) → Lawful own_domain (64 * 0) empty_book
+empty_lawful own_domain = record {
   ascending = record { entries = tt; agents = tt; bundles = tt; tokens = tt };
   apart = λ e f w. absurd w;
   bundled = λ e w. absurd w;
@@ -185,75 +185,75 @@ empty_lawful own = record {
 }
 
 -- a list of lawful books that isn't empty
-record Good (own : Bytes) (books : List Book) : Type 0 where
+record Good (own_domain : Bytes) (books : List Book) : Type 0 where
   some : 0 < length books
-  lawful : LawfulFrom own 0 books
+  lawful : LawfulFrom own_domain 0 books
 
-kept_lawful : (own : Bytes) (m n : ℕ) (batch : Batch) (b : Book) (r : RunResult) → IsMadeFor own batch → 0 < n → m ≤ 64 * n → IfOk r (λ t. Lawful own m (after t.writes b)) → IfOk r (λ t. Lawful own (64 * n) (after (batch_writes batch n t) b))
-kept_lawful own m n batch b (Ok t) d s l h = writes_keep own (64 * n) n batch t b d s (omega arith) (wider (64 * n) l h)
-kept_lawful own m n batch b (Err r) d s l h = tt
+kept_lawful : (own_domain : Bytes) (m n : ℕ) (batch : Batch) (b : Book) (r : RunResult) → IsMadeFor own_domain batch → 0 < n → m ≤ 64 * n → IfOk r (λ t. Lawful own_domain m (after t.writes b)) → IfOk r (λ t. Lawful own_domain (64 * n) (after (batch_writes batch n t) b))
+kept_lawful own_domain m n batch b (Ok t) d s l h = writes_keep own_domain (64 * n) n batch t b d s (omega arith) (wider (64 * n) l h)
+kept_lawful own_domain m n batch b (Err r) d s l h = tt
 
 -- a batch turns lawful book n into a book that is lawful as book n + 1
-pub batch_keeps : (own : Bytes) (batch : Batch) (n : ℕ) (b : Book) → IsMadeFor own batch → Lawful own (64 * n) b → IfOk (run batch.domain batch.ops b) (λ t. Lawful own (64 * (n + 1)) (after (batch_writes batch (n + 1) t) b))
-batch_keeps own batch n b m l =
+pub batch_keeps : (own_domain : Bytes) (batch : Batch) (n : ℕ) (b : Book) → IsMadeFor own_domain batch → Lawful own_domain (64 * n) b → IfOk (run batch.domain batch.ops b) (λ t. Lawful own_domain (64 * (n + 1)) (after (batch_writes batch (n + 1) t) b))
+batch_keeps own_domain batch n b m l =
     let fine : AreFaultless batch.domain batch.ops = no_fault batch.domain batch.ops batch.token m.no_fault in
     let few = fine.few in
-    let d : own ≡ batch.domain = sym m.domain_is in
-    let faultless : AllByRecursion (λ op. op_fault own op ≡ None) batch.ops = subst (λ t. AllByRecursion (λ op. op_fault t op ≡ None) batch.ops) m.domain_is fine.none in
-    let k = run_keeps own (64 * n) batch.ops b m.proper faultless l in
-    kept_lawful own (64 * n + length batch.ops) (n + 1) batch b (run batch.domain batch.ops b) m (omega arith) (omega arith)
-    (subst (λ t. IfOk (run t batch.ops b) (λ r. Lawful own (64 * n + length batch.ops) (after r.writes b))) d k)
+    let d : own_domain ≡ batch.domain = sym m.domain_is in
+    let faultless : AllByRecursion (λ op. op_fault own_domain op ≡ None) batch.ops = subst (λ t. AllByRecursion (λ op. op_fault t op ≡ None) batch.ops) m.domain_is fine.none in
+    let k = run_keeps own_domain (64 * n) batch.ops b m.proper faultless l in
+    kept_lawful own_domain (64 * n + length batch.ops) (n + 1) batch b (run batch.domain batch.ops b) m (omega arith) (omega arith)
+    (subst (λ t. IfOk (run t batch.ops b) (λ r. Lawful own_domain (64 * n + length batch.ops) (after r.writes b))) d k)
 
-good_with : (own : Bytes) (books : List Book) (c : Book) (replies : List OpReply) (o : Option Limit) → Good own books → Lawful own (64 * length books) c → Good own (books_with books (adds_within o replies c))
-good_with own books c replies (Some limit) g h = g
-good_with own books c replies None g h = record {
+good_with : (own_domain : Bytes) (books : List Book) (c : Book) (replies : List OpReply) (o : Option Limit) → Good own_domain books → Lawful own_domain (64 * length books) c → Good own_domain (books_with books (adds_within o replies c))
+good_with own_domain books c replies (Some limit) g h = g
+good_with own_domain books c replies None g h = record {
   some = let n = length-append books (c ∷ []) in omega arith;
-  lawful = lawful_more own 0 (length books) books c (omega arith) g.lawful h;
+  lawful = lawful_more own_domain 0 (length books) books c (omega arith) g.lawful h;
 }
 
-good_when : (own : Bytes) (query : Bool) (batch : Batch) (n : ℕ) (books : List Book) (b : Book) (r : RunResult) → Good own books → IfOk r (λ t. Lawful own (64 * length books) (after (batch_writes batch (n + 1) t) b)) → Good own (books_with books (verdict_when query batch n b r))
-good_when own query batch n books b (Err r) g h = g
-good_when own true batch n books b (Ok t) g h = g
-good_when own false batch n books b (Ok t) g h = let c = after (batch_writes batch (n + 1) t) b in good_with own books c t.replies (limit_passed n c) g h
+good_when : (own_domain : Bytes) (query : Bool) (batch : Batch) (n : ℕ) (books : List Book) (b : Book) (r : RunResult) → Good own_domain books → IfOk r (λ t. Lawful own_domain (64 * length books) (after (batch_writes batch (n + 1) t) b)) → Good own_domain (books_with books (verdict_when query batch n b r))
+good_when own_domain query batch n books b (Err r) g h = g
+good_when own_domain true batch n books b (Ok t) g h = g
+good_when own_domain false batch n books b (Ok t) g h = let c = after (batch_writes batch (n + 1) t) b in good_with own_domain books c t.replies (limit_passed n c) g h
 
-last_lawful : (own : Bytes) (books : List Book) → Good own books → Lawful own (64 * (length books - 1)) (last_book books)
-last_lawful own [] g = absurd (let k = g.some in omega arith)
-last_lawful own (b ∷ bs) g = lawful_last own 0 (length (b ∷ bs) - 1) b bs (omega arith) g.lawful.0 g.lawful.1
+last_lawful : (own_domain : Bytes) (books : List Book) → Good own_domain books → Lawful own_domain (64 * (length books - 1)) (last_book books)
+last_lawful own_domain [] g = absurd (let k = g.some in omega arith)
+last_lawful own_domain (b ∷ bs) g = lawful_last own_domain 0 (length (b ∷ bs) - 1) b bs (omega arith) g.lawful.0 g.lawful.1
 
 some_is : (b c : Book) → Some b ≡ Some c → b ≡ c
 some_is b c e = cc
 
-good_run : (own : Bytes) (batch : Batch) (books : List Book) (b : Book) → IsMadeFor own batch → Good own books → b ≡ last_book books → Good own (books_with books (verdict_run batch (place_of books) b))
-good_run own batch books b m g e =
+good_run : (own_domain : Bytes) (batch : Batch) (books : List Book) (b : Book) → IsMadeFor own_domain batch → Good own_domain books → b ≡ last_book books → Good own_domain (books_with books (verdict_run batch (place_of books) b))
+good_run own_domain batch books b m g e =
     let s = g.some in
     let q : length books - 1 + 1 ≡ length books = omega arith in
-    good_when own (is_query batch.ops) batch (place_of books) books b (run batch.domain batch.ops b) g
-    (subst (λ n. IfOk (run batch.domain batch.ops b) (λ t. Lawful own (64 * n) (after (batch_writes batch (length books - 1 + 1) t) b))) q (batch_keeps own batch (length books - 1) b m (subst (Lawful own (64 * (length books - 1))) (sym e) (last_lawful own books g))))
+    good_when own_domain (is_query batch.ops) batch (place_of books) books b (run batch.domain batch.ops b) g
+    (subst (λ n. IfOk (run batch.domain batch.ops b) (λ t. Lawful own_domain (64 * n) (after (batch_writes batch (length books - 1 + 1) t) b))) q (batch_keeps own_domain batch (length books - 1) b m (subst (Lawful own_domain (64 * (length books - 1))) (sym e) (last_lawful own_domain books g))))
 
-good_read : (own : Bytes) (batch : Batch) (books : List Book) (b : Book) (o : Option ℕ) → past_place batch.ops ≡ o → IsMadeFor own batch → Good own books → book_for o books ≡ Some b → Good own (books_with books (verdict_run batch (place_of books) b))
-good_read own batch books b None p m g e = good_run own batch books b m g (sym (some_is (last_book books) b e))
-good_read own batch books b (Some n) p m g e = asks_with (Good own) books (is_query batch.ops) batch (place_of books) b (run batch.domain batch.ops b) (past_asks own batch n m p) g
+good_read : (own_domain : Bytes) (batch : Batch) (books : List Book) (b : Book) (o : Option ℕ) → past_place batch.ops ≡ o → IsMadeFor own_domain batch → Good own_domain books → book_for o books ≡ Some b → Good own_domain (books_with books (verdict_run batch (place_of books) b))
+good_read own_domain batch books b None p m g e = good_run own_domain batch books b m g (sym (some_is (last_book books) b e))
+good_read own_domain batch books b (Some n) p m g e = asks_with (Good own_domain) books (is_query batch.ops) batch (place_of books) b (run batch.domain batch.ops b) (past_asks own_domain batch n m p) g
 
-good_after : (own : Bytes) (batch : Batch) (books : List Book) → IsMadeFor own batch → Good own books → Good own (books_after batch books)
-good_after own batch books m g = of_verdict (λ v. Good own (books_with books v)) batch (place_of books) (λ r. g) (λ n rs. g) (book_for (past_place batch.ops) books) (λ b e k. good_read own batch books b (past_place batch.ops) refl m g e)
+good_after : (own_domain : Bytes) (batch : Batch) (books : List Book) → IsMadeFor own_domain batch → Good own_domain books → Good own_domain (books_after batch books)
+good_after own_domain batch books m g = of_verdict (λ v. Good own_domain (books_with books v)) batch (place_of books) (λ r. g) (λ n rs. g) (book_for (past_place batch.ops) books) (λ b e k. good_read own_domain batch books b (past_place batch.ops) refl m g e)
 
-good_from : (own : Bytes) (books : List Book) (batches : List Batch) → AllByRecursion (IsMadeFor own) batches → Good own books → Good own (books_from books batches)
-good_from own books [] m g = g
-good_from own books (x ∷ xs) m g = good_from own (books_after x books) xs m.1 (good_after own x books m.0 g)
+good_from : (own_domain : Bytes) (books : List Book) (batches : List Batch) → AllByRecursion (IsMadeFor own_domain) batches → Good own_domain books → Good own_domain (books_from books batches)
+good_from own_domain books [] m g = g
+good_from own_domain books (x ∷ xs) m g = good_from own_domain (books_after x books) xs m.1 (good_after own_domain x books m.0 g)
 
-pub lawful_history : (own : Bytes) (books : List Book) → IsHistory own books → (n : ℕ) (b : Book) → slice_get books n ≡ Some b → Lawful own (64 * n) b
-lawful_history own books h n b e =
-    let leads : Leads own h.0 books = h.1 in
-    let g : Good own (books_of h.0) = good_from own first_books h.0 leads.made (record { some = omega arith; lawful = (empty_lawful own, tt) }) in
+pub lawful_history : (own_domain : Bytes) (books : List Book) → IsHistory own_domain books → (n : ℕ) (b : Book) → slice_get books n ≡ Some b → Lawful own_domain (64 * n) b
+lawful_history own_domain books h n b e =
+    let leads : LeadToBooks own_domain h.0 books = h.1 in
+    let g : Good own_domain (books_of h.0) = good_from own_domain first_books h.0 leads.made (record { some = omega arith; lawful = (empty_lawful own_domain, tt) }) in
     let q : 0 + n ≡ n = omega arith in
-    subst (λ k. Lawful own (64 * k) b) q (lawful_at own 0 (books_of h.0) n b g.lawful (sym (ap (λ l. slice_get l n) leads.books_are) ∙ e))
+    subst (λ k. Lawful own_domain (64 * k) b) q (lawful_at own_domain 0 (books_of h.0) n b g.lawful (sym (ap (λ l. slice_get l n) leads.books_are) ∙ e))
 
-pub all_lawful : (state : PlainState) (books : List Book) → Stands state books → (n : ℕ) (b : Book) → slice_get books n ≡ Some b → Lawful state.domain (64 * n) b
+pub all_lawful : (state : PlainState) (books : List Book) → RepresentsBooks state books → (n : ℕ) (b : Book) → slice_get books n ≡ Some b → Lawful state.domain (64 * n) b
 all_lawful state books s n b e = lawful_history state.domain books s.history n b e
 
 -- a history has a first book
-pub history_some : (own : Bytes) (books : List Book) → IsHistory own books → 0 < length books
-history_some own books h =
-    let leads : Leads own h.0 books = h.1 in
-    let g : Good own (books_of h.0) = good_from own first_books h.0 leads.made (record { some = omega arith; lawful = (empty_lawful own, tt) }) in
+pub history_some : (own_domain : Bytes) (books : List Book) → IsHistory own_domain books → 0 < length books
+history_some own_domain books h =
+    let leads : LeadToBooks own_domain h.0 books = h.1 in
+    let g : Good own_domain (books_of h.0) = good_from own_domain first_books h.0 leads.made (record { some = omega arith; lawful = (empty_lawful own_domain, tt) }) in
     subst (λ l. 0 < length l) (sym leads.books_are) g.some

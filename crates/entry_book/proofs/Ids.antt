@@ -38,24 +38,24 @@ pub not_false : (t : Bool) → not t ≡ false → t ≡ true
 not_false true h = refl
 not_false false h = cc
 
-own_is : (own id d : Bytes) (ss : List Bytes) → Spells id d ss → is_foreign own id ≡ false → d ≡ own
-own_is own id d ss h f = sym (domain_is id d ss h) ∙ text_is (domain_of id) own (not_false _ f)
+own_is : (own_domain id d : Bytes) (ss : List Bytes) → Spells id d ss → is_foreign own_domain id ≡ false → d ≡ own_domain
+own_is own_domain id d ss h f = sym (domain_is id d ss h) ∙ text_is (domain_of id) own_domain (not_false _ f)
 
-not_foreign : (own id : Bytes) (ss : List Bytes) → Spells id own ss → is_foreign own id ≡ false
-not_foreign own id ss h = ap not (text_same (domain_of id) own (domain_is id own ss h))
+not_foreign : (own_domain id : Bytes) (ss : List Bytes) → Spells id own_domain ss → is_foreign own_domain id ≡ false
+not_foreign own_domain id ss h = ap not (text_same (domain_of id) own_domain (domain_is id own_domain ss h))
 
-with_path : (own id : Bytes) (ss : List Bytes) → Spells id own ss → has_no_path id ≡ false → IsIdOf own id
-with_path own id [] h n = absurd (both_ways (has_no_path id) n (ap (λ p. length p == 0) (path_is id own [] h)))
-with_path own id (s ∷ ss) h n = (s, ss, h)
+with_path : (own_domain id : Bytes) (ss : List Bytes) → Spells id own_domain ss → has_no_path id ≡ false → IsIdOf own_domain id
+with_path own_domain id [] h n = absurd (both_ways (has_no_path id) n (ap (λ p. length p == 0) (path_is id own_domain [] h)))
+with_path own_domain id (s ∷ ss) h n = (s, ss, h)
 
-pub id_of : (own id : Bytes) → IsId id → is_foreign own id ≡ false → has_no_path id ≡ false → IsIdOf own id
-id_of own id i f n = with_path own id i.1 (subst (λ d. Spells id d i.1) (own_is own id i.0 i.1 i.2 f) i.2) n
+pub id_of : (own_domain id : Bytes) → IsId id → is_foreign own_domain id ≡ false → has_no_path id ≡ false → IsIdOf own_domain id
+id_of own_domain id i f n = with_path own_domain id i.1 (subst (λ d. Spells id d i.1) (own_is own_domain id i.0 i.1 i.2 f) i.2) n
 
 pub some : {X : Type 0} (x : X) (xs : List X) → (length (x ∷ xs) == 0) ≡ false
 some x xs = grind (arith, nat_tests)
 
-pub from_id_of : (own id : Bytes) → IsIdOf own id → (is_foreign own id ≡ false) × (has_no_path id ≡ false)
-from_id_of own id i = (not_foreign own id (i.0 ∷ i.1) i.2, ap (λ p. length p == 0) (path_is id own (i.0 ∷ i.1) i.2) ∙ some 47 (i.0 ++ path_text i.1))
+pub from_id_of : (own_domain id : Bytes) → IsIdOf own_domain id → (is_foreign own_domain id ≡ false) × (has_no_path id ≡ false)
+from_id_of own_domain id i = (not_foreign own_domain id (i.0 ∷ i.1) i.2, ap (λ p. length p == 0) (path_is id own_domain (i.0 ∷ i.1) i.2) ∙ some 47 (i.0 ++ path_text i.1))
 
 -- ---- an agent's ID
 
@@ -78,26 +78,26 @@ first_segment w r (s ∷ ss) h k e =
     let c = cut s w r ss h.0.bytes k l in
     (ss, ap (λ x. x ∷ ss) c.0, c.1)
 
-agent_segments : (own id : Bytes) (ss : List Bytes) (r : Bytes) → Spells id own ss → path_text ss ≡ 47 ∷ (codes "spire" ++ 47 ∷ (codes "agent" ++ 47 ∷ r)) → IsAgentIdOf own id
-agent_segments own id ss r h e =
+agent_segments : (own_domain id : Bytes) (ss : List Bytes) (r : Bytes) → Spells id own_domain ss → path_text ss ≡ 47 ∷ (codes "spire" ++ 47 ∷ (codes "agent" ++ 47 ∷ r)) → IsAgentIdOf own_domain id
+agent_segments own_domain id ss r h e =
     let p = first_segment (codes "spire") (codes "agent" ++ 47 ∷ r) ss h.are_segments refl e in
     let segments : AllByRecursion IsSegment (codes "spire" ∷ p.0) = subst (AllByRecursion IsSegment) p.1 h.are_segments in
     let q = first_segment (codes "agent") r p.0 segments.1 refl p.2 in
-    goes_on q.0 (p.1 ∙ ap (λ more. codes "spire" ∷ more) q.1) q.2
+    extends q.0 (p.1 ∙ ap (λ more. codes "spire" ∷ more) q.1) q.2
   where
-    goes_on : (more : List Bytes) → ss ≡ codes "spire" ∷ codes "agent" ∷ more → path_text more ≡ 47 ∷ r → IsAgentIdOf own id
-    goes_on [] q k = cc
-    goes_on (s ∷ more) q k = (s, more, subst (Spells id own) q h)
+    extends : (more : List Bytes) → ss ≡ codes "spire" ∷ codes "agent" ∷ more → path_text more ≡ 47 ∷ r → IsAgentIdOf own_domain id
+    extends [] q k = cc
+    extends (s ∷ more) q k = (s, more, subst (Spells id own_domain) q h)
 
 starts : (path : Bytes) → (is_agent_path path ≡ true → path ≡ codes "/spire/agent/" ++ drop 13 path) × ((rest : Bytes) → path ≡ codes "/spire/agent/" ++ rest → is_agent_path path ≡ true)
 starts path = starts_is Decides-eqb path (codes "/spire/agent/") (starts_with nat_eq path (codes "/spire/agent/")) refl
 
-pub agent_id_of : (own id : Bytes) → IsId id → is_foreign own id ≡ false → is_agent_path (path_of id) ≡ true → IsAgentIdOf own id
-agent_id_of own id i f a =
-    let h : Spells id own i.1 = subst (λ d. Spells id d i.1) (own_is own id i.0 i.1 i.2 f) i.2 in
-    agent_segments own id i.1 (drop 13 (path_of id)) h (sym (path_is id own i.1 h) ∙ (starts (path_of id)).0 a)
+pub agent_id_of : (own_domain id : Bytes) → IsId id → is_foreign own_domain id ≡ false → is_agent_path (path_of id) ≡ true → IsAgentIdOf own_domain id
+agent_id_of own_domain id i f a =
+    let h : Spells id own_domain i.1 = subst (λ d. Spells id d i.1) (own_is own_domain id i.0 i.1 i.2 f) i.2 in
+    agent_segments own_domain id i.1 (drop 13 (path_of id)) h (sym (path_is id own_domain i.1 h) ∙ (starts (path_of id)).0 a)
 
-pub from_agent_id_of : (own id : Bytes) → IsAgentIdOf own id → (is_foreign own id ≡ false) × (is_agent_path (path_of id) ≡ true)
-from_agent_id_of own id i =
+pub from_agent_id_of : (own_domain id : Bytes) → IsAgentIdOf own_domain id → (is_foreign own_domain id ≡ false) × (is_agent_path (path_of id) ≡ true)
+from_agent_id_of own_domain id i =
     let ss : List Bytes = codes "spire" ∷ codes "agent" ∷ i.0 ∷ i.1 in
-    (not_foreign own id ss i.2, (starts (path_of id)).1 (i.0 ++ path_text i.1) (path_is id own ss i.2))
+    (not_foreign own_domain id ss i.2, (starts (path_of id)).1 (i.0 ++ path_text i.1) (path_is id own_domain ss i.2))

@@ -6,7 +6,7 @@ use Rattle.entry_book.specs.declared.kept.KeptBatch.{KeptBatch}
 use Rattle.entry_book.specs.declared.limit.Limit.{Limit}
 use Rattle.entry_book.specs.declared.op.Op.{Op}
 use Rattle.entry_book.specs.declared.reply.OpReply.{OpReply}
-use Rattle.entry_book.specs.declared.reply.Outcome.TheVariants.{Committed}
+use Rattle.entry_book.specs.declared.reply.ReplyOutcome.TheVariants.{Committed}
 use Rattle.entry_book.specs.Rows.{Bytes}
 use Rattle.entry_book.specs.Tokens.{token_key}
 use Rattle.entry_book.specs.Order.{Within}
@@ -16,7 +16,7 @@ use Rattle.entry_book.specs.NamedRows.{row_written, token_of}
 use Rattle.entry_book.specs.Runs.{RunEffect, RunResult, run}
 use Rattle.entry_book.specs.Limits.{limit_passed}
 use Rattle.entry_book.specs.Batches.{Batch, IsMadeFor, is_query, past_place}
-use Rattle.entry_book.specs.History.{last_book, place_of, batch_writes, token_writes, book_for, adds_within, Verdict, verdict, verdict_when, verdict_run, reply_with, reply_to, books_with, books_after, books_from, books_of, first_books, CommitAll, Leads}
+use Rattle.entry_book.specs.History.{last_book, place_of, batch_writes, token_writes, book_for, adds_within, Verdict, verdict, verdict_when, verdict_run, reply_with, reply_to, books_with, books_after, books_from, books_of, first_books, CommitAll, LeadToBooks}
 use Rattle.entry_book.specs.Laws.{IsTokenFree, TokenWritten, WasCommitted}
 use Rattle.entry_book.proofs.Changed.{after-append}
 use Rattle.entry_book.proofs.Histories.{count_of_books, last-snoc}
@@ -126,17 +126,17 @@ from_when false batch books b (Ok t) e l =
 some_book : (b c : Book) → Some b ≡ Some c → b ≡ c
 some_book b c e = cc
 
-from_read : (own : Bytes) (batch : Batch) (books : List Book) (b : Book) (o : Option ℕ) → past_place batch.ops ≡ o → IsMadeFor own batch → book_for o books ≡ Some b → KeptFrom batch books (verdict_run batch (place_of books) b)
-from_read own batch books b None p m e = from_when (is_query batch.ops) batch books b (run batch.domain batch.ops b) (sym (some_book (last_book books) b e)) (run_leaves batch.domain batch.ops b)
-from_read own batch books b (Some n) p m e = from_asked (is_query batch.ops) (run batch.domain batch.ops b) (past_asks own batch n m p)
+from_read : (own_domain : Bytes) (batch : Batch) (books : List Book) (b : Book) (o : Option ℕ) → past_place batch.ops ≡ o → IsMadeFor own_domain batch → book_for o books ≡ Some b → KeptFrom batch books (verdict_run batch (place_of books) b)
+from_read own_domain batch books b None p m e = from_when (is_query batch.ops) batch books b (run batch.domain batch.ops b) (sym (some_book (last_book books) b e)) (run_leaves batch.domain batch.ops b)
+from_read own_domain batch books b (Some n) p m e = from_asked (is_query batch.ops) (run batch.domain batch.ops b) (past_asks own_domain batch n m p)
   where
     from_asked : (query : Bool) (r : RunResult) → query ≡ true → KeptFrom batch books (verdict_when query batch (place_of books) b r)
     from_asked query (Err s) q = λ k w. before w
     from_asked true (Ok t) q = λ k w. before w
     from_asked false (Ok t) q = cc
 
-from_batch : (own : Bytes) (batch : Batch) (books : List Book) → IsMadeFor own batch → KeptFrom batch books (verdict batch (place_of books) (book_for (past_place batch.ops) books))
-from_batch own batch books m = of_verdict (KeptFrom batch books) batch (place_of books) (λ r k w. before w) (λ n rs k w. before w) (book_for (past_place batch.ops) books) (λ b e u. from_read own batch books b (past_place batch.ops) refl m e)
+from_batch : (own_domain : Bytes) (batch : Batch) (books : List Book) → IsMadeFor own_domain batch → KeptFrom batch books (verdict batch (place_of books) (book_for (past_place batch.ops) books))
+from_batch own_domain batch books m = of_verdict (KeptFrom batch books) batch (place_of books) (λ r k w. before w) (λ n rs k w. before w) (book_for (past_place batch.ops) books) (λ b e u. from_read own_domain batch books b (past_place batch.ops) refl m e)
 
 -- the same for a list of batches, beginning with some books
 data CameFrom (books : List Book) (batches : List Batch) (k : KeptBatch) : Type 0 where
@@ -151,9 +151,9 @@ later : (x : Batch) (books : List Book) (batches : List Batch) (k : KeptBatch) �
 later x books batches k f (was_there w) = f w batches
 later x books batches k f (came front batch rest e t o p r) = came (x ∷ front) batch rest (ap (λ l. x ∷ l) e) t o p r
 
-came_from : (own : Bytes) (books : List Book) (batches : List Batch) (k : KeptBatch) → AllByRecursion (IsMadeFor own) batches → Within (last_book (books_from books batches)).tokens k → CameFrom books batches k
-came_from own books [] k m w = was_there w
-came_from own books (x ∷ xs) k m w = later x books xs k (λ v ys. first_or x books ys k (from_batch own x books m.0 k v)) (came_from own (books_after x books) xs k m.1 w)
+came_from : (own_domain : Bytes) (books : List Book) (batches : List Batch) (k : KeptBatch) → AllByRecursion (IsMadeFor own_domain) batches → Within (last_book (books_from books batches)).tokens k → CameFrom books batches k
+came_from own_domain books [] k m w = was_there w
+came_from own_domain books (x ∷ xs) k m w = later x books xs k (λ v ys. first_or x books ys k (from_batch own_domain x books m.0 k v)) (came_from own_domain (books_after x books) xs k m.1 w)
 
 place_count : (batches : List Batch) → CommitAll first_books batches → place_of (books_of batches) ≡ length batches
 place_count batches h = let n = count_of_books batches h in omega arith
@@ -168,5 +168,5 @@ was_committed batches k c (came front batch rest e t o p r) =
     let n = place_count front (committed_front first_books front batch rest (subst (CommitAll first_books) e c)) in
     record { before = front; batch = batch; later = rest; split = e; token = t; ops = o; place = p ∙ ap (λ x. x + 1) n; replied = r }
 
-pub kept_committed : (own : Bytes) (batches : List Batch) (books : List Book) (k : KeptBatch) → Leads own batches books → Within (last_book books).tokens k → WasCommitted batches k
-kept_committed own batches books k leads w = was_committed batches k leads.committed (came_from own first_books batches k leads.made (subst (λ l. Within (last_book l).tokens k) leads.books_are w))
+pub kept_committed : (own_domain : Bytes) (batches : List Batch) (books : List Book) (k : KeptBatch) → LeadToBooks own_domain batches books → Within (last_book books).tokens k → WasCommitted batches k
+kept_committed own_domain batches books k leads w = was_committed batches k leads.committed (came_from own_domain first_books batches k leads.made (subst (λ l. Within (last_book l).tokens k) leads.books_are w))

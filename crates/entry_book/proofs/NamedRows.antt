@@ -24,5 +24,5 @@ shape_names op b d (one_row w f h n) = ap (map row_written) h ∙ sym n
 shape_names op b d (entries f k p h n) = ap (map row_written) h ∙ (rewritten_rows f (filter p b.entries) ∙ sym n)
 shape_names op b d (entries_then f k p x w h n) = ap (map row_written) h ∙ (rewritten_then f (filter p b.entries) (bundle_removed x ∷ []) ∙ sym n)
 
-pub writes_named : (own : Bytes) (op : Op) (b : Book) → IfOk (op_of own op b) (λ d. map row_written d.writes ≡ rows_named op b)
-writes_named own op b = by_shape own op b (λ d. map row_written d.writes ≡ rows_named op b) (shape_names op b)
+pub writes_named : (own_domain : Bytes) (op : Op) (b : Book) → IfOk (op_of own_domain op b) (λ d. map row_written d.writes ≡ rows_named op b)
+writes_named own_domain op b = by_shape own_domain op b (λ d. map row_written d.writes ≡ rows_named op b) (shape_names op b)

@@ -26,21 +26,21 @@ module _ {X : Type 0} (key : X → Bytes) where
   not_kept k j None n h = refl
   not_kept k j (Some x) n h = ⊎_elim (λ t. absurd (n (sym h ∙ text_is (key x) j t))) (λ t. rw t refl) (cases_Bool (bytes_eq (key x) j))
 
-  pub rows_beside : (k j : Bytes) (new : Option X) (rows : List X) → k ≢ j → IfSome new (λ x. key x ≡ k) → Ascending key rows → filter (λ x. bytes_eq (key x) j) (with_row key k new rows) ≡ filter (λ x. bytes_eq (key x) j) rows
-  rows_beside k j new rows n h a =
+  pub rows_elsewhere : (k j : Bytes) (new : Option X) (rows : List X) → k ≢ j → IfSome new (λ x. key x ≡ k) → Ascending key rows → filter (λ x. bytes_eq (key x) j) (with_row key k new rows) ≡ filter (λ x. bytes_eq (key x) j) rows
+  rows_elsewhere k j new rows n h a =
       let p : X → Bool = λ x. bytes_eq (key x) j in
       filter-with_row key p k new rows
       ∙ (ap (λ o. with_row key k o (filter p rows)) (not_kept k j new n h)
       ∙ without_none key k (filter p rows) (ascending_filter key p rows a) (λ x w e. n (sym e ∙ text_is (key x) j (from_within_filter p rows x w).1)))
 
-  fits_beside : (c d : RowChange X) (rows : List X) → Ascending key rows → FitsRows key c rows → c.key ≢ d.key → FitsRows key d (with_row key c.key c.new rows) → FitsRows key d rows
-  fits_beside c d rows a f n g = record { found = sym (rows_beside c.key d.key c.new rows n f.keyed a) ∙ g.found; keyed = g.keyed }
+  fits_elsewhere : (c d : RowChange X) (rows : List X) → Ascending key rows → FitsRows key c rows → c.key ≢ d.key → FitsRows key d (with_row key c.key c.new rows) → FitsRows key d rows
+  fits_elsewhere c d rows a f n g = record { found = sym (rows_elsewhere c.key d.key c.new rows n f.keyed a) ∙ g.found; keyed = g.keyed }
 
 fits_before : (v w : RowWrite) (b : Book) → AscendingBook b → FitsBook v b → (SameRow v w → ⊥) → FitsBook w (after_write v b) → FitsBook w b
-fits_before (wrote_entry c) (wrote_entry d) b a f n g = fits_beside entry_key c d b.entries a.entries f n g
-fits_before (wrote_agent c) (wrote_agent d) b a f n g = fits_beside agent_key c d b.agents a.agents f n g
-fits_before (wrote_bundle c) (wrote_bundle d) b a f n g = fits_beside bundle_key c d b.bundles a.bundles f n g
-fits_before (wrote_token c) (wrote_token d) b a f n g = fits_beside token_key c d b.tokens a.tokens f n g
+fits_before (wrote_entry c) (wrote_entry d) b a f n g = fits_elsewhere entry_key c d b.entries a.entries f n g
+fits_before (wrote_agent c) (wrote_agent d) b a f n g = fits_elsewhere agent_key c d b.agents a.agents f n g
+fits_before (wrote_bundle c) (wrote_bundle d) b a f n g = fits_elsewhere bundle_key c d b.bundles a.bundles f n g
+fits_before (wrote_token c) (wrote_token d) b a f n g = fits_elsewhere token_key c d b.tokens a.tokens f n g
 fits_before v w b a f n g = g
 
 all_before : (v : RowWrite) (ws : List RowWrite) (b : Book) → AscendingBook b → FitsBook v b → AllByRecursion (λ w. SameRow v w → ⊥) ws → AllByRecursion (λ w. FitsBook w (after_write v b)) ws → AllByRecursion (λ w. FitsBook w b) ws
@@ -83,5 +83,5 @@ shape_once op b d a (entries_then f k p x w h n) = rw h (then_bundle f (filter p
 both : (op : Op) (b : Book) (d : OpEffect) → AscendingBook b → Shape op b d → DifferentRows d.writes × AllByRecursion (λ w. FitsBook w b) d.writes
 both op b d a s = let n = shape_once op b d a s in (n, fit_as_found d.writes b a n (shape_fits op b d a s))
 
-pub writes_once : (own : Bytes) (op : Op) (b : Book) → AscendingBook b → IfOk (op_of own op b) (λ d. DifferentRows d.writes × AllByRecursion (λ w. FitsBook w b) d.writes)
-writes_once own op b a = by_shape own op b (λ d. DifferentRows d.writes × AllByRecursion (λ w. FitsBook w b) d.writes) (λ d s. both op b d a s)
+pub writes_once : (own_domain : Bytes) (op : Op) (b : Book) → AscendingBook b → IfOk (op_of own_domain op b) (λ d. DifferentRows d.writes × AllByRecursion (λ w. FitsBook w b) d.writes)
+writes_once own_domain op b a = by_shape own_domain op b (λ d. DifferentRows d.writes × AllByRecursion (λ w. FitsBook w b) d.writes) (λ d s. both op b d a s)

@@ -17,7 +17,7 @@ use Rattle.entry_book.specs.Order.{Within, Ascending, is_before}
 use Rattle.entry_book.specs.Book.{Book, AscendingBook}
 use Rattle.entry_book.specs.Effects.{IsListOf}
 use Rattle.entry_book.specs.Pages.{matches_by, is_given, passes_domain, passes_selectors, passes, passing, comes_after, to_list, listed, last_id, next_of}
-use Rattle.entry_book.specs.Listings.{Matches, Passes, IsToList, GoesOn, IsPage, ListsPage, page_after, PageAfterPage, last_page, one_more}
+use Rattle.entry_book.specs.Listings.{Matches, Passes, IsToList, IsPageEnd, IsPage, ListsPage, page_after, PageAfterPage, last_page, one_more}
 use Rattle.entry_book.specs.Ops.{op_of}
 use Rattle.entry_book.proofs.Chains.{has_member, member_has, subset_of, of_subset}
 use Rattle.entry_book.proofs.EffectsOfQuestions.{names_is}
@@ -126,15 +126,15 @@ none_left (suc n) [] l = refl
 none_left zero (e ∷ es) l = absurd (omega arith)
 none_left (suc n) (e ∷ es) l = none_left n es (omega arith)
 
-goes_on : (p : PageQuery) (es : List Entry) → (left : List Entry) → drop p.size es ≡ left → GoesOn p (take p.size es) left (next_in p.size es)
-goes_on p es [] d =
+extends : (p : PageQuery) (es : List Entry) → (left : List Entry) → drop p.size es ≡ left → IsPageEnd p (take p.size es) left (next_in p.size es)
+extends p es [] d =
     let l = length-drop p.size es in
     let z : length (drop p.size es) ≡ 0 = ap length d in
     let s = ap length (take-append-drop p.size es) in
     let t = length-append (take p.size es) (drop p.size es) in
     let n = le-ltb p.size (length es) (omega arith) in
     (omega arith, rw n refl)
-goes_on p es (x ∷ left) d =
+extends p es (x ∷ left) d =
     let z : length (drop p.size es) ≡ suc (length left) = ap length d in
     let l = length-drop p.size es in
     let n = lt-ltb p.size (length es) (omega arith) in
@@ -144,7 +144,7 @@ pub page_said : (p : PageQuery) (b : Book) → AscendingBook b → IsPage p b (l
 page_said p b a = record {
   left = drop p.size (to_list p b);
   all = subst (IsListOf entry_key (IsToList p b)) (sym (take-append-drop p.size (to_list p b))) (record { members = to_list_said p b; order = to_list_ordered p b a });
-  goes_on = goes_on p (to_list p b) (drop p.size (to_list p b)) refl;
+  extends = extends p (to_list p b) (drop p.size (to_list p b)) refl;
 }
 
 pub page_effect : (own : Bytes) (p : PageQuery) (b : Book) → AscendingBook b → MatchResult (op_of own (Page p) b) (ListsPage p b) (λ refusal. ⊥)
@@ -162,7 +162,7 @@ fronts (x ∷ es) (f ∷ fs) left rest e l =
     let r = fronts es fs left rest tail (omega arith) in
     cc
 
-settled : (p : PageQuery) (es fs : List Entry) (m n : Option Bytes) (left rest : List Entry) → es ++ left ≡ fs ++ rest → GoesOn p es left m → GoesOn p fs rest n → (es ≡ fs) × (m ≡ n)
+settled : (p : PageQuery) (es fs : List Entry) (m n : Option Bytes) (left rest : List Entry) → es ++ left ≡ fs ++ rest → IsPageEnd p es left m → IsPageEnd p fs rest n → (es ≡ fs) × (m ≡ n)
 settled p es fs m n [] [] e g k = (sym (append-nil es) ∙ e ∙ append-nil fs, g.1 ∙ sym k.1)
 settled p es fs m n [] (y ∷ rest) e g k =
     let s = ap length e in
@@ -184,7 +184,7 @@ pub one_page : (p : PageQuery) (b : Book) (es fs : List Entry) (m n : Option Byt
 one_page p b es fs m n l r =
     settled p es fs m n l.left r.left
     (same_sets entry_key (es ++ l.left) (fs ++ r.left) l.all.order r.all.order (λ x w. (r.all.members x).1 ((l.all.members x).0 w)) (λ x w. (l.all.members x).1 ((r.all.members x).0 w)))
-    l.goes_on r.goes_on
+    l.extends r.extends
 
 -- ---- the entries after the last one of a page are those that the page leaves
 

@@ -26,19 +26,19 @@ past_when batch (op ∷ []) n e a t h =
     record { query = r.query; ops = e ∙ ap (λ x. x ∷ []) r.is_page; at = r.at; token = no_token batch.token (λ k. sym (ap (λ x. is_query (x ∷ [])) r.is_page) ∙ t k) }
 past_when batch (op ∷ other ∷ ops) n e a t h = let q : None ≡ Some n = sym (last_asks (op ∷ other ∷ ops) (a (omega arith))).0 ∙ h in cc
 
-pub past_page : (own : Bytes) (batch : Batch) (n : ℕ) → IsMadeFor own batch → past_place batch.ops ≡ Some n → IsPastPage batch n
-past_page own batch n m h = let k = (not_refused batch.domain batch.ops batch.token).0 m.no_fault in past_when batch batch.ops n refl k.1 k.2 h
+pub past_page : (own_domain : Bytes) (batch : Batch) (n : ℕ) → IsMadeFor own_domain batch → past_place batch.ops ≡ Some n → IsPastPage batch n
+past_page own_domain batch n m h = let k = (not_refused batch.domain batch.ops batch.token).0 m.no_fault in past_when batch batch.ops n refl k.1 k.2 h
 
-pub past_asks : (own : Bytes) (batch : Batch) (n : ℕ) → IsMadeFor own batch → past_place batch.ops ≡ Some n → is_query batch.ops ≡ true
-past_asks own batch n m h = let p : IsPastPage batch n = past_page own batch n m h in ap is_query p.ops
+pub past_asks : (own_domain : Bytes) (batch : Batch) (n : ℕ) → IsMadeFor own_domain batch → past_place batch.ops ≡ Some n → is_query batch.ops ≡ true
+past_asks own_domain batch n m h = let p : IsPastPage batch n = past_page own_domain batch n m h in ap is_query p.ops
 
 -- a batch of changes reads no earlier book
-pub changes_newest : (own : Bytes) (batch : Batch) → IsMadeFor own batch → is_query batch.ops ≡ false → past_place batch.ops ≡ None
-changes_newest own batch m q = none_when batch (past_place batch.ops) refl
+pub changes_newest : (own_domain : Bytes) (batch : Batch) → IsMadeFor own_domain batch → is_query batch.ops ≡ false → past_place batch.ops ≡ None
+changes_newest own_domain batch m q = none_when batch (past_place batch.ops) refl
   where
     none_when : (batch' : Batch) (o : Option ℕ) → past_place batch.ops ≡ o → past_place batch.ops ≡ None
     none_when batch' None e = e
-    none_when batch' (Some n) e = let a : true ≡ false = sym (past_asks own batch n m e) ∙ q in cc
+    none_when batch' (Some n) e = let a : true ≡ false = sym (past_asks own_domain batch n m e) ∙ q in cc
 
 -- operations whose pages give no book's number read no earlier book
 pub asks_newest : (ops : List Op) → AskForLast ops → past_place ops ≡ None

@@ -159,39 +159,39 @@ module _ (b : Book) (a : AscendingBook b) where
 
 -- ---- each operation
 
-effect_of : (own : Bytes) (op : Op) (b : Book) → AscendingBook b → MatchResult (op_of own op b) (EffectOf own op b) (RefusalOf op b)
-effect_of own (Create e) b a = create_effect own e b a
-effect_of own (Update e expected) b a = update_effect own e expected b a
-effect_of own (Delete k expected) b a = delete_effect own k expected b a
-effect_of own (Show k) b a = show_effect own k b a
-effect_of own (ShowAgent k) b a = show_agent_effect own k b a
-effect_of own (ShowBundle k) b a = show_bundle_effect own k b a
-effect_of own (Children p) b a = children_effect own p b a
-effect_of own (Page q) b a = page_effect own q b a
-effect_of own (Authorised k) b a = authorised_effect own k b a
-effect_of own (Trust k) b a = trust_effect own k b a
-effect_of own (Prune moment) b a = prune_effect own moment b a
-effect_of own (SetAgent x) b a = set_agent_effect own x b a
-effect_of own (DropAgent k) b a = drop_agent_effect own k b a
-effect_of own (SetBundle domain text) b a = set_bundle_effect own domain text b a
-effect_of own (DropBundle domain m) b a = drop_bundle_effect own domain m b a
+effect_of : (own_domain : Bytes) (op : Op) (b : Book) → AscendingBook b → MatchResult (op_of own_domain op b) (EffectOf own_domain op b) (RefusalOf op b)
+effect_of own_domain (Create e) b a = create_effect own_domain e b a
+effect_of own_domain (Update e expected) b a = update_effect own_domain e expected b a
+effect_of own_domain (Delete k expected) b a = delete_effect own_domain k expected b a
+effect_of own_domain (Show k) b a = show_effect own_domain k b a
+effect_of own_domain (ShowAgent k) b a = show_agent_effect own_domain k b a
+effect_of own_domain (ShowBundle k) b a = show_bundle_effect own_domain k b a
+effect_of own_domain (Children p) b a = children_effect own_domain p b a
+effect_of own_domain (Page q) b a = page_effect own_domain q b a
+effect_of own_domain (Authorised k) b a = authorised_effect own_domain k b a
+effect_of own_domain (Trust k) b a = trust_effect own_domain k b a
+effect_of own_domain (Prune moment) b a = prune_effect own_domain moment b a
+effect_of own_domain (SetAgent x) b a = set_agent_effect own_domain x b a
+effect_of own_domain (DropAgent k) b a = drop_agent_effect own_domain k b a
+effect_of own_domain (SetBundle domain text) b a = set_bundle_effect own_domain domain text b a
+effect_of own_domain (DropBundle domain m) b a = drop_bundle_effect own_domain domain m b a
 
-not_both : (own : Bytes) (op : Op) (b : Book) (d : OpEffect) (r : OpRefusal) → AscendingBook b → EffectOf own op b d → RefusalOf op b r → ⊥
-not_both own (Create e) b d r a g h = create_not b a e d r g h
-not_both own (Update e expected) b d r a g h = update_not b a e expected d r g h
-not_both own (Delete k expected) b d r a g h = delete_not b a k expected d r g h
-not_both own (Show k) b d r a g h = h
-not_both own (ShowAgent k) b d r a g h = h
-not_both own (ShowBundle k) b d r a g h = h
-not_both own (Children p) b d r a g h = h
-not_both own (Page q) b d r a g h = h
-not_both own (Authorised k) b d r a g h = lack_not b a k r (g.0, g.1, g.2) h
-not_both own (Trust k) b d r a g h = lack_not b a k r (g.0, g.1, g.2) h
-not_both own (Prune moment) b d r a g h = h
-not_both own (SetAgent x) b d r a g h = h
-not_both own (DropAgent k) b d r a g h = lack_not b a k r (g.old, g.found.0, g.found.1) h
-not_both own (SetBundle domain text) b d r a g h = h
-not_both own (DropBundle domain m) b d r a g h = drop_not b a domain m d r g h
+not_both : (own_domain : Bytes) (op : Op) (b : Book) (d : OpEffect) (r : OpRefusal) → AscendingBook b → EffectOf own_domain op b d → RefusalOf op b r → ⊥
+not_both own_domain (Create e) b d r a g h = create_not b a e d r g h
+not_both own_domain (Update e expected) b d r a g h = update_not b a e expected d r g h
+not_both own_domain (Delete k expected) b d r a g h = delete_not b a k expected d r g h
+not_both own_domain (Show k) b d r a g h = h
+not_both own_domain (ShowAgent k) b d r a g h = h
+not_both own_domain (ShowBundle k) b d r a g h = h
+not_both own_domain (Children p) b d r a g h = h
+not_both own_domain (Page q) b d r a g h = h
+not_both own_domain (Authorised k) b d r a g h = lack_not b a k r (g.0, g.1, g.2) h
+not_both own_domain (Trust k) b d r a g h = lack_not b a k r (g.0, g.1, g.2) h
+not_both own_domain (Prune moment) b d r a g h = h
+not_both own_domain (SetAgent x) b d r a g h = h
+not_both own_domain (DropAgent k) b d r a g h = lack_not b a k r (g.old, g.found.0, g.found.1) h
+not_both own_domain (SetBundle domain text) b d r a g h = h
+not_both own_domain (DropBundle domain m) b d r a g h = drop_not b a domain m d r g h
 
 one_refusal : (op : Op) (b : Book) (r q : OpRefusal) → AscendingBook b → Apart b → RefusalOf op b r → RefusalOf op b q → r ≡ q
 one_refusal (Create e) b r q a l g h = one_create b a l e r q g h
@@ -214,12 +214,12 @@ accepted_so : (o : OpResult) (Is : OpEffect → Type 0) (Due : OpRefusal → Typ
 accepted_so (Ok d) Is Due P h f n = f d h
 accepted_so (Err r) Is Due P h f n = n r h
 
-pub accepted_as_said : (own : Bytes) (op : Op) (b : Book) (d : OpEffect) → AscendingBook b → EffectOf own op b d → MatchResult (op_of own op b) (λ c. (c.reply ≡ d.reply) × (after c.writes b ≡ after d.writes b)) (λ r. ⊥)
-accepted_as_said own op b d a g = accepted_so (op_of own op b) (EffectOf own op b) (RefusalOf op b) (λ c. (c.reply ≡ d.reply) × (after c.writes b ≡ after d.writes b)) (effect_of own op b a) (λ c h. one_answer own op b a c d h g) (λ r h. not_both own op b d r a g h)
+pub accepted_as_said : (own_domain : Bytes) (op : Op) (b : Book) (d : OpEffect) → AscendingBook b → EffectOf own_domain op b d → MatchResult (op_of own_domain op b) (λ c. (c.reply ≡ d.reply) × (after c.writes b ≡ after d.writes b)) (λ r. ⊥)
+accepted_as_said own_domain op b d a g = accepted_so (op_of own_domain op b) (EffectOf own_domain op b) (RefusalOf op b) (λ c. (c.reply ≡ d.reply) × (after c.writes b ≡ after d.writes b)) (effect_of own_domain op b a) (λ c h. one_answer own_domain op b a c d h g) (λ r h. not_both own_domain op b d r a g h)
 
 refused_so : (o : OpResult) (Is : OpEffect → Type 0) (Due : OpRefusal → Type 0) (r : OpRefusal) → MatchResult o Is Due → ((d : OpEffect) → Is d → ⊥) → ((q : OpRefusal) → Due q → q ≡ r) → o ≡ Err r
 refused_so (Ok d) Is Due r h n f = absurd (n d h)
 refused_so (Err q) Is Due r h n f = ap Err (f q h)
 
-pub refused_as_said : (own : Bytes) (most : ℕ) (op : Op) (b : Book) (r : OpRefusal) → Lawful own most b → RefusalOf op b r → op_of own op b ≡ Err r
-refused_as_said own most op b r l g = refused_so (op_of own op b) (EffectOf own op b) (RefusalOf op b) r (effect_of own op b l.ascending) (λ d h. not_both own op b d r l.ascending h g) (λ q h. one_refusal op b q r l.ascending l.apart h g)
+pub refused_as_said : (own_domain : Bytes) (most : ℕ) (op : Op) (b : Book) (r : OpRefusal) → Lawful own_domain most b → RefusalOf op b r → op_of own_domain op b ≡ Err r
+refused_as_said own_domain most op b r l g = refused_so (op_of own_domain op b) (EffectOf own_domain op b) (RefusalOf op b) r (effect_of own_domain op b l.ascending) (λ d h. not_both own_domain op b d r l.ascending h g) (λ q h. one_refusal op b q r l.ascending l.apart h g)

@@ -38,22 +38,22 @@ asked : (o : Option Agent) (reply : Agent → OpReply) → WritesNothing (for_ag
 asked None reply = tt
 asked (Some a) reply = refl
 
-question_writes : (own : Bytes) (op : Op) (b : Book) → is_question op ≡ true → WritesNothing (op_of own op b)
-question_writes own (Create e) b h = cc
-question_writes own (Update e expected) b h = cc
-question_writes own (Delete k expected) b h = cc
-question_writes own (Show k) b h = refl
-question_writes own (ShowAgent k) b h = refl
-question_writes own (ShowBundle k) b h = refl
-question_writes own (Children p) b h = refl
-question_writes own (Page q) b h = refl
-question_writes own (Authorised k) b h = asked (agent_at k b) _
-question_writes own (Trust k) b h = asked (agent_at k b) _
-question_writes own (Prune moment) b h = cc
-question_writes own (SetAgent a) b h = cc
-question_writes own (DropAgent k) b h = cc
-question_writes own (SetBundle domain text) b h = cc
-question_writes own (DropBundle domain mode) b h = cc
+question_writes : (own_domain : Bytes) (op : Op) (b : Book) → is_question op ≡ true → WritesNothing (op_of own_domain op b)
+question_writes own_domain (Create e) b h = cc
+question_writes own_domain (Update e expected) b h = cc
+question_writes own_domain (Delete k expected) b h = cc
+question_writes own_domain (Show k) b h = refl
+question_writes own_domain (ShowAgent k) b h = refl
+question_writes own_domain (ShowBundle k) b h = refl
+question_writes own_domain (Children p) b h = refl
+question_writes own_domain (Page q) b h = refl
+question_writes own_domain (Authorised k) b h = asked (agent_at k b) _
+question_writes own_domain (Trust k) b h = asked (agent_at k b) _
+question_writes own_domain (Prune moment) b h = cc
+question_writes own_domain (SetAgent a) b h = cc
+question_writes own_domain (DropAgent k) b h = cc
+question_writes own_domain (SetBundle domain text) b h = cc
+question_writes own_domain (DropBundle domain mode) b h = cc
 
 abbrev RunWritesNothing : RunResult → Type 0
 RunWritesNothing r = IfOk r (λ t. t.writes ≡ [])

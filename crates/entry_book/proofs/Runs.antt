@@ -66,8 +66,8 @@ match_along : {X E : Type 0} (o : Result X E) (P Q : X → Type 0) (R S : E → 
 match_along (Ok x) P Q R S f g h = f x h
 match_along (Err e) P Q R S f g h = g e h
 
-pub run_goes_on : (domain : Bytes) (ops : List Op) (op : Op) (b : Book) (t : RunEffect) → run domain ops b ≡ Ok t → MatchResult (op_of domain op (after t.writes b)) (λ d. run domain (ops ++ op ∷ []) b ≡ Ok (record { replies = t.replies ++ d.reply ∷ []; writes = t.writes ++ d.writes })) (λ r. run domain (ops ++ op ∷ []) b ≡ Err (record { op = length ops; reason = r }))
-run_goes_on domain ops op b t h =
+pub run_extends : (domain : Bytes) (ops : List Op) (op : Op) (b : Book) (t : RunEffect) → run domain ops b ≡ Ok t → MatchResult (op_of domain op (after t.writes b)) (λ d. run domain (ops ++ op ∷ []) b ≡ Ok (record { replies = t.replies ++ d.reply ∷ []; writes = t.writes ++ d.writes })) (λ r. run domain (ops ++ op ∷ []) b ≡ Err (record { op = length ops; reason = r }))
+run_extends domain ops op b t h =
     let both : run domain (ops ++ op ∷ []) b ≡ shifted (length ops) t (then_run (op_of domain op (after t.writes b)) (λ d. finished [] [])) = run_append domain ops (op ∷ []) b ∙ ap (λ r. then_more (length ops) r (λ t. run domain (op ∷ []) (after t.writes b))) h in
     match_along (op_of domain op (after t.writes b)) _ _ _ _ (λ d e. both ∙ e) (λ r e. both ∙ e) (one_more (length ops) t (op_of domain op (after t.writes b)))
 

@@ -13,7 +13,7 @@ use Rattle.entry_book.specs.Order.{Within}
 use Rattle.entry_book.specs.Book.{Book, AscendingBook, entry_at, agent_at, bundle_at, names, users_of, expires_before}
 use Rattle.entry_book.specs.Writes.{RowWrite, FitsBook}
 use Rattle.entry_book.specs.NamedRows.{entry_of, agent_of, bundle_of, row_written, entry_name, rows_named}
-use Rattle.entry_book.specs.Ops.{OpEffect, OpResult, similar, lacking, put, put_named, put_beside, create_over, is_stale, update_when, update_over, removed, delete_when, delete_over, for_agent, agent_dropped, bundle_removed, dissociated, drop_in, drop_over, op_of}
+use Rattle.entry_book.specs.Ops.{OpEffect, OpResult, similar, lacking, put, put_named, put_unless_similar, create_over, is_stale, update_when, update_over, removed, delete_when, delete_over, for_agent, agent_dropped, bundle_removed, dissociated, drop_in, drop_over, op_of}
 use Rattle.entry_book.proofs.Changed.{rewritten}
 use Rattle.entry_book.proofs.Keys.{at_row, row_alone, rows_at}
 
@@ -34,17 +34,17 @@ module _ (op : Op) (b : Book) where
   named old e h n (Some d) = tt
   named old e h n None = one_row (put old e) (λ a. record { found = rows_at entry_key e.id b.entries a.entries ∙ ap option_to_list h; keyed = refl }) refl n
 
-  beside : (old : Option Entry) (e : Entry) → entry_at e.id b ≡ old → rows_named op b ≡ entry_of e.id ∷ [] → (p : Option Entry) → ShapeAnswer (put_beside p old e b)
-  beside old e h n (Some o) = tt
-  beside old e h n None = named old e h n (lacking e.domains b)
+  unless_similar : (old : Option Entry) (e : Entry) → entry_at e.id b ≡ old → rows_named op b ≡ entry_of e.id ∷ [] → (p : Option Entry) → ShapeAnswer (put_unless_similar p old e b)
+  unless_similar old e h n (Some o) = tt
+  unless_similar old e h n None = named old e h n (lacking e.domains b)
 
   create : (e : Entry) → rows_named op b ≡ entry_of e.id ∷ [] → (o : Option Entry) → entry_at e.id b ≡ o → ShapeAnswer (create_over o e b)
   create e n (Some o) h = tt
-  create e n None h = beside None e h n (similar e b)
+  create e n None h = unless_similar None e h n (similar e b)
 
   updated : (e : NewEntry) (old : Entry) → entry_at e.id b ≡ Some old → rows_named op b ≡ entry_of e.id ∷ [] → (stale : Bool) → ShapeAnswer (update_when stale old e b)
   updated e old h n true = tt
-  updated e old h n false = beside (Some old) (at_revision (old.revision + 1) e) h n (similar (at_revision (old.revision + 1) e) b)
+  updated e old h n false = unless_similar (Some old) (at_revision (old.revision + 1) e) h n (similar (at_revision (old.revision + 1) e) b)
 
   update : (e : NewEntry) (expected : Option ℕ) → rows_named op b ≡ entry_of e.id ∷ [] → (o : Option Entry) → entry_at e.id b ≡ o → ShapeAnswer (update_over o e expected b)
   update e expected n None h = tt
@@ -82,27 +82,27 @@ module _ (op : Op) (b : Book) where
   drop domain m n None h = tt
   drop domain m n (Some x) h = let r = at_row bundle_key domain b.bundles x h in dropped m x r.0 (n ∙ ap (λ k. map entry_name (users_of k b) ++ bundle_of k ∷ []) (sym r.1))
 
-pub shape_of : (own : Bytes) (op : Op) (b : Book) → IfOk (op_of own op b) (Shape op b)
-shape_of own (Create e) b = create (Create e) b (at_revision 0 e) refl (entry_at e.id b) refl
-shape_of own (Update e expected) b = update (Update e expected) b e expected refl (entry_at e.id b) refl
-shape_of own (Delete k expected) b = delete (Delete k expected) b k expected refl (entry_at k b) refl
-shape_of own (Show k) b = nothing refl refl
-shape_of own (ShowAgent k) b = nothing refl refl
-shape_of own (ShowBundle k) b = nothing refl refl
-shape_of own (Children p) b = nothing refl refl
-shape_of own (Page q) b = nothing refl refl
-shape_of own (Authorised k) b = of_agent (Authorised k) b _ (agent_at k b) (λ a h. nothing refl refl)
-shape_of own (Trust k) b = of_agent (Trust k) b _ (agent_at k b) (λ a h. nothing refl refl)
-shape_of own (Prune moment) b = entries (λ e. None) (λ e. tt) (expires_before moment) refl refl
-shape_of own (SetAgent x) b = one_row _ (λ a. record { found = rows_at agent_key x.id b.agents a.agents; keyed = refl }) refl refl
-shape_of own (DropAgent k) b = of_agent (DropAgent k) b agent_dropped (agent_at k b) (λ a h. drop_agent (DropAgent k) b k a refl h)
-shape_of own (SetBundle domain text) b = one_row _ (λ a. record { found = rows_at bundle_key domain b.bundles a.bundles; keyed = refl }) refl refl
-shape_of own (DropBundle domain m) b = drop (DropBundle domain m) b domain m refl (bundle_at domain b) refl
+pub shape_of : (own_domain : Bytes) (op : Op) (b : Book) → IfOk (op_of own_domain op b) (Shape op b)
+shape_of own_domain (Create e) b = create (Create e) b (at_revision 0 e) refl (entry_at e.id b) refl
+shape_of own_domain (Update e expected) b = update (Update e expected) b e expected refl (entry_at e.id b) refl
+shape_of own_domain (Delete k expected) b = delete (Delete k expected) b k expected refl (entry_at k b) refl
+shape_of own_domain (Show k) b = nothing refl refl
+shape_of own_domain (ShowAgent k) b = nothing refl refl
+shape_of own_domain (ShowBundle k) b = nothing refl refl
+shape_of own_domain (Children p) b = nothing refl refl
+shape_of own_domain (Page q) b = nothing refl refl
+shape_of own_domain (Authorised k) b = of_agent (Authorised k) b _ (agent_at k b) (λ a h. nothing refl refl)
+shape_of own_domain (Trust k) b = of_agent (Trust k) b _ (agent_at k b) (λ a h. nothing refl refl)
+shape_of own_domain (Prune moment) b = entries (λ e. None) (λ e. tt) (expires_before moment) refl refl
+shape_of own_domain (SetAgent x) b = one_row _ (λ a. record { found = rows_at agent_key x.id b.agents a.agents; keyed = refl }) refl refl
+shape_of own_domain (DropAgent k) b = of_agent (DropAgent k) b agent_dropped (agent_at k b) (λ a h. drop_agent (DropAgent k) b k a refl h)
+shape_of own_domain (SetBundle domain text) b = one_row _ (λ a. record { found = rows_at bundle_key domain b.bundles a.bundles; keyed = refl }) refl refl
+shape_of own_domain (DropBundle domain m) b = drop (DropBundle domain m) b domain m refl (bundle_at domain b) refl
 
 -- ---- a property of each shape is a property of each operation
 
-pub by_shape : (own : Bytes) (op : Op) (b : Book) (P : OpEffect → Type 0) → ((d : OpEffect) → Shape op b d → P d) → IfOk (op_of own op b) P
-by_shape own op b P f = over (op_of own op b) (shape_of own op b)
+pub by_shape : (own_domain : Bytes) (op : Op) (b : Book) (P : OpEffect → Type 0) → ((d : OpEffect) → Shape op b d → P d) → IfOk (op_of own_domain op b) P
+by_shape own_domain op b P f = over (op_of own_domain op b) (shape_of own_domain op b)
   where
     over : (o : OpResult) → IfOk o (Shape op b) → IfOk o P
     over (Ok d) s = f d s

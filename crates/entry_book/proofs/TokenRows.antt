@@ -20,7 +20,7 @@ use Rattle.entry_book.proofs.Changed.{after-append, fit-append, rewritten}
 use Rattle.entry_book.proofs.Filters.{kept, filter-with_row}
 use Rattle.entry_book.proofs.Keys.{first_none}
 use Rattle.entry_book.proofs.LawfulRows.{lawful_kept}
-use Rattle.entry_book.proofs.Once.{rows_beside}
+use Rattle.entry_book.proofs.Once.{rows_elsewhere}
 use Rattle.entry_book.proofs.Runs.{run_fits}
 use Rattle.entry_book.proofs.Shapes.{Shape, nothing, one_row, entries, entries_then, by_shape}
 use Rattle.entry_book.proofs.Sets.{text_same}
@@ -76,9 +76,9 @@ then_leaves : (o : OpResult) (f : OpEffect → RunResult) → IfOk o (λ d. Leav
 then_leaves (Ok d) f h k = onto_leaves d (f d) h (k d)
 then_leaves (Err r) f h k = tt
 
-pub run_leaves : (own : Bytes) (ops : List Op) (b : Book) → IfOk (run own ops b) (λ t. (x : Book) → (after t.writes x).tokens ≡ x.tokens)
-run_leaves own [] b = λ x. refl
-run_leaves own (op ∷ ops) b = then_leaves (op_of own op b) (λ d. run own ops (after d.writes b)) (by_shape own op b (λ d. Leaves d.writes) (λ d s. shape_leaves op b d s)) (λ d. run_leaves own ops (after d.writes b))
+pub run_leaves : (own_domain : Bytes) (ops : List Op) (b : Book) → IfOk (run own_domain ops b) (λ t. (x : Book) → (after t.writes x).tokens ≡ x.tokens)
+run_leaves own_domain [] b = λ x. refl
+run_leaves own_domain (op ∷ ops) b = then_leaves (op_of own_domain op b) (λ d. run own_domain ops (after d.writes b)) (by_shape own_domain op b (λ d. Leaves d.writes) (λ d s. shape_leaves op b d s)) (λ d. run_leaves own_domain ops (after d.writes b))
 
 -- ---- the row of a batch's token
 
@@ -100,20 +100,20 @@ batch_fits batch n b h f = fits_in batch n b (run batch.domain batch.ops b) h (r
 -- ---- it keeps a book lawful
 
 -- what is stored for a batch that was made for a trust domain was made for it
-kept_made : (own k : Bytes) (batch : Batch) → IsMadeFor own batch → batch.token ≡ Some k → IsMadeFor own (record { domain = own; ops = batch.ops; after = 0; token = Some k })
-kept_made own k batch m e = record {
+kept_made : (own_domain k : Bytes) (batch : Batch) → IsMadeFor own_domain batch → batch.token ≡ Some k → IsMadeFor own_domain (record { domain = own_domain; ops = batch.ops; after = 0; token = Some k })
+kept_made own_domain k batch m e = record {
   domain_is = refl;
   no_fault = subst (λ d. batch_refusal d batch.ops (Some k) ≡ None) m.domain_is (subst (λ t. batch_refusal batch.domain batch.ops t ≡ None) e m.no_fault);
   proper = m.proper;
   token = subst (λ t. IfSome t (λ k. length k ≡ 16)) e m.token;
 }
 
-token_keeps : (own : Bytes) (m n : ℕ) (batch : Batch) (token : Option Bytes) (replies : List OpReply) (b : Book) → IsMadeFor own batch → batch.token ≡ token → 0 < n → 64 * n ≤ m → Lawful own m b → Lawful own m (after (token_writes token batch.ops n replies) b)
-token_keeps own m n batch None replies b d e s h l = l
-token_keeps own m n batch (Some k) replies b d e s h l = lawful_kept own m b l k None (record { token = k; ops = batch.ops; place = n; replies = replies }) (record { keyed = refl; made = kept_made own k batch d e; some = s; low = h })
+token_keeps : (own_domain : Bytes) (m n : ℕ) (batch : Batch) (token : Option Bytes) (replies : List OpReply) (b : Book) → IsMadeFor own_domain batch → batch.token ≡ token → 0 < n → 64 * n ≤ m → Lawful own_domain m b → Lawful own_domain m (after (token_writes token batch.ops n replies) b)
+token_keeps own_domain m n batch None replies b d e s h l = l
+token_keeps own_domain m n batch (Some k) replies b d e s h l = lawful_kept own_domain m b l k None (record { token = k; ops = batch.ops; place = n; replies = replies }) (record { keyed = refl; made = kept_made own_domain k batch d e; some = s; low = h })
 
-pub writes_keep : (own : Bytes) (m n : ℕ) (batch : Batch) (t : RunEffect) (b : Book) → IsMadeFor own batch → 0 < n → 64 * n ≤ m → Lawful own m (after t.writes b) → Lawful own m (after (batch_writes batch n t) b)
-writes_keep own m n batch t b d s h l = subst (Lawful own m) (sym (after-append t.writes (token_writes batch.token batch.ops n t.replies) b)) (token_keeps own m n batch batch.token t.replies (after t.writes b) d refl s h l)
+pub writes_keep : (own_domain : Bytes) (m n : ℕ) (batch : Batch) (t : RunEffect) (b : Book) → IsMadeFor own_domain batch → 0 < n → 64 * n ≤ m → Lawful own_domain m (after t.writes b) → Lawful own_domain m (after (batch_writes batch n t) b)
+writes_keep own_domain m n batch t b d s h l = subst (Lawful own_domain m) (sym (after-append t.writes (token_writes batch.token batch.ops n t.replies) b)) (token_keeps own_domain m n batch batch.token t.replies (after t.writes b) d refl s h l)
 
 -- ---- what is stored after a batch
 
@@ -133,14 +133,14 @@ row_kept batch k n t b e h l =
     ∙ found_new k r (after t.writes b).tokens refl (ap (filter (λ x. bytes_eq x.token k)) (l b) ∙ token_none k b.tokens h))
 
 -- the row of another token stays
-beside_stays : (token : Option Bytes) (j : Bytes) (ops : List Op) (n : ℕ) (replies : List OpReply) (b : Book) → Ascending token_key b.tokens → (token ≡ Some j → ⊥) → token_at j (after (token_writes token ops n replies) b) ≡ token_at j b
-beside_stays None j ops n replies b a h = refl
-beside_stays (Some k) j ops n replies b a h = ap first (rows_beside token_key k j (Some (record { token = k; ops = ops; place = n; replies = replies })) b.tokens (λ e. h (ap Some e)) refl a)
+unless_similar_unchanged : (token : Option Bytes) (j : Bytes) (ops : List Op) (n : ℕ) (replies : List OpReply) (b : Book) → Ascending token_key b.tokens → (token ≡ Some j → ⊥) → token_at j (after (token_writes token ops n replies) b) ≡ token_at j b
+unless_similar_unchanged None j ops n replies b a h = refl
+unless_similar_unchanged (Some k) j ops n replies b a h = ap first (rows_elsewhere token_key k j (Some (record { token = k; ops = ops; place = n; replies = replies })) b.tokens (λ e. h (ap Some e)) refl a)
 
 pub others_stay : (batch : Batch) (j : Bytes) (n : ℕ) (t : RunEffect) (b : Book) → AscendingBook (after t.writes b) → (batch.token ≡ Some j → ⊥) → ((x : Book) → (after t.writes x).tokens ≡ x.tokens) → token_at j (after (batch_writes batch n t) b) ≡ token_at j b
 others_stay batch j n t b a h l =
     ap (token_at j) (after-append t.writes (token_writes batch.token batch.ops n t.replies) b)
-    ∙ (beside_stays batch.token j batch.ops n t.replies (after t.writes b) a.tokens h
+    ∙ (unless_similar_unchanged batch.token j batch.ops n t.replies (after t.writes b) a.tokens h
     ∙ ap (λ rows. first (filter (λ x. bytes_eq x.token j) rows)) (l b))
 
 first_part : (P Q : RunEffect → Type 0) (r : RunResult) → IfOk r (λ t. P t × Q t) → IfOk r P

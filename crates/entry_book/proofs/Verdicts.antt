@@ -10,7 +10,7 @@ use Rattle.entry_book.specs.declared.page.PageQuery.{PageQuery}
 use Rattle.entry_book.specs.declared.reply.OpReply.{OpReply}
 use Rattle.entry_book.specs.declared.reply.OpReply.TheVariants as replied
 use Rattle.entry_book.specs.declared.reply.OpRefusal.TheVariants.{VersionGone}
-use Rattle.entry_book.specs.declared.reply.Outcome.TheVariants.{Committed, Answered, Repeated, Refused}
+use Rattle.entry_book.specs.declared.reply.ReplyOutcome.TheVariants.{Committed, Answered, Repeated, Refused}
 use Rattle.entry_book.specs.declared.reply.Refusal.TheVariants.{NotYet, TokenReused, OfOp, Full}
 use Rattle.entry_book.specs.Rows.{Bytes}
 use Rattle.entry_book.specs.Book.{Book, AscendingBook, empty_book, token_at}
@@ -22,14 +22,14 @@ use Rattle.entry_book.specs.Runs.{RunEffect, RefusedOp, run}
 use Rattle.entry_book.specs.Limits.{limit_passed}
 use Rattle.entry_book.specs.Batches.{Batch, IsMadeFor, is_query, past_place}
 use Rattle.entry_book.specs.History.{last_book, last_or, place_of, among_last, batch_writes, book_for, kept_under, Verdict, refuses, verdict_again, verdict_when, verdict_run, verdict_over, verdict_on, verdict, reply_to, reply_with, books_with}
-use Rattle.entry_book.specs.Laws.{AskForLast, Comes, IsTokenFree, RunsOn, asked_now, batch_now}
+use Rattle.entry_book.specs.Laws.{AskForLast, HasOutcome, IsTokenFree, RunsOn, asked_now, batch_now}
 use Rattle.entry_book.specs.Pages.{listed, next_of}
 use Rattle.entry_book.proofs.Histories.{verdict_answers, verdict_changes}
 use Rattle.entry_book.proofs.PastPages.{IsPastPage, asks_newest, past_page}
 use Rattle.entry_book.proofs.Keys.{at_row, row_alone}
 use Rattle.entry_book.proofs.SameOps.{same_ops}
 
-comes_by : (batch : Batch) (books : List Book) (v : Verdict) → verdict batch (place_of books) (book_for (past_place batch.ops) books) ≡ v → Comes batch books (reply_with (place_of books) v) (books_with books v)
+comes_by : (batch : Batch) (books : List Book) (v : Verdict) → verdict batch (place_of books) (book_for (past_place batch.ops) books) ≡ v → HasOutcome batch books (reply_with (place_of books) v) (books_with books v)
 comes_by batch books v e = (ap (reply_with (place_of books)) e, ap (books_with books) e)
 
 -- ---- its place, the book that it reads, and its token
@@ -61,19 +61,19 @@ row_found token k b a w e = ap (λ t. kept_under t b) e ∙ ap first (row_alone 
 runs_on : (batch : Batch) (books : List Book) → RunsOn batch books → verdict batch (place_of books) (book_for (past_place batch.ops) books) ≡ verdict_run batch (place_of books) (last_book books)
 runs_on batch books r = on_newest batch books None r.reached (asks_newest batch.ops r.newest) (free_kept batch.token (last_book books) r.not_kept)
 
-pub early_refused : (batch : Batch) (books : List Book) → place_of books < batch.after → Comes batch books (record { place = place_of books; outcome = Refused NotYet }) books
+pub early_refused : (batch : Batch) (books : List Book) → place_of books < batch.after → HasOutcome batch books (record { place = place_of books; outcome = Refused NotYet }) books
 early_refused batch books h = comes_by batch books _ (early batch (place_of books) (book_for (past_place batch.ops) books) h)
 
-pub op_refuses : (batch : Batch) (books : List Book) (s : RefusedOp) → RunsOn batch books → run batch.domain batch.ops (last_book books) ≡ Err s → Comes batch books (record { place = place_of books; outcome = Refused (OfOp s.op s.reason) }) books
+pub op_refuses : (batch : Batch) (books : List Book) (s : RefusedOp) → RunsOn batch books → run batch.domain batch.ops (last_book books) ≡ Err s → HasOutcome batch books (record { place = place_of books; outcome = Refused (OfOp s.op s.reason) }) books
 op_refuses batch books s r h = comes_by batch books _ (runs_on batch books r ∙ ap (verdict_when (is_query batch.ops) batch (place_of books) (last_book books)) h)
 
-pub queries_answered : (batch : Batch) (books : List Book) (t : RunEffect) → RunsOn batch books → is_query batch.ops ≡ true → run batch.domain batch.ops (last_book books) ≡ Ok t → Comes batch books (record { place = place_of books; outcome = Answered t.replies }) books
+pub queries_answered : (batch : Batch) (books : List Book) (t : RunEffect) → RunsOn batch books → is_query batch.ops ≡ true → run batch.domain batch.ops (last_book books) ≡ Ok t → HasOutcome batch books (record { place = place_of books; outcome = Answered t.replies }) books
 queries_answered batch books t r h k = comes_by batch books _ (runs_on batch books r ∙ verdict_answers (is_query batch.ops) batch (place_of books) (last_book books) (run batch.domain batch.ops (last_book books)) t h k)
 
-pub changes_commit : (batch : Batch) (books : List Book) (t : RunEffect) → RunsOn batch books → is_query batch.ops ≡ false → run batch.domain batch.ops (last_book books) ≡ Ok t → limit_passed (place_of books) (after (batch_writes batch (place_of books + 1) t) (last_book books)) ≡ None → Comes batch books (record { place = place_of books + 1; outcome = Committed t.replies }) (books ++ after (batch_writes batch (place_of books + 1) t) (last_book books) ∷ [])
+pub changes_commit : (batch : Batch) (books : List Book) (t : RunEffect) → RunsOn batch books → is_query batch.ops ≡ false → run batch.domain batch.ops (last_book books) ≡ Ok t → limit_passed (place_of books) (after (batch_writes batch (place_of books + 1) t) (last_book books)) ≡ None → HasOutcome batch books (record { place = place_of books + 1; outcome = Committed t.replies }) (books ++ after (batch_writes batch (place_of books + 1) t) (last_book books) ∷ [])
 changes_commit batch books t r h k l = comes_by batch books _ (runs_on batch books r ∙ verdict_changes (is_query batch.ops) batch (place_of books) (last_book books) (run batch.domain batch.ops (last_book books)) t None h k l)
 
-pub full_refused : (batch : Batch) (books : List Book) (t : RunEffect) (limit : Limit) → RunsOn batch books → is_query batch.ops ≡ false → run batch.domain batch.ops (last_book books) ≡ Ok t → limit_passed (place_of books) (after (batch_writes batch (place_of books + 1) t) (last_book books)) ≡ Some limit → Comes batch books (record { place = place_of books; outcome = Refused (Full limit) }) books
+pub full_refused : (batch : Batch) (books : List Book) (t : RunEffect) (limit : Limit) → RunsOn batch books → is_query batch.ops ≡ false → run batch.domain batch.ops (last_book books) ≡ Ok t → limit_passed (place_of books) (after (batch_writes batch (place_of books + 1) t) (last_book books)) ≡ Some limit → HasOutcome batch books (record { place = place_of books; outcome = Refused (Full limit) }) books
 full_refused batch books t limit r h k l = comes_by batch books _ (runs_on batch books r ∙ verdict_changes (is_query batch.ops) batch (place_of books) (last_book books) (run batch.domain batch.ops (last_book books)) t (Some limit) h k l)
 
 -- ---- tokens
@@ -81,10 +81,10 @@ full_refused batch books t limit r h k l = comes_by batch books _ (runs_on batch
 again : (k : KeptBatch) (batch : Batch) (same : Bool) → ops_eq k.ops batch.ops ≡ same → (place : ℕ) (b : Book) → verdict_over (Some k) batch place b ≡ verdict_again same k
 again k batch same e place b = ap (λ x. verdict_again x k) e
 
-pub repeat_answered : (batch : Batch) (books : List Book) (k : KeptBatch) → AscendingBook (last_book books) → batch.after ≤ place_of books → AskForLast batch.ops → Within (last_book books).tokens k → batch.token ≡ Some k.token → k.ops ≡ batch.ops → Comes batch books (record { place = k.place; outcome = Repeated k.replies }) books
+pub repeat_answered : (batch : Batch) (books : List Book) (k : KeptBatch) → AscendingBook (last_book books) → batch.after ≤ place_of books → AskForLast batch.ops → Within (last_book books).tokens k → batch.token ≡ Some k.token → k.ops ≡ batch.ops → HasOutcome batch books (record { place = k.place; outcome = Repeated k.replies }) books
 repeat_answered batch books k a h n w e s = comes_by batch books _ (on_newest batch books (Some k) h (asks_newest batch.ops n) (row_found batch.token k (last_book books) a w e) ∙ again k batch true ((same_ops k.ops batch.ops).1 s) (place_of books) (last_book books))
 
-pub reuse_refused : (batch : Batch) (books : List Book) (k : KeptBatch) → AscendingBook (last_book books) → batch.after ≤ place_of books → AskForLast batch.ops → Within (last_book books).tokens k → batch.token ≡ Some k.token → (k.ops ≡ batch.ops → ⊥) → Comes batch books (record { place = place_of books; outcome = Refused TokenReused }) books
+pub reuse_refused : (batch : Batch) (books : List Book) (k : KeptBatch) → AscendingBook (last_book books) → batch.after ≤ place_of books → AskForLast batch.ops → Within (last_book books).tokens k → batch.token ≡ Some k.token → (k.ops ≡ batch.ops → ⊥) → HasOutcome batch books (record { place = place_of books; outcome = Refused TokenReused }) books
 reuse_refused batch books k a h n w e s = comes_by batch books _ (on_newest batch books (Some k) h (asks_newest batch.ops n) (row_found batch.token k (last_book books) a w e) ∙ again k batch false (⊎_elim (λ t. absurd (s ((same_ops k.ops batch.ops).0 t))) (λ t. t) (cases_Bool (ops_eq k.ops batch.ops))) (place_of books) (last_book books))
 
 -- ---- earlier books
@@ -136,10 +136,10 @@ outcome_now batch n place books b p e =
     ∙ (sym (ap (λ v. (reply_with (place_of books) v).outcome) (in_time (page_now batch n p) (place_of books) (Some (last_book books)) (omega arith)))
     ∙ sym (ap (λ x. (reply_to x books).outcome) (now_is batch n p))))
 
-pub past_answered : (own : Bytes) (batch : Batch) (books : List Book) (q : PageQuery) (n : ℕ) → IsMadeFor own batch → 0 < length books → batch.after ≤ place_of books → batch.ops ≡ Page q ∷ [] → q.at ≡ Some n → n ≤ place_of books → place_of books < n + 64 → Comes batch books (record { place = place_of books; outcome = (reply_to (batch_now batch) (take (n + 1) books)).outcome }) books
-past_answered own batch books q n m s h o t l r =
+pub past_answered : (own_domain : Bytes) (batch : Batch) (books : List Book) (q : PageQuery) (n : ℕ) → IsMadeFor own_domain batch → 0 < length books → batch.after ≤ place_of books → batch.ops ≡ Page q ∷ [] → q.at ≡ Some n → n ≤ place_of books → place_of books < n + 64 → HasOutcome batch books (record { place = place_of books; outcome = (reply_to (batch_now batch) (take (n + 1) books)).outcome }) books
+past_answered own_domain batch books q n m s h o t l r =
     let k : past_place batch.ops ≡ Some n = ap past_place o ∙ t in
-    let p : IsPastPage batch n = past_page own batch n m k in
+    let p : IsPastPage batch n = past_page own_domain batch n m k in
     let g = get_some books n (omega arith) in
     let b : Book = g.0 in
     let e = past_verdict batch books n (Some b) h k (is_among books n r ∙ g.1) ∙ past_run batch n (place_of books) b p in
@@ -147,5 +147,5 @@ past_answered own batch books q n m s h o t l r =
     let c = comes_by batch books _ (e ∙ page_alone batch (place_of books) b n p) in
     (c.0 ∙ ap (λ x. record { place = place_of books; outcome = x }) (ap (λ v. (reply_with (place_of books) v).outcome) (sym (page_alone batch (place_of books) b n p)) ∙ w), c.1)
 
-pub gone_refused : (batch : Batch) (books : List Book) (q : PageQuery) (n : ℕ) → batch.after ≤ place_of books → batch.ops ≡ Page q ∷ [] → q.at ≡ Some n → (place_of books < n) ⊎ (n + 64 ≤ place_of books) → Comes batch books (record { place = place_of books; outcome = Refused (OfOp 0 VersionGone) }) books
+pub gone_refused : (batch : Batch) (books : List Book) (q : PageQuery) (n : ℕ) → batch.after ≤ place_of books → batch.ops ≡ Page q ∷ [] → q.at ≡ Some n → (place_of books < n) ⊎ (n + 64 ≤ place_of books) → HasOutcome batch books (record { place = place_of books; outcome = Refused (OfOp 0 VersionGone) }) books
 gone_refused batch books q n h o t l = comes_by batch books _ (past_verdict batch books n None h (ap past_place o ∙ t) (⊎_elim (λ t. is_among books n (omega arith) ∙ get_none books n (omega arith)) (λ t. is_gone books n t) l))

@@ -12,7 +12,7 @@ use Rattle.entry_book.specs.Writes.{after}
 use Rattle.entry_book.specs.Runs.{RunResult, run}
 use Rattle.entry_book.specs.Limits.{limit_passed}
 use Rattle.entry_book.specs.Batches.{Batch, is_query, past_place}
-use Rattle.entry_book.specs.History.{place_of, batch_writes, book_for, adds_within, verdict_when, books_with, books_after, books_from, first_books, Leads, IsHistory}
+use Rattle.entry_book.specs.History.{place_of, batch_writes, book_for, adds_within, verdict_when, books_with, books_after, books_from, first_books, LeadToBooks, IsHistory}
 use Rattle.entry_book.specs.Laws.{IsFirstPassed, IsWithinLimits}
 use Rattle.entry_book.proofs.Sets.{All-more}
 use Rattle.entry_book.proofs.OfVerdict.{of_verdict}
@@ -138,7 +138,7 @@ within_from books (x ∷ xs) h = within_from (books_after x books) xs (of_verdic
 empty_within : IsWithinLimits empty_book
 empty_within = record { entries = omega arith; agents = omega arith; bundles = omega arith; tokens = omega arith }
 
-pub all_within_limits : (own : Bytes) (books : List Book) → IsHistory own books → (n : ℕ) (b : Book) → slice_get books n ≡ Some b → IsWithinLimits b
-all_within_limits own books h n b e =
-    let leads : Leads own h.0 books = h.1 in
+pub all_within_limits : (own_domain : Bytes) (books : List Book) → IsHistory own_domain books → (n : ℕ) (b : Book) → slice_get books n ≡ Some b → IsWithinLimits b
+all_within_limits own_domain books h n b e =
+    let leads : LeadToBooks own_domain h.0 books = h.1 in
     at_number IsWithinLimits books n b (subst (AllByRecursion IsWithinLimits) (sym leads.books_are) (within_from first_books h.0 (empty_within, tt))) e

@@ -165,8 +165,8 @@ first_past n [] = None
 first_past n (op ∷ ops) = if is_some (place_asked op) then Some n else first_past (n + 1) ops
 
 -- the same, if there are several operations
-abbrev pub beside : List Op → Option ℕ
-beside ops = if nat_lt 1 (length ops) then first_past 0 ops else None
+abbrev pub first_past_of_many : List Op → Option ℕ
+first_past_of_many ops = if nat_lt 1 (length ops) then first_past 0 ops else None
 
 abbrev pub or_token : Option ℕ → List Op → Option Bytes → Option BatchRefusal
 or_token (Some n) ops token = Some (PastPageNotAlone n)
@@ -176,7 +176,7 @@ unfoldable pub batch_refusal : Bytes → List Op → Option Bytes → Option Bat
 batch_refusal domain ops token =
     refuse_if (length ops == 0) NoOps (
     refuse_if (nat_lt 64 (length ops)) TooManyOps (
-    ops_refusal domain 0 ops (or_token (beside ops) ops token)))
+    ops_refusal domain 0 ops (or_token (first_past_of_many ops) ops token)))
 
 -- ---- the invariants of the types of an operation's parts
 
@@ -205,8 +205,8 @@ IsProperOp (SetBundle d text) = IsDomain d
 IsProperOp (DropBundle d mode) = IsDomain d
 
 -- A batch that was made for this trust domain: none of the faults applies, and its parts satisfy the invariants of their types.
-pub record IsMadeFor (own : Bytes) (batch : Batch) : Type 0 where
-  pub domain_is : batch.domain ≡ own
+pub record IsMadeFor (own_domain : Bytes) (batch : Batch) : Type 0 where
+  pub domain_is : batch.domain ≡ own_domain
   pub no_fault : batch_refusal batch.domain batch.ops batch.token ≡ None
   pub proper : AllByRecursion IsProperOp batch.ops
   pub token : IfSome batch.token (λ k. length k ≡ 16)

@@ -135,7 +135,7 @@ DeleteRefused k expected b _ = ⊥
 -- ---- queries: they write nothing
 
 -- It replies with the row of the key, if there is one.
-pub record Shows {X : Type 0} (key : X → Bytes) (rows : List X) (replies : Option X → OpReply) (k : Bytes) (d : OpEffect) : Type 0 where
+pub record ShowsRow {X : Type 0} (key : X → Bytes) (rows : List X) (replies : Option X → OpReply) (k : Bytes) (d : OpEffect) : Type 0 where
   pub writes : d.writes ≡ []
   pub shown : Option X
   pub reply : d.reply ≡ replies shown
@@ -200,9 +200,9 @@ pub record DropsAgent (k : Bytes) (b : Book) (d : OpEffect) : Type 0 where
 -- ---- set_bundle
 
 -- the sequence is 0 for a new bundle, and grows by 1 with each further set
-abbrev pub IsNext : Option Bundle → ℕ → Type 0
-IsNext None n = n ≡ 0
-IsNext (Some old) n = n ≡ old.sequence + 1
+abbrev pub IsNextSequence : Option Bundle → ℕ → Type 0
+IsNextSequence None n = n ≡ 0
+IsNextSequence (Some old) n = n ≡ old.sequence + 1
 
 -- It replies with the bundle, at the next sequence, which replaces the one of its domain, if any; all else stays.
 pub record SetsBundle (domain text : Bytes) (b : Book) (d : OpEffect) : Type 0 where
@@ -211,7 +211,7 @@ pub record SetsBundle (domain text : Bytes) (b : Book) (d : OpEffect) : Type 0 w
   pub new : Bundle
   pub domain_is : new.domain ≡ domain
   pub text_is : new.text ≡ text
-  pub sequence : IsNext old new.sequence
+  pub sequence : IsNextSequence old new.sequence
   pub reply : d.reply ≡ replied.Bundle new
   pub after_it : BundlesBecome b (after d.writes b) (λ x. (x ≡ new) ⊎ (Within b.bundles x × (x.domain ≢ domain)))
 

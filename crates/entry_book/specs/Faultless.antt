@@ -10,49 +10,49 @@ use Rattle.entry_book.specs.Rows.{Bytes}
 
 -- an ID of the trust domain, with a path
 abbrev pub IsIdOf : Bytes → Bytes → Type 0
-IsIdOf own id = (segment : Bytes) × (more : List Bytes) × Spells id own (segment ∷ more)
+IsIdOf own_domain id = (segment : Bytes) × (more : List Bytes) × Spells id own_domain (segment ∷ more)
 
 -- an ID of the trust domain whose path goes on after /spire/agent
 abbrev pub IsAgentIdOf : Bytes → Bytes → Type 0
-IsAgentIdOf own id = (segment : Bytes) × (more : List Bytes) × Spells id own (codes "spire" ∷ codes "agent" ∷ segment ∷ more)
+IsAgentIdOf own_domain id = (segment : Bytes) × (more : List Bytes) × Spells id own_domain (codes "spire" ∷ codes "agent" ∷ segment ∷ more)
 
-pub record FaultlessEntry (own : Bytes) (e : NewEntry) : Type 0 where
-  pub parent : IsIdOf own e.parent
-  pub identity : IsIdOf own e.identity
-  pub not_server : e.identity ≢ server_text own
+pub record FaultlessEntry (own_domain : Bytes) (e : NewEntry) : Type 0 where
+  pub parent : IsIdOf own_domain e.parent
+  pub identity : IsIdOf own_domain e.identity
+  pub not_server : e.identity ≢ server_text own_domain
   pub some_selectors : 0 < length e.selectors
   pub selectors : length e.selectors ≤ 16
   pub domains : length e.domains ≤ 8
   pub hint : length e.hint ≤ 1024
 
-pub record FaultlessAgent (own : Bytes) (a : Agent) : Type 0 where
-  pub id : IsAgentIdOf own a.id
+pub record FaultlessAgent (own_domain : Bytes) (a : Agent) : Type 0 where
+  pub id : IsAgentIdOf own_domain a.id
   pub selectors : length a.selectors ≤ 64
 
-pub record FaultlessBundle (own domain text : Bytes) : Type 0 where
-  pub not_own : domain ≢ own
+pub record FaultlessBundle (own_domain domain text : Bytes) : Type 0 where
+  pub not_own : domain ≢ own_domain
   pub short : length text ≤ 65536
 
-pub record FaultlessPage (own : Bytes) (q : PageQuery) : Type 0 where
-  pub parent : IfSome q.filter.parent (IsIdOf own)
-  pub identity : IfSome q.filter.identity (IsIdOf own)
+pub record FaultlessPage (own_domain : Bytes) (q : PageQuery) : Type 0 where
+  pub parent : IfSome q.filter.parent (IsIdOf own_domain)
+  pub identity : IfSome q.filter.identity (IsIdOf own_domain)
   pub selectors : IfSome q.filter.selectors (λ m. (0 < length m.selectors) × (length m.selectors ≤ 16))
   pub some_room : 0 < q.size
   pub size : q.size ≤ 500
 
 abbrev pub FaultlessOp : Bytes → Op → Type 0
-FaultlessOp own (Create e) = FaultlessEntry own e
-FaultlessOp own (Update e expected) = FaultlessEntry own e
-FaultlessOp own (Delete k expected) = ⊤
-FaultlessOp own (Show k) = ⊤
-FaultlessOp own (ShowAgent k) = IsAgentIdOf own k
-FaultlessOp own (ShowBundle domain) = ⊤
-FaultlessOp own (Children p) = IsIdOf own p
-FaultlessOp own (Page q) = FaultlessPage own q
-FaultlessOp own (Authorised k) = IsAgentIdOf own k
-FaultlessOp own (Trust k) = IsAgentIdOf own k
-FaultlessOp own (Prune moment) = ⊤
-FaultlessOp own (SetAgent a) = FaultlessAgent own a
-FaultlessOp own (DropAgent k) = IsAgentIdOf own k
-FaultlessOp own (SetBundle domain text) = FaultlessBundle own domain text
-FaultlessOp own (DropBundle domain mode) = domain ≢ own
+FaultlessOp own_domain (Create e) = FaultlessEntry own_domain e
+FaultlessOp own_domain (Update e expected) = FaultlessEntry own_domain e
+FaultlessOp own_domain (Delete k expected) = ⊤
+FaultlessOp own_domain (Show k) = ⊤
+FaultlessOp own_domain (ShowAgent k) = IsAgentIdOf own_domain k
+FaultlessOp own_domain (ShowBundle domain) = ⊤
+FaultlessOp own_domain (Children p) = IsIdOf own_domain p
+FaultlessOp own_domain (Page q) = FaultlessPage own_domain q
+FaultlessOp own_domain (Authorised k) = IsAgentIdOf own_domain k
+FaultlessOp own_domain (Trust k) = IsAgentIdOf own_domain k
+FaultlessOp own_domain (Prune moment) = ⊤
+FaultlessOp own_domain (SetAgent a) = FaultlessAgent own_domain a
+FaultlessOp own_domain (DropAgent k) = IsAgentIdOf own_domain k
+FaultlessOp own_domain (SetBundle domain text) = FaultlessBundle own_domain domain text
+FaultlessOp own_domain (DropBundle domain mode) = domain ≢ own_domain

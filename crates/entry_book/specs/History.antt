@@ -5,8 +5,8 @@ use Rattle.entry_book.specs.declared.kept.KeptBatch.{KeptBatch}
 use Rattle.entry_book.specs.declared.limit.Limit.{Limit}
 use Rattle.entry_book.specs.declared.op.Op.{Op}
 use Rattle.entry_book.specs.declared.reply.OpReply.{OpReply}
-use Rattle.entry_book.specs.declared.reply.Outcome.{Outcome}
-use Rattle.entry_book.specs.declared.reply.Outcome.TheVariants.{Committed, Answered, Repeated, Refused}
+use Rattle.entry_book.specs.declared.reply.ReplyOutcome.{ReplyOutcome}
+use Rattle.entry_book.specs.declared.reply.ReplyOutcome.TheVariants.{Committed, Answered, Repeated, Refused}
 use Rattle.entry_book.specs.declared.reply.Refusal.{Refusal}
 use Rattle.entry_book.specs.declared.reply.Refusal.TheVariants.{NotYet, TokenReused, OfOp, Full}
 use Rattle.entry_book.specs.declared.reply.OpRefusal.TheVariants.{VersionGone}
@@ -121,13 +121,13 @@ reply_to batch books = reply_with (place_of books) (verdict batch (place_of book
 abbrev pub books_after : Batch → List Book → List Book
 books_after batch books = books_with books (verdict batch (place_of books) (book_for (past_place batch.ops) books))
 
-abbrev pub is_committed : Outcome → Bool
+abbrev pub is_committed : ReplyOutcome → Bool
 is_committed (Committed replies) = true
 is_committed (Answered replies) = false
 is_committed (Repeated replies) = false
 is_committed (Refused refusal) = false
 
-abbrev pub is_repeated : Outcome → Bool
+abbrev pub is_repeated : ReplyOutcome → Bool
 is_repeated (Committed replies) = false
 is_repeated (Answered replies) = false
 is_repeated (Repeated replies) = true
@@ -162,14 +162,14 @@ abbrev pub books_of : List Batch → List Book
 books_of batches = books_from first_books batches
 
 -- These batches, each made for the trust domain and committed in turn, led to this list of all books.
-pub record Leads (own : Bytes) (batches : List Batch) (books : List Book) : Type 0 where
-  pub made : AllByRecursion (IsMadeFor own) batches
+pub record LeadToBooks (own_domain : Bytes) (batches : List Batch) (books : List Book) : Type 0 where
+  pub made : AllByRecursion (IsMadeFor own_domain) batches
   pub committed : CommitAll first_books batches
   pub books_are : books ≡ books_of batches
 
 -- some batches led to it
 abbrev pub IsHistory : Bytes → List Book → Type 0
-IsHistory own books = (batches : List Batch) × Leads own batches books
+IsHistory own_domain books = (batches : List Batch) × LeadToBooks own_domain batches books
 
 -- ---- the part of its history that a plain book stores
 
@@ -214,7 +214,7 @@ state_after batch state = state_with state (verdict_of batch state)
 
 -- The state represents the list of all books so far: its books are the last 64 of them, its place is the last one's number, and the
 -- list is a history of its trust domain.
-pub record Stands (state : PlainState) (books : List Book) : Type 0 where
+pub record RepresentsBooks (state : PlainState) (books : List Book) : Type 0 where
   pub count : length books ≡ state.place + 1
   pub kept : last_of 64 books ≡ kept_books state
   pub history : IsHistory state.domain books

@@ -16,7 +16,7 @@ use Rattle.entry_book.specs.declared.limit.Limit.TheVariants as limit
 use Rattle.entry_book.specs.declared.reply.OpReply.{OpReply}
 use Rattle.entry_book.specs.declared.reply.OpRefusal.{OpRefusal}
 use Rattle.entry_book.specs.declared.reply.OpRefusal.TheVariants.{VersionGone}
-use Rattle.entry_book.specs.declared.reply.Outcome.TheVariants.{Committed, Answered, Repeated, Refused}
+use Rattle.entry_book.specs.declared.reply.ReplyOutcome.TheVariants.{Committed, Answered, Repeated, Refused}
 use Rattle.entry_book.specs.declared.reply.Refusal.TheVariants.{NotYet, TokenReused, OfOp, Full}
 use Rattle.entry_book.specs.declared.reply.Reply.{Reply}
 use Rattle.entry_book.specs.Rows.{Bytes, Entry, entry_key, agent_key, bundle_key, IsProperEntry, IsProperAgent}
@@ -27,11 +27,11 @@ use Rattle.entry_book.specs.NamedRows.{row_written, rows_named, token_of}
 use Rattle.entry_book.specs.Authorised.{authorised, EndsChain, Holds}
 use Rattle.entry_book.specs.Ops.{OpEffect, op_of}
 use Rattle.entry_book.specs.Runs.{RunEffect, RefusedOp, run}
-use Rattle.entry_book.specs.Effects.{Creates, CreateRefused, Updates, UpdateRefused, Deletes, DeleteRefused, Shows, ListsChildren, ListsAuthorised, ListsTrust, LacksAgent, Prunes, SetsAgent, DropsAgent, SetsBundle, DropsBundle, DropBundleRefused}
+use Rattle.entry_book.specs.Effects.{Creates, CreateRefused, Updates, UpdateRefused, Deletes, DeleteRefused, ShowsRow, ListsChildren, ListsAuthorised, ListsTrust, LacksAgent, Prunes, SetsAgent, DropsAgent, SetsBundle, DropsBundle, DropBundleRefused}
 use Rattle.entry_book.specs.Limits.{limit_passed}
 use Rattle.entry_book.specs.Batches.{Batch, IsMadeFor, IsProperOp, is_query, entry_fault, agent_fault, bundle_fault, op_fault, batch_refusal}
 use Rattle.entry_book.specs.Faultless.{FaultlessEntry, FaultlessAgent, FaultlessBundle, FaultlessOp}
-use Rattle.entry_book.specs.History.{PlainState, Stands, IsHistory, CommitAll, first_books, last_book, place_of, batch_writes, Leads, books_after, books_from, books_of, commits, is_repeated, reply_to}
+use Rattle.entry_book.specs.History.{PlainState, RepresentsBooks, IsHistory, CommitAll, first_books, last_book, place_of, batch_writes, LeadToBooks, books_after, books_from, books_of, commits, is_repeated, reply_to}
 use Rattle.entry_book.specs.SameOps.{ops_eq}
 use Rattle.entry_book.specs.Lawful.{Lawful}
 use Rattle.entry_book.specs.Pages.{listed, matches_by, next_of, passes, passing}
@@ -71,7 +71,7 @@ ChildIsAuthorised = (server : Bytes) (a : Agent) (b : Book) (e : Entry) → With
 
 -- in a lawful book, the agent itself holds each alias that is one of them
 abbrev pub AliasIsHeld : Type 0
-AliasIsHeld = (own : Bytes) (most : ℕ) (a : Agent) (b : Book) (e : Entry) → Lawful own most b → Within b.agents a → Within (authorised (server_text own) a b) e → e.parent ≡ server_text own → Holds (server_text own) a e
+AliasIsHeld = (own_domain : Bytes) (most : ℕ) (a : Agent) (b : Book) (e : Entry) → Lawful own_domain most b → Within b.agents a → Within (authorised (server_text own_domain) a b) e → e.parent ≡ server_text own_domain → Holds (server_text own_domain) a e
 
 -- they don't depend on the agents of the book
 abbrev pub OthersDontMatter : Type 0
@@ -80,67 +80,67 @@ OthersDontMatter = (server : Bytes) (a : Agent) (b : Book) (others : List Agent)
 -- ---- operations, in the book of a trust domain whose rows are in order
 
 abbrev pub CreateEffect : Type 0
-CreateEffect = (own : Bytes) (e : NewEntry) (b : Book) → AscendingBook b → MatchResult (op_of own (Create e) b) (Creates e b) (CreateRefused e b)
+CreateEffect = (own_domain : Bytes) (e : NewEntry) (b : Book) → AscendingBook b → MatchResult (op_of own_domain (Create e) b) (Creates e b) (CreateRefused e b)
 
 abbrev pub UpdateEffect : Type 0
-UpdateEffect = (own : Bytes) (e : NewEntry) (expected : Option ℕ) (b : Book) → AscendingBook b → MatchResult (op_of own (Update e expected) b) (Updates e expected b) (UpdateRefused e expected b)
+UpdateEffect = (own_domain : Bytes) (e : NewEntry) (expected : Option ℕ) (b : Book) → AscendingBook b → MatchResult (op_of own_domain (Update e expected) b) (Updates e expected b) (UpdateRefused e expected b)
 
 abbrev pub DeleteEffect : Type 0
-DeleteEffect = (own : Bytes) (k : Bytes) (expected : Option ℕ) (b : Book) → AscendingBook b → MatchResult (op_of own (Delete k expected) b) (Deletes k expected b) (DeleteRefused k expected b)
+DeleteEffect = (own_domain : Bytes) (k : Bytes) (expected : Option ℕ) (b : Book) → AscendingBook b → MatchResult (op_of own_domain (Delete k expected) b) (Deletes k expected b) (DeleteRefused k expected b)
 
 abbrev pub ShowEffect : Type 0
-ShowEffect = (own : Bytes) (k : Bytes) (b : Book) → AscendingBook b → MatchResult (op_of own (Show k) b) (Shows entry_key b.entries replied.EntryShown k) (λ refusal. ⊥)
+ShowEffect = (own_domain : Bytes) (k : Bytes) (b : Book) → AscendingBook b → MatchResult (op_of own_domain (Show k) b) (ShowsRow entry_key b.entries replied.EntryShown k) (λ refusal. ⊥)
 
 abbrev pub ShowAgentEffect : Type 0
-ShowAgentEffect = (own : Bytes) (k : Bytes) (b : Book) → AscendingBook b → MatchResult (op_of own (ShowAgent k) b) (Shows agent_key b.agents replied.AgentShown k) (λ refusal. ⊥)
+ShowAgentEffect = (own_domain : Bytes) (k : Bytes) (b : Book) → AscendingBook b → MatchResult (op_of own_domain (ShowAgent k) b) (ShowsRow agent_key b.agents replied.AgentShown k) (λ refusal. ⊥)
 
 abbrev pub ShowBundleEffect : Type 0
-ShowBundleEffect = (own : Bytes) (k : Bytes) (b : Book) → AscendingBook b → MatchResult (op_of own (ShowBundle k) b) (Shows bundle_key b.bundles replied.BundleShown k) (λ refusal. ⊥)
+ShowBundleEffect = (own_domain : Bytes) (k : Bytes) (b : Book) → AscendingBook b → MatchResult (op_of own_domain (ShowBundle k) b) (ShowsRow bundle_key b.bundles replied.BundleShown k) (λ refusal. ⊥)
 
 abbrev pub ChildrenEffect : Type 0
-ChildrenEffect = (own : Bytes) (p : Bytes) (b : Book) → AscendingBook b → MatchResult (op_of own (Children p) b) (ListsChildren p b) (λ refusal. ⊥)
+ChildrenEffect = (own_domain : Bytes) (p : Bytes) (b : Book) → AscendingBook b → MatchResult (op_of own_domain (Children p) b) (ListsChildren p b) (λ refusal. ⊥)
 
 abbrev pub PageEffect : Type 0
-PageEffect = (own : Bytes) (q : PageQuery) (b : Book) → AscendingBook b → MatchResult (op_of own (Page q) b) (ListsPage q b) (λ refusal. ⊥)
+PageEffect = (own_domain : Bytes) (q : PageQuery) (b : Book) → AscendingBook b → MatchResult (op_of own_domain (Page q) b) (ListsPage q b) (λ refusal. ⊥)
 
 abbrev pub AuthorisedEffect : Type 0
-AuthorisedEffect = (own : Bytes) (k : Bytes) (b : Book) → AscendingBook b → MatchResult (op_of own (Authorised k) b) (ListsAuthorised (server_text own) k b) (LacksAgent k b)
+AuthorisedEffect = (own_domain : Bytes) (k : Bytes) (b : Book) → AscendingBook b → MatchResult (op_of own_domain (Authorised k) b) (ListsAuthorised (server_text own_domain) k b) (LacksAgent k b)
 
 abbrev pub TrustEffect : Type 0
-TrustEffect = (own : Bytes) (k : Bytes) (b : Book) → AscendingBook b → MatchResult (op_of own (Trust k) b) (ListsTrust (server_text own) k b) (LacksAgent k b)
+TrustEffect = (own_domain : Bytes) (k : Bytes) (b : Book) → AscendingBook b → MatchResult (op_of own_domain (Trust k) b) (ListsTrust (server_text own_domain) k b) (LacksAgent k b)
 
 abbrev pub PruneEffect : Type 0
-PruneEffect = (own : Bytes) (moment : ℕ) (b : Book) → AscendingBook b → MatchResult (op_of own (Prune moment) b) (Prunes moment b) (λ refusal. ⊥)
+PruneEffect = (own_domain : Bytes) (moment : ℕ) (b : Book) → AscendingBook b → MatchResult (op_of own_domain (Prune moment) b) (Prunes moment b) (λ refusal. ⊥)
 
 abbrev pub SetAgentEffect : Type 0
-SetAgentEffect = (own : Bytes) (a : Agent) (b : Book) → AscendingBook b → MatchResult (op_of own (SetAgent a) b) (SetsAgent a b) (λ refusal. ⊥)
+SetAgentEffect = (own_domain : Bytes) (a : Agent) (b : Book) → AscendingBook b → MatchResult (op_of own_domain (SetAgent a) b) (SetsAgent a b) (λ refusal. ⊥)
 
 abbrev pub DropAgentEffect : Type 0
-DropAgentEffect = (own : Bytes) (k : Bytes) (b : Book) → AscendingBook b → MatchResult (op_of own (DropAgent k) b) (DropsAgent k b) (LacksAgent k b)
+DropAgentEffect = (own_domain : Bytes) (k : Bytes) (b : Book) → AscendingBook b → MatchResult (op_of own_domain (DropAgent k) b) (DropsAgent k b) (LacksAgent k b)
 
 abbrev pub SetBundleEffect : Type 0
-SetBundleEffect = (own : Bytes) (domain text : Bytes) (b : Book) → AscendingBook b → MatchResult (op_of own (SetBundle domain text) b) (SetsBundle domain text b) (λ refusal. ⊥)
+SetBundleEffect = (own_domain : Bytes) (domain text : Bytes) (b : Book) → AscendingBook b → MatchResult (op_of own_domain (SetBundle domain text) b) (SetsBundle domain text b) (λ refusal. ⊥)
 
 abbrev pub DropBundleEffect : Type 0
-DropBundleEffect = (own : Bytes) (domain : Bytes) (mode : DropMode) (b : Book) → AscendingBook b → MatchResult (op_of own (DropBundle domain mode) b) (DropsBundle domain mode b) (DropBundleRefused domain mode b)
+DropBundleEffect = (own_domain : Bytes) (domain : Bytes) (mode : DropMode) (b : Book) → AscendingBook b → MatchResult (op_of own_domain (DropBundle domain mode) b) (DropsBundle domain mode b) (DropBundleRefused domain mode b)
 
 -- the effect of an operation on a book
 abbrev pub EffectOf : Bytes → Op → Book → OpEffect → Type 0
-EffectOf own (Create e) b = Creates e b
-EffectOf own (Update e expected) b = Updates e expected b
-EffectOf own (Delete k expected) b = Deletes k expected b
-EffectOf own (Show k) b = Shows entry_key b.entries replied.EntryShown k
-EffectOf own (ShowAgent k) b = Shows agent_key b.agents replied.AgentShown k
-EffectOf own (ShowBundle k) b = Shows bundle_key b.bundles replied.BundleShown k
-EffectOf own (Children p) b = ListsChildren p b
-EffectOf own (Page q) b = ListsPage q b
-EffectOf own (Authorised k) b = ListsAuthorised (server_text own) k b
-EffectOf own (Trust k) b = ListsTrust (server_text own) k b
-EffectOf own (Prune moment) b = Prunes moment b
-EffectOf own (SetAgent a) b = SetsAgent a b
-EffectOf own (DropAgent k) b = DropsAgent k b
-EffectOf own (SetBundle domain text) b = SetsBundle domain text b
-EffectOf own (DropBundle domain mode) b = DropsBundle domain mode b
+EffectOf own_domain (Create e) b = Creates e b
+EffectOf own_domain (Update e expected) b = Updates e expected b
+EffectOf own_domain (Delete k expected) b = Deletes k expected b
+EffectOf own_domain (Show k) b = ShowsRow entry_key b.entries replied.EntryShown k
+EffectOf own_domain (ShowAgent k) b = ShowsRow agent_key b.agents replied.AgentShown k
+EffectOf own_domain (ShowBundle k) b = ShowsRow bundle_key b.bundles replied.BundleShown k
+EffectOf own_domain (Children p) b = ListsChildren p b
+EffectOf own_domain (Page q) b = ListsPage q b
+EffectOf own_domain (Authorised k) b = ListsAuthorised (server_text own_domain) k b
+EffectOf own_domain (Trust k) b = ListsTrust (server_text own_domain) k b
+EffectOf own_domain (Prune moment) b = Prunes moment b
+EffectOf own_domain (SetAgent a) b = SetsAgent a b
+EffectOf own_domain (DropAgent k) b = DropsAgent k b
+EffectOf own_domain (SetBundle domain text) b = SetsBundle domain text b
+EffectOf own_domain (DropBundle domain mode) b = DropsBundle domain mode b
 
 -- a refusal of an operation on a book
 abbrev pub RefusalOf : Op → Book → OpRefusal → Type 0
@@ -162,11 +162,11 @@ RefusalOf (DropBundle domain mode) b = DropBundleRefused domain mode b
 
 -- the words determine the result: an operation that has such an effect is accepted, with that reply and that book afterwards
 abbrev pub AcceptedAsSaid : Type 0
-AcceptedAsSaid = (own : Bytes) (op : Op) (b : Book) (d : OpEffect) → AscendingBook b → EffectOf own op b d → MatchResult (op_of own op b) (λ c. (c.reply ≡ d.reply) × (after c.writes b ≡ after d.writes b)) (λ r. ⊥)
+AcceptedAsSaid = (own_domain : Bytes) (op : Op) (b : Book) (d : OpEffect) → AscendingBook b → EffectOf own_domain op b d → MatchResult (op_of own_domain op b) (λ c. (c.reply ≡ d.reply) × (after c.writes b ≡ after d.writes b)) (λ r. ⊥)
 
 -- and on a lawful book, an operation for which a refusal is due is refused with it
 abbrev pub RefusedAsSaid : Type 0
-RefusedAsSaid = (own : Bytes) (most : ℕ) (op : Op) (b : Book) (r : OpRefusal) → Lawful own most b → RefusalOf op b r → op_of own op b ≡ Err r
+RefusedAsSaid = (own_domain : Bytes) (most : ℕ) (op : Op) (b : Book) (r : OpRefusal) → Lawful own_domain most b → RefusalOf op b r → op_of own_domain op b ≡ Err r
 
 -- two writes of the same row
 abbrev pub SameRow : RowWrite → RowWrite → Type 0
@@ -183,11 +183,11 @@ DifferentRows (w ∷ ws) = AllByRecursion (λ v. SameRow w v → ⊥) ws × Diff
 
 -- an operation writes a row at most once, so that each write finds its row as the operation found it
 abbrev pub WritesOnce : Type 0
-WritesOnce = (own : Bytes) (op : Op) (b : Book) → AscendingBook b → IfOk (op_of own op b) (λ d. DifferentRows d.writes × AllByRecursion (λ w. FitsBook w b) d.writes)
+WritesOnce = (own_domain : Bytes) (op : Op) (b : Book) → AscendingBook b → IfOk (op_of own_domain op b) (λ d. DifferentRows d.writes × AllByRecursion (λ w. FitsBook w b) d.writes)
 
 -- an operation writes the rows that `rows_named` gives, in this order, and no other row
 abbrev pub WritesNamed : Type 0
-WritesNamed = (own : Bytes) (op : Op) (b : Book) → IfOk (op_of own op b) (λ d. map row_written d.writes ≡ rows_named op b)
+WritesNamed = (own_domain : Bytes) (op : Op) (b : Book) → IfOk (op_of own_domain op b) (λ d. map row_written d.writes ≡ rows_named op b)
 
 -- ---- the run of a batch
 
@@ -206,8 +206,8 @@ abbrev pub RunStops : Type 0
 RunStops = (domain : Bytes) (ops : List Op) (b : Book) (n : ℕ) (r : OpRefusal) → (run domain ops b ≡ Err (record { op = n; reason = r })) ↔ StopsAt domain ops b n r
 
 -- One more operation adds its reply and its writes if the book that the others left accepts it; otherwise the run is refused for it.
-abbrev pub RunGoesOn : Type 0
-RunGoesOn = (domain : Bytes) (ops : List Op) (op : Op) (b : Book) (t : RunEffect) → run domain ops b ≡ Ok t → MatchResult (op_of domain op (after t.writes b)) (λ d. run domain (ops ++ op ∷ []) b ≡ Ok (record { replies = t.replies ++ d.reply ∷ []; writes = t.writes ++ d.writes })) (λ r. run domain (ops ++ op ∷ []) b ≡ Err (record { op = length ops; reason = r }))
+abbrev pub RunExtends : Type 0
+RunExtends = (domain : Bytes) (ops : List Op) (op : Op) (b : Book) (t : RunEffect) → run domain ops b ≡ Ok t → MatchResult (op_of domain op (after t.writes b)) (λ d. run domain (ops ++ op ∷ []) b ≡ Ok (record { replies = t.replies ++ d.reply ∷ []; writes = t.writes ++ d.writes })) (λ r. run domain (ops ++ op ∷ []) b ≡ Err (record { op = length ops; reason = r }))
 
 -- a run of no operations has no replies and no writes
 abbrev pub RunOfNone : Type 0
@@ -228,7 +228,7 @@ RunFits = (domain : Bytes) (ops : List Op) (b : Book) → AscendingBook b → If
 -- a run of operations without faults leaves a lawful book lawful, and raises the bound on revisions and sequences by 1 for each
 -- operation
 abbrev pub RunKeeps : Type 0
-RunKeeps = (own : Bytes) (m : ℕ) (ops : List Op) (b : Book) → AllByRecursion IsProperOp ops → AllByRecursion (λ op. op_fault own op ≡ None) ops → Lawful own m b → IfOk (run own ops b) (λ t. Lawful own (m + length ops) (after t.writes b))
+RunKeeps = (own_domain : Bytes) (m : ℕ) (ops : List Op) (b : Book) → AllByRecursion IsProperOp ops → AllByRecursion (λ op. op_fault own_domain op ≡ None) ops → Lawful own_domain m b → IfOk (run own_domain ops b) (λ t. Lawful own_domain (m + length ops) (after t.writes b))
 
 -- ---- the table of faults
 
@@ -292,16 +292,16 @@ NoFault = (domain : Bytes) (ops : List Op) (token : Option Bytes) → (batch_ref
 
 -- new entries, agents, bundles and operations have no fault exactly if they are what the direct words say
 abbrev pub EntryFaults : Type 0
-EntryFaults = (own : Bytes) (e : NewEntry) → IsProperEntry e → (entry_fault own e ≡ None) ↔ FaultlessEntry own e
+EntryFaults = (own_domain : Bytes) (e : NewEntry) → IsProperEntry e → (entry_fault own_domain e ≡ None) ↔ FaultlessEntry own_domain e
 
 abbrev pub AgentFaults : Type 0
-AgentFaults = (own : Bytes) (a : Agent) → IsProperAgent a → (agent_fault own a ≡ None) ↔ FaultlessAgent own a
+AgentFaults = (own_domain : Bytes) (a : Agent) → IsProperAgent a → (agent_fault own_domain a ≡ None) ↔ FaultlessAgent own_domain a
 
 abbrev pub BundleFaults : Type 0
-BundleFaults = (own domain text : Bytes) → (bundle_fault own domain text ≡ None) ↔ FaultlessBundle own domain text
+BundleFaults = (own_domain domain text : Bytes) → (bundle_fault own_domain domain text ≡ None) ↔ FaultlessBundle own_domain domain text
 
 abbrev pub OpFaults : Type 0
-OpFaults = (own : Bytes) (op : Op) → IsProperOp op → (op_fault own op ≡ None) ↔ FaultlessOp own op
+OpFaults = (own_domain : Bytes) (op : Op) → IsProperOp op → (op_fault own_domain op ≡ None) ↔ FaultlessOp own_domain op
 
 -- ---- histories
 
@@ -318,8 +318,8 @@ abbrev pub QueriesOnlyAsk : Type 0
 QueriesOnlyAsk = (batch : Batch) (books : List Book) → is_query batch.ops ≡ true → commits batch books ≡ false
 
 -- the reply to a batch on some books, and the books after it
-abbrev pub Comes : Batch → List Book → Reply → List Book → Type 0
-Comes batch books reply later = (reply_to batch books ≡ reply) × (books_after batch books ≡ later)
+abbrev pub HasOutcome : Batch → List Book → Reply → List Book → Type 0
+HasOutcome batch books reply later = (reply_to batch books ≡ reply) × (books_after batch books ≡ later)
 
 -- the book stores no batch under the token, if one is given
 abbrev pub IsTokenFree : Option Bytes → Book → Type 0
@@ -333,24 +333,24 @@ pub record RunsOn (batch : Batch) (books : List Book) : Type 0 where
 
 -- a batch whose minimum place isn't reached is refused for this, before any other check, and the books stay
 abbrev pub EarlyRefused : Type 0
-EarlyRefused = (batch : Batch) (books : List Book) → place_of books < batch.after → Comes batch books (record { place = place_of books; outcome = Refused NotYet }) books
+EarlyRefused = (batch : Batch) (books : List Book) → place_of books < batch.after → HasOutcome batch books (record { place = place_of books; outcome = Refused NotYet }) books
 
 -- a batch with an operation that is refused is refused for it, and the books stay
 abbrev pub OpRefuses : Type 0
-OpRefuses = (batch : Batch) (books : List Book) (s : RefusedOp) → RunsOn batch books → run batch.domain batch.ops (last_book books) ≡ Err s → Comes batch books (record { place = place_of books; outcome = Refused (OfOp s.op s.reason) }) books
+OpRefuses = (batch : Batch) (books : List Book) (s : RefusedOp) → RunsOn batch books → run batch.domain batch.ops (last_book books) ≡ Err s → HasOutcome batch books (record { place = place_of books; outcome = Refused (OfOp s.op s.reason) }) books
 
 -- any other query is answered, whatever the limits, and the books stay
 abbrev pub QueriesAnswered : Type 0
-QueriesAnswered = (batch : Batch) (books : List Book) (t : RunEffect) → RunsOn batch books → is_query batch.ops ≡ true → run batch.domain batch.ops (last_book books) ≡ Ok t → Comes batch books (record { place = place_of books; outcome = Answered t.replies }) books
+QueriesAnswered = (batch : Batch) (books : List Book) (t : RunEffect) → RunsOn batch books → is_query batch.ops ≡ true → run batch.domain batch.ops (last_book books) ≡ Ok t → HasOutcome batch books (record { place = place_of books; outcome = Answered t.replies }) books
 
 -- any other batch of changes that passes no limit adds the book after its writes, even if it equals the last one; the reply has the
 -- new place
 abbrev pub ChangesCommit : Type 0
-ChangesCommit = (batch : Batch) (books : List Book) (t : RunEffect) → RunsOn batch books → is_query batch.ops ≡ false → run batch.domain batch.ops (last_book books) ≡ Ok t → limit_passed (place_of books) (after (batch_writes batch (place_of books + 1) t) (last_book books)) ≡ None → Comes batch books (record { place = place_of books + 1; outcome = Committed t.replies }) (books ++ after (batch_writes batch (place_of books + 1) t) (last_book books) ∷ [])
+ChangesCommit = (batch : Batch) (books : List Book) (t : RunEffect) → RunsOn batch books → is_query batch.ops ≡ false → run batch.domain batch.ops (last_book books) ≡ Ok t → limit_passed (place_of books) (after (batch_writes batch (place_of books + 1) t) (last_book books)) ≡ None → HasOutcome batch books (record { place = place_of books + 1; outcome = Committed t.replies }) (books ++ after (batch_writes batch (place_of books + 1) t) (last_book books) ∷ [])
 
 -- but if a limit is passed, the batch is refused for the first such limit, and the books stay
 abbrev pub FullRefused : Type 0
-FullRefused = (batch : Batch) (books : List Book) (t : RunEffect) (limit : Limit) → RunsOn batch books → is_query batch.ops ≡ false → run batch.domain batch.ops (last_book books) ≡ Ok t → limit_passed (place_of books) (after (batch_writes batch (place_of books + 1) t) (last_book books)) ≡ Some limit → Comes batch books (record { place = place_of books; outcome = Refused (Full limit) }) books
+FullRefused = (batch : Batch) (books : List Book) (t : RunEffect) (limit : Limit) → RunsOn batch books → is_query batch.ops ≡ false → run batch.domain batch.ops (last_book books) ≡ Ok t → limit_passed (place_of books) (after (batch_writes batch (place_of books + 1) t) (last_book books)) ≡ Some limit → HasOutcome batch books (record { place = place_of books; outcome = Refused (Full limit) }) books
 
 -- ---- earlier books
 
@@ -364,11 +364,11 @@ batch_now batch = record batch { ops = map asked_now batch.ops; after = 0 }
 
 -- a page of book n, one of the last 64, gets the reply that it got when book n was the last, and the books stay
 abbrev pub PastAnswered : Type 0
-PastAnswered = (own : Bytes) (batch : Batch) (books : List Book) (q : PageQuery) (n : ℕ) → IsMadeFor own batch → 0 < length books → batch.after ≤ place_of books → batch.ops ≡ Page q ∷ [] → q.at ≡ Some n → n ≤ place_of books → place_of books < n + 64 → Comes batch books (record { place = place_of books; outcome = (reply_to (batch_now batch) (take (n + 1) books)).outcome }) books
+PastAnswered = (own_domain : Bytes) (batch : Batch) (books : List Book) (q : PageQuery) (n : ℕ) → IsMadeFor own_domain batch → 0 < length books → batch.after ≤ place_of books → batch.ops ≡ Page q ∷ [] → q.at ≡ Some n → n ≤ place_of books → place_of books < n + 64 → HasOutcome batch books (record { place = place_of books; outcome = (reply_to (batch_now batch) (take (n + 1) books)).outcome }) books
 
 -- a page of any other book is refused, and the books stay
 abbrev pub GoneRefused : Type 0
-GoneRefused = (batch : Batch) (books : List Book) (q : PageQuery) (n : ℕ) → batch.after ≤ place_of books → batch.ops ≡ Page q ∷ [] → q.at ≡ Some n → (place_of books < n) ⊎ (n + 64 ≤ place_of books) → Comes batch books (record { place = place_of books; outcome = Refused (OfOp 0 VersionGone) }) books
+GoneRefused = (batch : Batch) (books : List Book) (q : PageQuery) (n : ℕ) → batch.after ≤ place_of books → batch.ops ≡ Page q ∷ [] → q.at ≡ Some n → (place_of books < n) ⊎ (n + 64 ≤ place_of books) → HasOutcome batch books (record { place = place_of books; outcome = Refused (OfOp 0 VersionGone) }) books
 
 -- ---- tokens
 
@@ -398,14 +398,14 @@ pub record WasCommitted (batches : List Batch) (k : KeptBatch) : Type 0 where
   pub replied : reply_to batch (books_of before) ≡ record { place = k.place; outcome = Committed k.replies }
 
 abbrev pub KeptCommitted : Type 0
-KeptCommitted = (own : Bytes) (batches : List Batch) (books : List Book) (k : KeptBatch) → Leads own batches books → Within (last_book books).tokens k → WasCommitted batches k
+KeptCommitted = (own_domain : Bytes) (batches : List Batch) (books : List Book) (k : KeptBatch) → LeadToBooks own_domain batches books → Within (last_book books).tokens k → WasCommitted batches k
 
 -- a batch whose token is stored gets the stored reply if it has the same operations, and is refused otherwise; the books stay
 abbrev pub RepeatAnswered : Type 0
-RepeatAnswered = (batch : Batch) (books : List Book) (k : KeptBatch) → AscendingBook (last_book books) → batch.after ≤ place_of books → AskForLast batch.ops → Within (last_book books).tokens k → batch.token ≡ Some k.token → k.ops ≡ batch.ops → Comes batch books (record { place = k.place; outcome = Repeated k.replies }) books
+RepeatAnswered = (batch : Batch) (books : List Book) (k : KeptBatch) → AscendingBook (last_book books) → batch.after ≤ place_of books → AskForLast batch.ops → Within (last_book books).tokens k → batch.token ≡ Some k.token → k.ops ≡ batch.ops → HasOutcome batch books (record { place = k.place; outcome = Repeated k.replies }) books
 
 abbrev pub ReuseRefused : Type 0
-ReuseRefused = (batch : Batch) (books : List Book) (k : KeptBatch) → AscendingBook (last_book books) → batch.after ≤ place_of books → AskForLast batch.ops → Within (last_book books).tokens k → batch.token ≡ Some k.token → (k.ops ≡ batch.ops → ⊥) → Comes batch books (record { place = place_of books; outcome = Refused TokenReused }) books
+ReuseRefused = (batch : Batch) (books : List Book) (k : KeptBatch) → AscendingBook (last_book books) → batch.after ≤ place_of books → AskForLast batch.ops → Within (last_book books).tokens k → batch.token ≡ Some k.token → (k.ops ≡ batch.ops → ⊥) → HasOutcome batch books (record { place = place_of books; outcome = Refused TokenReused }) books
 
 -- Once a batch is committed with a token, no other batch is committed with it. Later, after any batches, one with the same
 -- operations gets the same replies and place, and one with other operations is refused, if its minimum place is reached. The books
@@ -417,7 +417,7 @@ pub record CommittedOnce (first : Reply) (replies : List OpReply) (batch other :
   pub reused : other.after ≤ place_of later → (other.ops ≡ batch.ops → ⊥) → reply_to other later ≡ record { place = place_of later; outcome = Refused TokenReused }
 
 abbrev pub ExactlyOnce : Type 0
-ExactlyOnce = (own token : Bytes) (batch other : Batch) (between : List Batch) (books : List Book) (replies : List OpReply) → IsHistory own books → IsMadeFor own batch → IsMadeFor own other → AllByRecursion (IsMadeFor own) between → batch.token ≡ Some token → other.token ≡ Some token → (reply_to batch books).outcome ≡ Committed replies → CommittedOnce (reply_to batch books) replies batch other (books_from (books_after batch books) between)
+ExactlyOnce = (own_domain token : Bytes) (batch other : Batch) (between : List Batch) (books : List Book) (replies : List OpReply) → IsHistory own_domain books → IsMadeFor own_domain batch → IsMadeFor own_domain other → AllByRecursion (IsMadeFor own_domain) between → batch.token ≡ Some token → other.token ≡ Some token → (reply_to batch books).outcome ≡ Committed replies → CommittedOnce (reply_to batch books) replies batch other (books_from (books_after batch books) between)
 
 -- the limits of the four kinds of rows
 pub record IsWithinLimits (b : Book) : Type 0 where
@@ -443,11 +443,11 @@ NoneIsPassed = (place : ℕ) (b : Book) → (limit_passed place b ≡ None) ↔ 
 
 -- each book of a history is within the limits
 abbrev pub AllWithinLimits : Type 0
-AllWithinLimits = (own : Bytes) (books : List Book) → IsHistory own books → (n : ℕ) (b : Book) → slice_get books n ≡ Some b → IsWithinLimits b
+AllWithinLimits = (own_domain : Bytes) (books : List Book) → IsHistory own_domain books → (n : ℕ) (b : Book) → slice_get books n ≡ Some b → IsWithinLimits b
 
 -- a history has at most 2^48 books after the first one
 abbrev pub HistoryBounded : Type 0
-HistoryBounded = (own : Bytes) (books : List Book) → IsHistory own books → length books ≤ 2 ^ 48 + 1
+HistoryBounded = (own_domain : Bytes) (books : List Book) → IsHistory own_domain books → length books ≤ 2 ^ 48 + 1
 
 -- the books after one more batch
 abbrev pub OneMore : Type 0
@@ -461,22 +461,22 @@ abbrev pub CountOfBooks : Type 0
 CountOfBooks = (batches : List Batch) → CommitAll first_books batches → length (books_of batches) ≡ length batches + 1
 
 -- a history continues with any batch that was made for its domain
-abbrev pub HistoryGoesOn : Type 0
-HistoryGoesOn = (own : Bytes) (batch : Batch) (books : List Book) → IsHistory own books → IsMadeFor own batch → IsHistory own (books_after batch books)
+abbrev pub HistoryExtends : Type 0
+HistoryExtends = (own_domain : Bytes) (batch : Batch) (books : List Book) → IsHistory own_domain books → IsMadeFor own_domain batch → IsHistory own_domain (books_after batch books)
 
 -- ---- lawful books
 
 -- each book of a history is lawful, and in book n no revision or sequence is above 64 n
 abbrev pub LawfulHistory : Type 0
-LawfulHistory = (own : Bytes) (books : List Book) → IsHistory own books → (n : ℕ) (b : Book) → slice_get books n ≡ Some b → Lawful own (64 * n) b
+LawfulHistory = (own_domain : Bytes) (books : List Book) → IsHistory own_domain books → (n : ℕ) (b : Book) → slice_get books n ≡ Some b → Lawful own_domain (64 * n) b
 
 -- so is each book in a list that a plain book's state represents
 abbrev pub AllLawful : Type 0
-AllLawful = (state : PlainState) (books : List Book) → Stands state books → (n : ℕ) (b : Book) → slice_get books n ≡ Some b → Lawful state.domain (64 * n) b
+AllLawful = (state : PlainState) (books : List Book) → RepresentsBooks state books → (n : ℕ) (b : Book) → slice_get books n ≡ Some b → Lawful state.domain (64 * n) b
 
 -- an accepted batch turns a book that is lawful as book n into one that is lawful as book n + 1
 abbrev pub BatchKeeps : Type 0
-BatchKeeps = (own : Bytes) (batch : Batch) (n : ℕ) (b : Book) → IsMadeFor own batch → Lawful own (64 * n) b → IfOk (run batch.domain batch.ops b) (λ t. Lawful own (64 * (n + 1)) (after (batch_writes batch (n + 1) t) b))
+BatchKeeps = (own_domain : Bytes) (batch : Batch) (n : ℕ) (b : Book) → IsMadeFor own_domain batch → Lawful own_domain (64 * n) b → IfOk (run batch.domain batch.ops b) (λ t. Lawful own_domain (64 * (n + 1)) (after (batch_writes batch (n + 1) t) b))
 
 -- and each of its writes finds the row that it names, if no batch is stored under its token
 abbrev pub BatchFits : Type 0
@@ -486,7 +486,7 @@ BatchFits = (batch : Batch) (n : ℕ) (b : Book) → AscendingBook b → IsToken
 
 -- each mode, in the words of sets
 abbrev pub MatchesAsSaid : Type 0
-MatchesAsSaid = (mode : MatchMode) (given own : List SelectorPair) → (matches_by mode given own ≡ true) ↔ Matches mode given own
+MatchesAsSaid = (mode : MatchMode) (given own_domain : List SelectorPair) → (matches_by mode given own_domain ≡ true) ↔ Matches mode given own_domain
 
 -- a filter passes exactly the entries that satisfy each given part
 abbrev pub PassesAsSaid : Type 0

@@ -38,16 +38,16 @@ pub record IsToList (q : PageQuery) (b : Book) (e : Entry) : Type 0 where
   pub later : IfSome q.from (λ k. is_before k e.id ≡ true)
 
 -- No entry is left, and there is no next page; or the page is full, and the next one continues after the last entry's id.
-abbrev pub GoesOn : PageQuery → List Entry → List Entry → Option Bytes → Type 0
-GoesOn q es [] next = (length es ≤ q.size) × (next ≡ None)
-GoesOn q es (e ∷ left) next = (length es ≡ q.size) × (next ≡ last_id es)
+abbrev pub IsPageEnd : PageQuery → List Entry → List Entry → Option Bytes → Type 0
+IsPageEnd q es [] next = (length es ≤ q.size) × (next ≡ None)
+IsPageEnd q es (e ∷ left) next = (length es ≡ q.size) × (next ≡ last_id es)
 
 -- A page has these entries, and says where the next one begins. They and those that are left are all that it could list, in the order
 -- of ids.
 pub record IsPage (q : PageQuery) (b : Book) (es : List Entry) (next : Option Bytes) : Type 0 where
   pub left : List Entry
   pub all : IsListOf entry_key (IsToList q b) (es ++ left)
-  pub goes_on : GoesOn q es left next
+  pub extends : IsPageEnd q es left next
 
 -- The operation replies with a page, and writes nothing.
 pub record ListsPage (q : PageQuery) (b : Book) (d : OpEffect) : Type 0 where

@@ -52,15 +52,15 @@ abbrev pub put_named : Option Bytes → Option Entry → Entry → OpResult
 put_named (Some d) old e = Err (NoBundle d)
 put_named None old e = done (replied.Entry e) (put old e ∷ [])
 
-abbrev pub put_beside : Option Entry → Option Entry → Entry → Book → OpResult
-put_beside (Some o) old e b = Err (Similar o.id)
-put_beside None old e b = put_named (lacking e.domains b) old e
+abbrev pub put_unless_similar : Option Entry → Option Entry → Entry → Book → OpResult
+put_unless_similar (Some o) old e b = Err (Similar o.id)
+put_unless_similar None old e b = put_named (lacking e.domains b) old e
 
 -- ---- create: refused for a taken id, then as above; the entry is at revision 0
 
 abbrev pub create_over : Option Entry → Entry → Book → OpResult
 create_over (Some o) e b = Err IdTaken
-create_over None e b = put_beside (similar e b) None e b
+create_over None e b = put_unless_similar (similar e b) None e b
 
 -- ---- update: refused for a missing entry, a stale revision, then as above; it replaces all but the id, at the next revision
 
@@ -71,7 +71,7 @@ is_stale (Some expected) e = not (nat_eq expected e.revision)
 
 abbrev pub update_when : Bool → Entry → NewEntry → Book → OpResult
 update_when true old e b = Err StaleRevision
-update_when false old e b = put_beside (similar (at_revision (old.revision + 1) e) b) (Some old) (at_revision (old.revision + 1) e) b
+update_when false old e b = put_unless_similar (similar (at_revision (old.revision + 1) e) b) (Some old) (at_revision (old.revision + 1) e) b
 
 abbrev pub update_over : Option Entry → NewEntry → Option ℕ → Book → OpResult
 update_over None e expected b = Err NoEntry
@@ -149,18 +149,18 @@ drop_over (Some d) domain mode b = drop_in mode (users_of d.domain b) d
 -- ---- the result of an operation in the book of a trust domain; a page that gives the number of a book is run on that book
 
 abbrev pub op_of : Bytes → Op → Book → OpResult
-op_of own (Create e) b = create_over (entry_at e.id b) (at_revision 0 e) b
-op_of own (Update e expected) b = update_over (entry_at e.id b) e expected b
-op_of own (Delete k expected) b = delete_over (entry_at k b) expected
-op_of own (Show k) b = done (replied.EntryShown (entry_at k b)) []
-op_of own (ShowAgent k) b = done (replied.AgentShown (agent_at k b)) []
-op_of own (ShowBundle k) b = done (replied.BundleShown (bundle_at k b)) []
-op_of own (Children p) b = done (replied.Entries (children_of p b)) []
-op_of own (Page q) b = done (replied.Page (listed q b) (next_of q b)) []
-op_of own (Authorised k) b = for_agent (agent_at k b) (λ a. done (replied.Entries (authorised (server_text own) a b)) [])
-op_of own (Trust k) b = for_agent (agent_at k b) (λ a. done (replied.Bundles (bundles_of (authorised (server_text own) a b) b)) [])
-op_of own (Prune moment) b = done (replied.Pruned (map entry_key (expired_before moment b))) (map removed (expired_before moment b))
-op_of own (SetAgent a) b = agent_set a b
-op_of own (DropAgent k) b = for_agent (agent_at k b) agent_dropped
-op_of own (SetBundle domain text) b = bundle_set domain text (bundle_at domain b)
-op_of own (DropBundle domain mode) b = drop_over (bundle_at domain b) domain mode b
+op_of own_domain (Create e) b = create_over (entry_at e.id b) (at_revision 0 e) b
+op_of own_domain (Update e expected) b = update_over (entry_at e.id b) e expected b
+op_of own_domain (Delete k expected) b = delete_over (entry_at k b) expected
+op_of own_domain (Show k) b = done (replied.EntryShown (entry_at k b)) []
+op_of own_domain (ShowAgent k) b = done (replied.AgentShown (agent_at k b)) []
+op_of own_domain (ShowBundle k) b = done (replied.BundleShown (bundle_at k b)) []
+op_of own_domain (Children p) b = done (replied.Entries (children_of p b)) []
+op_of own_domain (Page q) b = done (replied.Page (listed q b) (next_of q b)) []
+op_of own_domain (Authorised k) b = for_agent (agent_at k b) (λ a. done (replied.Entries (authorised (server_text own_domain) a b)) [])
+op_of own_domain (Trust k) b = for_agent (agent_at k b) (λ a. done (replied.Bundles (bundles_of (authorised (server_text own_domain) a b) b)) [])
+op_of own_domain (Prune moment) b = done (replied.Pruned (map entry_key (expired_before moment b))) (map removed (expired_before moment b))
+op_of own_domain (SetAgent a) b = agent_set a b
+op_of own_domain (DropAgent k) b = for_agent (agent_at k b) agent_dropped
+op_of own_domain (SetBundle domain text) b = bundle_set domain text (bundle_at domain b)
+op_of own_domain (DropBundle domain mode) b = drop_over (bundle_at domain b) domain mode b

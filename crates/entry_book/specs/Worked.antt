@@ -12,7 +12,7 @@ use Rattle.entry_book.specs.declared.reply.OpReply.{OpReply}
 use Rattle.entry_book.specs.declared.reply.OpReply.TheVariants as replied
 use Rattle.entry_book.specs.declared.reply.OpRefusal.{OpRefusal}
 use Rattle.entry_book.specs.declared.reply.OpRefusal.TheVariants.{IdTaken, Similar, StaleRevision, NoBundle, NoAgent, VersionGone}
-use Rattle.entry_book.specs.declared.reply.Outcome.TheVariants.{Committed, Answered, Repeated, Refused}
+use Rattle.entry_book.specs.declared.reply.ReplyOutcome.TheVariants.{Committed, Answered, Repeated, Refused}
 use Rattle.entry_book.specs.declared.reply.Refusal.TheVariants.{NotYet, TokenReused, OfOp}
 use Rattle.entry_book.specs.declared.reply.Reply.{Reply}
 use Rattle.entry_book.specs.Rows.{Bytes, Entry, given_of}
@@ -31,14 +31,14 @@ abbrev pub agent_id : Bytes
 agent_id = id_of (codes "/spire/agent/n1")
 
 -- the UUID whose last byte is n, and whose other bytes are 0
-abbrev pub uuid_of : ℕ → Bytes
-uuid_of n = 0 ∷ 0 ∷ 0 ∷ 0 ∷ 0 ∷ 0 ∷ 0 ∷ 0 ∷ 0 ∷ 0 ∷ 0 ∷ 0 ∷ 0 ∷ 0 ∷ 0 ∷ n ∷ []
+abbrev pub worked_uuid : ℕ → Bytes
+worked_uuid n = 0 ∷ 0 ∷ 0 ∷ 0 ∷ 0 ∷ 0 ∷ 0 ∷ 0 ∷ 0 ∷ 0 ∷ 0 ∷ 0 ∷ 0 ∷ 0 ∷ 0 ∷ n ∷ []
 
 abbrev pub selector : Bytes → Bytes → SelectorPair
 selector t v = record { type = t; value = v }
 
 abbrev pub entry : ℕ → Bytes → Bytes → List SelectorPair → Entry
-entry n parent identity selectors = record { id = uuid_of n; parent = parent; identity = identity; selectors = selectors; hint = []; domains = []; expiry = 0; x509_svid_ttl = 0; jwt_svid_ttl = 0; revision = 0 }
+entry n parent identity selectors = record { id = worked_uuid n; parent = parent; identity = identity; selectors = selectors; hint = []; domains = []; expiry = 0; x509_svid_ttl = 0; jwt_svid_ttl = 0; revision = 0 }
 
 abbrev pub agent : List SelectorPair → Agent
 agent selectors = record { id = agent_id; selectors = selectors }
@@ -99,14 +99,14 @@ AliasOfAnother = authorised server (agent (x1 ∷ [])) (record { entries = alias
 
 -- ---- batches, run one after another
 
-abbrev pub batch_of : List Op → Batch
-batch_of ops = record { domain = codes "ex.org"; ops = ops; after = 0; token = None }
+abbrev pub worked_batch : List Op → Batch
+worked_batch ops = record { domain = codes "ex.org"; ops = ops; after = 0; token = None }
 
 abbrev pub committed : ℕ → OpReply → Reply
 committed n r = record { place = n; outcome = Committed (r ∷ []) }
 
-abbrev pub answered : ℕ → OpReply → Reply
-answered n r = record { place = n; outcome = Answered (r ∷ []) }
+abbrev pub worked_answer : ℕ → OpReply → Reply
+worked_answer n r = record { place = n; outcome = Answered (r ∷ []) }
 
 abbrev pub refused : ℕ → ℕ → OpRefusal → Reply
 refused n op reason = record { place = n; outcome = Refused (OfOp op reason) }
@@ -125,15 +125,15 @@ create e = Create (given_of e)
 
 -- the agent is set, an entry is created under it, and its authorised entries are queried
 abbrev pub FirstBatches : Type 0
-FirstBatches = replies_from first_books (batch_of (SetAgent plain_agent ∷ []) ∷ batch_of (create (web 1) ∷ []) ∷ batch_of (Authorised agent_id ∷ []) ∷ []) ≡ committed 1 (replied.Agent plain_agent) ∷ committed 2 (replied.Entry (web 1)) ∷ answered 2 (replied.Entries (web 1 ∷ [])) ∷ []
+FirstBatches = replies_from first_books (worked_batch (SetAgent plain_agent ∷ []) ∷ worked_batch (create (web 1) ∷ []) ∷ worked_batch (Authorised agent_id ∷ []) ∷ []) ≡ committed 1 (replied.Agent plain_agent) ∷ committed 2 (replied.Entry (web 1)) ∷ worked_answer 2 (replied.Entries (web 1 ∷ [])) ∷ []
 
 -- on the empty book there is no agent, and no bundle
 abbrev pub EmptyRefuses : Type 0
-EmptyRefuses = replies_from first_books (batch_of (Authorised agent_id ∷ []) ∷ batch_of (Create (record (given_of (web 1)) { domains = codes "b.org" ∷ codes "c.org" ∷ [] }) ∷ []) ∷ []) ≡ refused 0 0 NoAgent ∷ refused 0 0 (NoBundle (codes "b.org")) ∷ []
+EmptyRefuses = replies_from first_books (worked_batch (Authorised agent_id ∷ []) ∷ worked_batch (Create (record (given_of (web 1)) { domains = codes "b.org" ∷ codes "c.org" ∷ [] }) ∷ []) ∷ []) ≡ refused 0 0 NoAgent ∷ refused 0 0 (NoBundle (codes "b.org")) ∷ []
 
 -- a batch that is refused at its third operation leaves nothing of the first two: both can be added afterwards
 abbrev pub NothingKept : Type 0
-NothingKept = replies_from first_books (batch_of (create (web 1) ∷ []) ∷ batch_of (create (api 2) ∷ create (entry 3 agent_id (id_of (codes "/side")) u1) ∷ create (api 1) ∷ []) ∷ batch_of (create (api 3) ∷ []) ∷ batch_of (create (web 2) ∷ []) ∷ []) ≡ committed 1 (replied.Entry (web 1)) ∷ refused 1 2 IdTaken ∷ committed 2 (replied.Entry (api 3)) ∷ refused 2 0 (Similar (uuid_of 1)) ∷ []
+NothingKept = replies_from first_books (worked_batch (create (web 1) ∷ []) ∷ worked_batch (create (api 2) ∷ create (entry 3 agent_id (id_of (codes "/side")) u1) ∷ create (api 1) ∷ []) ∷ worked_batch (create (api 3) ∷ []) ∷ worked_batch (create (web 2) ∷ []) ∷ []) ≡ committed 1 (replied.Entry (web 1)) ∷ refused 1 2 IdTaken ∷ committed 2 (replied.Entry (api 3)) ∷ refused 2 0 (Similar (worked_uuid 1)) ∷ []
 
 -- ---- bundles, revisions and expiries
 
@@ -151,25 +151,25 @@ bundle text n = record { domain = other_domain; text = text; sequence = n }
 
 -- a bundle that is set again has the next sequence, and one that was dropped before starts at 0
 abbrev pub SequencesCount : Type 0
-SequencesCount = replies_from first_books (batch_of (set (codes "t1") ∷ []) ∷ batch_of (set (codes "t2") ∷ []) ∷ batch_of (DropBundle other_domain mode.Restrict ∷ []) ∷ batch_of (set (codes "t1") ∷ []) ∷ []) ≡ committed 1 (replied.Bundle (bundle (codes "t1") 0)) ∷ committed 2 (replied.Bundle (bundle (codes "t2") 1)) ∷ committed 3 (replied.Dropped [] []) ∷ committed 4 (replied.Bundle (bundle (codes "t1") 0)) ∷ []
+SequencesCount = replies_from first_books (worked_batch (set (codes "t1") ∷ []) ∷ worked_batch (set (codes "t2") ∷ []) ∷ worked_batch (DropBundle other_domain mode.Restrict ∷ []) ∷ worked_batch (set (codes "t1") ∷ []) ∷ []) ≡ committed 1 (replied.Bundle (bundle (codes "t1") 0)) ∷ committed 2 (replied.Bundle (bundle (codes "t2") 1)) ∷ committed 3 (replied.Dropped [] []) ∷ committed 4 (replied.Bundle (bundle (codes "t1") 0)) ∷ []
 
 abbrev pub user : Entry
 user = record (web 1) { domains = other_domain ∷ [] }
 
 -- an entry is created and freed of the domain in one batch: revision 0 before, and revision 1 with no domain after
 abbrev pub FreedInOneBatch : Type 0
-FreedInOneBatch = replies_from first_books (batch_of (set (codes "t1") ∷ []) ∷ batch_of (create user ∷ Show (uuid_of 1) ∷ DropBundle other_domain mode.Dissociate ∷ Show (uuid_of 1) ∷ []) ∷ []) ≡ committed 1 (replied.Bundle (bundle (codes "t1") 0)) ∷ all_committed 2 (replied.Entry user ∷ replied.EntryShown (Some user) ∷ replied.Dropped [] (uuid_of 1 ∷ []) ∷ replied.EntryShown (Some (record (web 1) { revision = 1 })) ∷ []) ∷ []
+FreedInOneBatch = replies_from first_books (worked_batch (set (codes "t1") ∷ []) ∷ worked_batch (create user ∷ Show (worked_uuid 1) ∷ DropBundle other_domain mode.Dissociate ∷ Show (worked_uuid 1) ∷ []) ∷ []) ≡ committed 1 (replied.Bundle (bundle (codes "t1") 0)) ∷ all_committed 2 (replied.Entry user ∷ replied.EntryShown (Some user) ∷ replied.Dropped [] (worked_uuid 1 ∷ []) ∷ replied.EntryShown (Some (record (web 1) { revision = 1 })) ∷ []) ∷ []
 
 abbrev pub expiring : ℕ → Bytes → ℕ → Entry
 expiring n path moment = record (entry n agent_id (id_of path) u1) { expiry = moment }
 
 -- prune before 100: an expiry of 0 is none, that of 99 is before, and that of 100 isn't
 abbrev pub PrunesBefore : Type 0
-PrunesBefore = replies_from first_books (batch_of (create (expiring 1 (codes "/a") 0) ∷ create (expiring 2 (codes "/b") 99) ∷ create (expiring 3 (codes "/c") 100) ∷ []) ∷ batch_of (Prune 100 ∷ []) ∷ batch_of (Children agent_id ∷ []) ∷ []) ≡ all_committed 1 (replied.Entry (expiring 1 (codes "/a") 0) ∷ replied.Entry (expiring 2 (codes "/b") 99) ∷ replied.Entry (expiring 3 (codes "/c") 100) ∷ []) ∷ committed 2 (replied.Pruned (uuid_of 2 ∷ [])) ∷ answered 2 (replied.Entries (expiring 1 (codes "/a") 0 ∷ expiring 3 (codes "/c") 100 ∷ [])) ∷ []
+PrunesBefore = replies_from first_books (worked_batch (create (expiring 1 (codes "/a") 0) ∷ create (expiring 2 (codes "/b") 99) ∷ create (expiring 3 (codes "/c") 100) ∷ []) ∷ worked_batch (Prune 100 ∷ []) ∷ worked_batch (Children agent_id ∷ []) ∷ []) ≡ all_committed 1 (replied.Entry (expiring 1 (codes "/a") 0) ∷ replied.Entry (expiring 2 (codes "/b") 99) ∷ replied.Entry (expiring 3 (codes "/c") 100) ∷ []) ∷ committed 2 (replied.Pruned (worked_uuid 2 ∷ [])) ∷ worked_answer 2 (replied.Entries (expiring 1 (codes "/a") 0 ∷ expiring 3 (codes "/c") 100 ∷ [])) ∷ []
 
 -- an entry that is created and updated is at revision 1: the delete that expects 0 is refused, and nothing is kept
 abbrev pub StaleDelete : Type 0
-StaleDelete = replies_from first_books (batch_of (create (web 1) ∷ Update (given_of (api 1)) (Some 0) ∷ Delete (uuid_of 1) (Some 0) ∷ []) ∷ batch_of (Show (uuid_of 1) ∷ []) ∷ []) ≡ refused 0 2 StaleRevision ∷ answered 0 (replied.EntryShown None) ∷ []
+StaleDelete = replies_from first_books (worked_batch (create (web 1) ∷ Update (given_of (api 1)) (Some 0) ∷ Delete (worked_uuid 1) (Some 0) ∷ []) ∷ worked_batch (Show (worked_uuid 1) ∷ []) ∷ []) ≡ refused 0 2 StaleRevision ∷ worked_answer 0 (replied.EntryShown None) ∷ []
 
 -- ---- earlier books, places and tokens
 
@@ -177,23 +177,23 @@ abbrev pub page_of_all : Option ℕ → Op
 page_of_all at = Page (record { size = 2; at = at; from = None; filter = record { parent = None; identity = None; domain = None; selectors = None } })
 
 abbrev pub paged : ℕ → List Entry → Option Bytes → Reply
-paged n es next = answered n (replied.Page es next)
+paged n es next = worked_answer n (replied.Page es next)
 
 -- book 1 is still read when one of its entries is gone, book 0 has no entry, and book 3 isn't there yet
 abbrev pub EarlierBooksRead : Type 0
-EarlierBooksRead = replies_from first_books (batch_of (create (web 1) ∷ create (api 2) ∷ create (entry 3 agent_id (id_of (codes "/side")) u1) ∷ []) ∷ batch_of (Delete (uuid_of 2) None ∷ []) ∷ batch_of (page_of_all None ∷ []) ∷ batch_of (page_of_all (Some 1) ∷ []) ∷ batch_of (page_of_all (Some 0) ∷ []) ∷ batch_of (page_of_all (Some 3) ∷ []) ∷ []) ≡ all_committed 1 (replied.Entry (web 1) ∷ replied.Entry (api 2) ∷ replied.Entry (entry 3 agent_id (id_of (codes "/side")) u1) ∷ []) ∷ committed 2 (replied.Entry (api 2)) ∷ paged 2 (web 1 ∷ entry 3 agent_id (id_of (codes "/side")) u1 ∷ []) None ∷ paged 2 (web 1 ∷ api 2 ∷ []) (Some (uuid_of 2)) ∷ paged 2 [] None ∷ refused 2 0 VersionGone ∷ []
+EarlierBooksRead = replies_from first_books (worked_batch (create (web 1) ∷ create (api 2) ∷ create (entry 3 agent_id (id_of (codes "/side")) u1) ∷ []) ∷ worked_batch (Delete (worked_uuid 2) None ∷ []) ∷ worked_batch (page_of_all None ∷ []) ∷ worked_batch (page_of_all (Some 1) ∷ []) ∷ worked_batch (page_of_all (Some 0) ∷ []) ∷ worked_batch (page_of_all (Some 3) ∷ []) ∷ []) ≡ all_committed 1 (replied.Entry (web 1) ∷ replied.Entry (api 2) ∷ replied.Entry (entry 3 agent_id (id_of (codes "/side")) u1) ∷ []) ∷ committed 2 (replied.Entry (api 2)) ∷ paged 2 (web 1 ∷ entry 3 agent_id (id_of (codes "/side")) u1 ∷ []) None ∷ paged 2 (web 1 ∷ api 2 ∷ []) (Some (worked_uuid 2)) ∷ paged 2 [] None ∷ refused 2 0 VersionGone ∷ []
 
 -- a batch with minimum place 1 is refused at place 0, before its operation is checked, and runs at place 1
 abbrev pub LaterBatchWaits : Type 0
-LaterBatchWaits = replies_from first_books (record (batch_of (Authorised agent_id ∷ [])) { after = 1 } ∷ batch_of (SetAgent plain_agent ∷ []) ∷ record (batch_of (Authorised agent_id ∷ [])) { after = 1 } ∷ []) ≡ record { place = 0; outcome = Refused NotYet } ∷ committed 1 (replied.Agent plain_agent) ∷ answered 1 (replied.Entries []) ∷ []
+LaterBatchWaits = replies_from first_books (record (worked_batch (Authorised agent_id ∷ [])) { after = 1 } ∷ worked_batch (SetAgent plain_agent ∷ []) ∷ record (worked_batch (Authorised agent_id ∷ [])) { after = 1 } ∷ []) ≡ record { place = 0; outcome = Refused NotYet } ∷ committed 1 (replied.Agent plain_agent) ∷ worked_answer 1 (replied.Entries []) ∷ []
 
 abbrev pub with_token : List Op → Batch
-with_token ops = record (batch_of ops) { token = Some (uuid_of 9) }
+with_token ops = record (worked_batch ops) { token = Some (worked_uuid 9) }
 
 -- The agent is set with a token, and dropped. Setting it again with this token gets the first reply, and it stays dropped. Another batch
 -- with the token is refused.
 abbrev pub TokenKeepsReplies : Type 0
-TokenKeepsReplies = replies_from first_books (with_token (SetAgent plain_agent ∷ []) ∷ batch_of (DropAgent agent_id ∷ []) ∷ with_token (SetAgent plain_agent ∷ []) ∷ with_token (SetAgent (agent (x2 ∷ [])) ∷ []) ∷ batch_of (ShowAgent agent_id ∷ []) ∷ []) ≡ committed 1 (replied.Agent plain_agent) ∷ committed 2 (replied.Agent plain_agent) ∷ record { place = 1; outcome = Repeated (replied.Agent plain_agent ∷ []) } ∷ record { place = 2; outcome = Refused TokenReused } ∷ answered 2 (replied.AgentShown None) ∷ []
+TokenKeepsReplies = replies_from first_books (with_token (SetAgent plain_agent ∷ []) ∷ worked_batch (DropAgent agent_id ∷ []) ∷ with_token (SetAgent plain_agent ∷ []) ∷ with_token (SetAgent (agent (x2 ∷ [])) ∷ []) ∷ worked_batch (ShowAgent agent_id ∷ []) ∷ []) ≡ committed 1 (replied.Agent plain_agent) ∷ committed 2 (replied.Agent plain_agent) ∷ record { place = 1; outcome = Repeated (replied.Agent plain_agent ∷ []) } ∷ record { place = 2; outcome = Refused TokenReused } ∷ worked_answer 2 (replied.AgentShown None) ∷ []
 
 -- a batch that is refused stores nothing under its token
 abbrev pub RefusedTokenFree : Type 0
@@ -203,15 +203,15 @@ RefusedTokenFree = replies_from first_books (with_token (DropAgent agent_id ∷ 
 
 -- the first entry, without its revision, with these lifetimes
 abbrev pub web_for : ℕ → ℕ → NewEntry
-web_for x509 jwt = record { id = uuid_of 1; parent = agent_id; identity = id_of (codes "/web"); selectors = u1; hint = codes "h"; domains = []; expiry = 7; x509_svid_ttl = x509; jwt_svid_ttl = jwt }
+web_for x509 jwt = record { id = worked_uuid 1; parent = agent_id; identity = id_of (codes "/web"); selectors = u1; hint = codes "h"; domains = []; expiry = 7; x509_svid_ttl = x509; jwt_svid_ttl = jwt }
 
 abbrev pub web_at : ℕ → ℕ → ℕ → Entry
-web_at x509 jwt n = record { id = uuid_of 1; parent = agent_id; identity = id_of (codes "/web"); selectors = u1; hint = codes "h"; domains = []; expiry = 7; x509_svid_ttl = x509; jwt_svid_ttl = jwt; revision = n }
+web_at x509 jwt n = record { id = worked_uuid 1; parent = agent_id; identity = id_of (codes "/web"); selectors = u1; hint = codes "h"; domains = []; expiry = 7; x509_svid_ttl = x509; jwt_svid_ttl = jwt; revision = n }
 
 -- lifetimes are stored as given, an update sets both, and entries are similar whatever their lifetimes
 abbrev pub LifetimesKept : Type 0
-LifetimesKept = replies_from first_books (batch_of (Create (web_for 3600 60) ∷ []) ∷ batch_of (Create (record (web_for 1 2) { id = uuid_of 2 }) ∷ []) ∷ batch_of (Update (web_for 0 0) None ∷ []) ∷ []) ≡ committed 1 (replied.Entry (web_at 3600 60 0)) ∷ refused 1 0 (Similar (uuid_of 1)) ∷ committed 2 (replied.Entry (web_at 0 0 1)) ∷ []
+LifetimesKept = replies_from first_books (worked_batch (Create (web_for 3600 60) ∷ []) ∷ worked_batch (Create (record (web_for 1 2) { id = worked_uuid 2 }) ∷ []) ∷ worked_batch (Update (web_for 0 0) None ∷ []) ∷ []) ≡ committed 1 (replied.Entry (web_at 3600 60 0)) ∷ refused 1 0 (Similar (worked_uuid 1)) ∷ committed 2 (replied.Entry (web_at 0 0 1)) ∷ []
 
 -- no query adds a book
 abbrev pub QuestionsOnlyAsk : Type 0
-QuestionsOnlyAsk = replies_from first_books (batch_of (SetAgent plain_agent ∷ []) ∷ batch_of (ShowAgent agent_id ∷ []) ∷ batch_of (ShowBundle other_domain ∷ []) ∷ batch_of (Trust agent_id ∷ []) ∷ batch_of (page_of_all None ∷ []) ∷ []) ≡ committed 1 (replied.Agent plain_agent) ∷ answered 1 (replied.AgentShown (Some plain_agent)) ∷ answered 1 (replied.BundleShown None) ∷ answered 1 (replied.Bundles []) ∷ paged 1 [] None ∷ []
+QuestionsOnlyAsk = replies_from first_books (worked_batch (SetAgent plain_agent ∷ []) ∷ worked_batch (ShowAgent agent_id ∷ []) ∷ worked_batch (ShowBundle other_domain ∷ []) ∷ worked_batch (Trust agent_id ∷ []) ∷ worked_batch (page_of_all None ∷ []) ∷ []) ≡ committed 1 (replied.Agent plain_agent) ∷ worked_answer 1 (replied.AgentShown (Some plain_agent)) ∷ worked_answer 1 (replied.BundleShown None) ∷ worked_answer 1 (replied.Bundles []) ∷ paged 1 [] None ∷ []

@@ -1,7 +1,7 @@
 //! Are these operations a valid batch for a trust domain?
 
 ghost use Rattle.std.specs.Prelude.{◌≡◌, bytes_eq};
-ghost use Rattle.entry_book.specs.Batches.{agent_fault, asked_fault, batch_refusal, beside, bundle_fault, entry_fault, first_past, has_no_path, if_given, is_agent_path, is_foreign, is_outside, is_query, op_fault, ops_refusal, or_token, own_fault, page_fault, parent_fault};
+ghost use Rattle.entry_book.specs.Batches.{agent_fault, asked_fault, batch_refusal, first_past_of_many, bundle_fault, entry_fault, first_past, has_no_path, if_given, is_agent_path, is_foreign, is_outside, is_query, op_fault, ops_refusal, or_token, own_fault, page_fault, parent_fault};
 ghost use Rattle.spiffe_name.specs.Id.{path_of, server_text};
 
 use crate::agent::Agent;
@@ -35,9 +35,9 @@ pub(crate) fn refusal_of(
 
 /// Returns why operations without a fault are not a batch.
 fn later_refusal(ops: &[Op], token: &Option<Uuid>) -> Option<BatchRefusal>
-    ensures { result ≡ or_token (beside ops.now) ops.now token.now }
+    ensures { result ≡ or_token (first_past_of_many ops.now) ops.now token.now }
 {
-    if let Some(index) = beside(ops) {
+    if let Some(index) = first_past_of_many(ops) {
         return Some(BatchRefusal::PastPageNotAlone(index));
     }
     if token.is_some() && is_query(ops) {
@@ -47,8 +47,8 @@ fn later_refusal(ops: &[Op], token: &Option<Uuid>) -> Option<BatchRefusal>
 }
 
 /// Returns the index of the first page that gives the number of a book, if there are several operations.
-fn beside(ops: &[Op]) -> Option<usize>
-    ensures { result ≡ beside ops.now }
+fn first_past_of_many(ops: &[Op]) -> Option<usize>
+    ensures { result ≡ first_past_of_many ops.now }
 {
     if ops.len() > 1 { first_past(ops) } else { None }
 }

@@ -3,7 +3,7 @@
 //! Each function has an empty body. Its contract is a theorem about the definitions, stated in `specs/Laws.antt`; a caller
 //! may rely on the theorem after the call.
 
-ghost use Rattle.entry_book.specs.Laws.{AcceptedAsSaid, AgentFaults, AliasIsHeld, AllLawful, AllWithinLimits, AuthorisedEffect, AuthorisedInOrder, BatchFits, BatchKeeps, BundleFaults, ChangesCommit, ChildIsAuthorised, ChildrenEffect, CommitAdds, CountOfBooks, CreateEffect, DeleteEffect, DropAgentEffect, DropBundleEffect, EarlyRefused, EndsOfChains, EntryFaults, ExactlyOnce, FirstFault, FirstLimit, FullRefused, GoneRefused, HeldIsAuthorised, HistoryBounded, HistoryGoesOn, KeptCommitted, LawfulHistory, MatchesAsSaid, NoFault, NoOpsRefused, NoneIsPassed, OneList, OneMore, OneMoreCommits, OnePage, OpFaults, OpRefuses, OpsCompared, OthersDontMatter, OthersLeave, PageAsSaid, PageEffect, PagesListAll, PagesListOnce, PassesAsSaid, PastAnswered, PastPageRefused, PruneEffect, QueriesAnswered, QueriesOnlyAsk, QueryWrites, RefusedAsSaid, RepeatAnswered, ReuseRefused, RunFits, RunGoesOn, RunKeeps, RunOfNone, RunReplies, RunStops, SetAgentEffect, SetBundleEffect, ShowAgentEffect, ShowBundleEffect, ShowEffect, TokenRefused, TokensWritten, TooManyRefused, TrustEffect, UpdateEffect, WithinIsContains, WritesNamed, WritesOnce};
+ghost use Rattle.entry_book.specs.Laws.{AcceptedAsSaid, AgentFaults, AliasIsHeld, AllLawful, AllWithinLimits, AuthorisedEffect, AuthorisedInOrder, BatchFits, BatchKeeps, BundleFaults, ChangesCommit, ChildIsAuthorised, ChildrenEffect, CommitAdds, CountOfBooks, CreateEffect, DeleteEffect, DropAgentEffect, DropBundleEffect, EarlyRefused, EndsOfChains, EntryFaults, ExactlyOnce, FirstFault, FirstLimit, FullRefused, GoneRefused, HeldIsAuthorised, HistoryBounded, HistoryExtends, KeptCommitted, LawfulHistory, MatchesAsSaid, NoFault, NoOpsRefused, NoneIsPassed, OneList, OneMore, OneMoreCommits, OnePage, OpFaults, OpRefuses, OpsCompared, OthersDontMatter, OthersLeave, PageAsSaid, PageEffect, PagesListAll, PagesListOnce, PassesAsSaid, PastAnswered, PastPageRefused, PruneEffect, QueriesAnswered, QueriesOnlyAsk, QueryWrites, RefusedAsSaid, RepeatAnswered, ReuseRefused, RunFits, RunExtends, RunKeeps, RunOfNone, RunReplies, RunStops, SetAgentEffect, SetBundleEffect, ShowAgentEffect, ShowBundleEffect, ShowEffect, TokenRefused, TokensWritten, TooManyRefused, TrustEffect, UpdateEffect, WithinIsContains, WritesNamed, WritesOnce};
 ghost use Rattle.entry_book.specs.Rows.{agent_key, bundle_key, entry_key};
 ghost use Rattle.entry_book.specs.Tokens.{token_key};
 ghost use Rattle.entry_book.specs.Worked.{AliasHeld, AliasHeldWithMore, AliasNotHeld, AliasNotHeldWithNone, AliasOfAnother, CycleIsAuthorised, EarlierBooksRead, EmptyRefuses, FirstBatches, FreedInOneBatch, LaterBatchWaits, LifetimesKept, NothingKept, PrunesBefore, QuestionsOnlyAsk, RefusedTokenFree, SequencesCount, StaleDelete, TokenKeepsReplies};
@@ -64,9 +64,9 @@ pub fn pages()
 {}
 
 /// The result of running a batch's operations.
-pub fn runs()
+pub fn batch_runs()
     ensures stops { RunStops }
-    ensures goes_on { RunGoesOn }
+    ensures extends { RunExtends }
     ensures none { RunOfNone }
     ensures replies { RunReplies }
     ensures queries { QueryWrites }
@@ -107,7 +107,7 @@ pub fn histories()
     ensures one_more { OneMore }
     ensures one_more_commits { OneMoreCommits }
     ensures count { CountOfBooks }
-    ensures goes_on { HistoryGoesOn }
+    ensures extends { HistoryExtends }
 {}
 
 /// The outcome of batches with a token: of those with the same token, at most one is ever committed.
@@ -124,7 +124,7 @@ pub fn tokens()
 /// batch keeps a book lawful.
 pub fn lawful_books()
     ensures history { LawfulHistory }
-    ensures stands { AllLawful }
+    ensures holds_always { AllLawful }
     ensures batch { BatchKeeps }
     ensures fits { BatchFits }
 {}

@@ -9,13 +9,13 @@
 //! - [`Op`]: one operation; [`NewEntry`], what a caller gives for an entry; [`DropMode`], what happens to the entries that
 //!   name a dropped bundle's domain; and [`PageQuery`], which lists a bounded number of entries that pass a [`Filter`],
 //!   optionally with a condition on their selectors ([`SelectorMatch`], in one of four [`MatchMode`]s).
-//! - [`Reply`]: the outcome of a batch ([`Outcome`]): the [`OpReply`] of each operation, now or when the batch was first
+//! - [`Reply`]: the outcome of a batch ([`ReplyOutcome`]): the [`OpReply`] of each operation, now or when the batch was first
 //!   committed with its token; or the [`Refusal`], of a batch that is too early or reuses a token, of the first operation
 //!   that the book refuses ([`OpRefusal`]), or for a [`Limit`] of the book. A clone shares the replies.
 //! - [`Entry`], [`Agent`], [`Bundle`], [`KeptBatch`]: the rows. Cloning a row copies no text.
 //! - [`Shared`], [`Sequence`], [`Text`], [`DomainSet`]: what rows consist of. Contracts see them as a value, a list,
 //!   bytes and a set.
-//! - [`both`], [`beside`]: pairs of values, where each, or the second, may have failed for lack of memory.
+//! - [`both`], [`pair_with`]: pairs of values, where each, or the second, may have failed for lack of memory.
 //! - [`is_server`]: whether an ID is that of a trust domain's server; [`limit_passed`]: the limit that a book passes, if any.
 //! - [`laws`]: theorems about every book, such as that each reachable book is lawful.
 //!
@@ -56,8 +56,8 @@ pub use limit::{Limit, limit_passed};
 pub use mode::DropMode;
 pub use op::Op;
 pub use page::{Filter, MatchMode, PageQuery, SelectorMatch};
-pub use pair::{beside, both};
-pub use reply::{OpRefusal, OpReply, Outcome, Refusal, Reply};
+pub use pair::{pair_with, both};
+pub use reply::{OpRefusal, OpReply, ReplyOutcome, Refusal, Reply};
 pub use sequence::Sequence;
 pub use shared::Shared;
 pub use text::Text;

@@ -20,7 +20,7 @@ pub fn both<A: Drop, B: Drop>(
 }
 
 /// Returns both values if the second is there; otherwise drops the first. The error is out of memory.
-pub fn beside<A: Drop, B>(first: A, second: Result<B, AllocError>) -> Result<(A, B), AllocError>
+pub fn pair_with<A: Drop, B>(first: A, second: Result<B, AllocError>) -> Result<(A, B), AllocError>
     ensures { IfOk result (λ both. (both.0 ≡ first) × (second ≡ Ok both.1)) }
 {
     let second = second?;

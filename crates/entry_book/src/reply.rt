@@ -171,7 +171,7 @@ impl Clone for Refusal {
 
 /// The outcome of a batch. A clone shares the replies to the operations.
 #[derive(Drop)]
-pub enum Outcome {
+pub enum ReplyOutcome {
     /// The changes were made; the replies to the operations, in order.
     Committed(Shared<Sequence<OpReply>>),
     /// The batch was read-only; the replies to the operations, in order.
@@ -182,15 +182,15 @@ pub enum Outcome {
     Refused(Refusal),
 }
 
-impl Clone for Outcome {
+impl Clone for ReplyOutcome {
     ghost is_clone = { λ original copy. copy ≡ original };
 
-    fn clone(&self) -> Result<Outcome, AllocError> {
+    fn clone(&self) -> Result<ReplyOutcome, AllocError> {
         Ok(match self {
-            Outcome::Committed(replies) => Outcome::Committed(replies.clone()?),
-            Outcome::Answered(replies) => Outcome::Answered(replies.clone()?),
-            Outcome::Repeated(replies) => Outcome::Repeated(replies.clone()?),
-            Outcome::Refused(refusal) => Outcome::Refused(refusal.clone()?),
+            ReplyOutcome::Committed(replies) => ReplyOutcome::Committed(replies.clone()?),
+            ReplyOutcome::Answered(replies) => ReplyOutcome::Answered(replies.clone()?),
+            ReplyOutcome::Repeated(replies) => ReplyOutcome::Repeated(replies.clone()?),
+            ReplyOutcome::Refused(refusal) => ReplyOutcome::Refused(refusal.clone()?),
         })
     }
 }
@@ -203,7 +203,7 @@ pub struct Reply {
     /// and otherwise the number of the last book.
     pub place: u64,
     /// The outcome of the batch.
-    pub outcome: Outcome,
+    pub outcome: ReplyOutcome,
 }
 
 impl Clone for Reply {

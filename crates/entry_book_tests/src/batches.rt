@@ -1,6 +1,6 @@
 //! Which lists of operations are a batch, at each boundary.
 
-use crate::told_ops::{add, op, ops};
+use crate::ops_of_text::{add, op, ops};
 use crate::wanted::{holds, is_number, is_text};
 use entry_book::{Batch, BatchRefusal, Op, Sequence};
 use spiffe_name::{Failure, TrustDomain};
@@ -29,9 +29,9 @@ fn fault(
 }
 
 /// The result of `fault` for the batch of a text.
-fn fault_told(alloc: Global, told: &str) -> Result<(&'static str, usize), Fail> {
+fn fault_text(alloc: Global, as_text: &str) -> Result<(&'static str, usize), Fail> {
     let domain = TrustDomain::parse(alloc, "ex.org")?;
-    fault(alloc, &domain, ops(alloc, told)?)
+    fault(alloc, &domain, ops(alloc, as_text)?)
 }
 
 /// Asserts the code and the number of a batch.
@@ -42,8 +42,8 @@ fn is_fault(rt: &impl Abort, (got, at): (&str, usize), (code, number): (&str, u6
 
 /// Asserts that the code at the start of the line is that of the batch with the one operation after it.
 fn check_line(rt: &impl Abort, alloc: Global, line: &str) -> Result<(), Fail> {
-    let (code, told) = line.split_once(' ').unwrap_or((line, ""));
-    let (got, _) = fault_told(alloc, told)?;
+    let (code, as_text) = line.split_once(' ').unwrap_or((line, ""));
+    let (got, _) = fault_text(alloc, as_text)?;
     is_text(rt, got, code, line);
     Ok(())
 }
@@ -107,42 +107,42 @@ create /spire/agent/n1 /spire/server hint=1025 selectors=0; \
 authorised spiffe://b.org/spire/agent/n1";
 
 #[test]
-fn the_first_operations_least_fault_is_told(rt: HostRuntime) -> Result<(), Fail> {
-    is_fault(&rt, fault_told(rt.alloc(), SECOND_IS_FAULTY)?, ("B5", 1));
+fn the_first_operations_least_fault_is_reported(rt: HostRuntime) -> Result<(), Fail> {
+    is_fault(&rt, fault_text(rt.alloc(), SECOND_IS_FAULTY)?, ("B5", 1));
     Ok(())
 }
 
-fn add_behind_a_question(alloc: Global, ops: &mut Sequence<Op>, told: &str) -> Result<(), Fail> {
+fn add_behind_a_question(alloc: Global, ops: &mut Sequence<Op>, as_text: &str) -> Result<(), Fail> {
     add(alloc, ops, QUESTION)?;
-    add(alloc, ops, told)
+    add(alloc, ops, as_text)
 }
 
 /// A query, and the operation of a text after it.
-fn behind_a_question(alloc: Global, told: &str) -> Result<Sequence<Op>, Fail> {
+fn behind_a_question(alloc: Global, as_text: &str) -> Result<Sequence<Op>, Fail> {
     let mut ops = Sequence::empty(alloc);
-    let added = add_behind_a_question(alloc, &mut ops, told);
+    let added = add_behind_a_question(alloc, &mut ops, as_text);
     where_done(added, ops)
 }
 
 /// A copy of the batch of a query and the operation of a text.
-fn batch_behind_a_question(alloc: Global, told: &str) -> Result<Batch, Fail> {
-    let own = TrustDomain::parse(alloc, "ex.org")?;
-    let ops = behind_a_question(alloc, told)?;
-    copy(Batch::new(alloc, &own, ops, 0, None)?)
+fn batch_behind_a_question(alloc: Global, as_text: &str) -> Result<Batch, Fail> {
+    let own_domain = TrustDomain::parse(alloc, "ex.org")?;
+    let ops = behind_a_question(alloc, as_text)?;
+    copy(Batch::new(alloc, &own_domain, ops, 0, None)?)
 }
 
-fn op_is_question(alloc: Global, told: &str) -> Result<bool, Fail> {
-    let op = op(alloc, told)?;
+fn op_is_question(alloc: Global, as_text: &str) -> Result<bool, Fail> {
+    let op = op(alloc, as_text)?;
     Ok(op.is_question())
 }
 
 /// Asserts whether the operation is read-only, and that a batch of a query and this operation is so too.
-fn asks(rt: &impl Abort, alloc: Global, told: &str, is_question: bool) -> Result<(), Fail> {
-    let is_told_question = op_is_question(alloc, told)?;
-    holds(rt, is_told_question == is_question, told);
-    let batch = batch_behind_a_question(alloc, told)?;
-    holds(rt, batch.is_query() == is_question, told);
-    is_text(rt, batch.domain().as_str(), "ex.org", told);
+fn asks(rt: &impl Abort, alloc: Global, as_text: &str, is_question: bool) -> Result<(), Fail> {
+    let is_question_text = op_is_question(alloc, as_text)?;
+    holds(rt, is_question_text == is_question, as_text);
+    let batch = batch_behind_a_question(alloc, as_text)?;
+    holds(rt, batch.is_query() == is_question, as_text);
+    is_text(rt, batch.domain().as_str(), "ex.org", as_text);
     Ok(())
 }
 

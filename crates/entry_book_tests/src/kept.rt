@@ -1,7 +1,7 @@
 //! What does a batch carry besides its operations, and when are two batches' operations the same?
 
 use crate::making::uuid;
-use crate::told_ops::ops;
+use crate::ops_of_text::ops;
 use crate::wanted::{holds, is_number, is_text};
 use entry_book::{Batch, KeptBatch, Op, Sequence, Shared};
 use spiffe_name::{Failure, TrustDomain};
@@ -13,7 +13,7 @@ use uuid::Uuid;
 
 /// The code of the refusal of a text's batch and the index of the operation at fault, or `ok` and the number of the book that the
 /// batch reads; 99 means none.
-fn told(alloc: Global, batch: &str, token: Option<Uuid>) -> Result<(&'static str, u64), Fail> {
+fn as_text(alloc: Global, batch: &str, token: Option<Uuid>) -> Result<(&'static str, u64), Fail> {
     let domain = TrustDomain::parse(alloc, "ex.org")?;
     let ops = ops(alloc, batch)?;
     match Batch::new(alloc, &domain, ops, 0, token) {
@@ -25,12 +25,12 @@ fn told(alloc: Global, batch: &str, token: Option<Uuid>) -> Result<(&'static str
     }
 }
 
-/// Checks a line: a code, a number, a colon, and the batch that gets them from `told`.
-fn is_told(rt: &impl Abort, alloc: Global, line: &str, token: Option<Uuid>) -> Result<(), Fail> {
-    let (want, batch) = line.split_once(": ").unwrap_or((line, ""));
-    let (code, number) = want.split_once(' ').unwrap_or((want, ""));
+/// Checks a line: a code, a number, a colon, and the batch that gets them from `as_text`.
+fn is_as_text(rt: &impl Abort, alloc: Global, line: &str, token: Option<Uuid>) -> Result<(), Fail> {
+    let (expected, batch) = line.split_once(": ").unwrap_or((line, ""));
+    let (code, number) = expected.split_once(' ').unwrap_or((expected, ""));
     let number = number.parse::<u64>()?;
-    let (got, at) = told(alloc, batch, token)?;
+    let (got, at) = as_text(alloc, batch, token)?;
     is_text(rt, got, code, line);
     is_number(rt, at, number, line);
     Ok(())
@@ -44,9 +44,9 @@ B9 1: page 1 at=7; page 501
 ";
 
 #[test]
-fn a_page_of_an_earlier_book_stands_alone(rt: HostRuntime) -> Result<(), Fail> {
+fn a_page_of_an_earlier_book_is_alone(rt: HostRuntime) -> Result<(), Fail> {
     for line in PAGES_OF_BOOKS.lines() {
-        is_told(&rt, rt.alloc(), line, None)?;
+        is_as_text(&rt, rt.alloc(), line, None)?;
     }
     Ok(())
 }
@@ -61,7 +61,7 @@ B14 99: page 1 at=7
 #[test]
 fn a_token_is_for_changes(rt: HostRuntime) -> Result<(), Fail> {
     for line in WITH_A_TOKEN.lines() {
-        is_told(&rt, rt.alloc(), line, Some(uuid()))?;
+        is_as_text(&rt, rt.alloc(), line, Some(uuid()))?;
     }
     Ok(())
 }
@@ -101,28 +101,28 @@ fn kept(alloc: Global, ops: Sequence<Op>) -> Result<KeptBatch, Fail> {
 }
 
 /// Copies of the operations of a text.
-fn copies(alloc: Global, told: &str) -> Result<Sequence<Op>, Fail> {
-    copy(ops(alloc, told)?)
+fn copies(alloc: Global, as_text: &str) -> Result<Sequence<Op>, Fail> {
+    copy(ops(alloc, as_text)?)
 }
 
 /// Returns true if a stored batch has the operations of a text.
-fn has_ops(alloc: Global, kept: &KeptBatch, told: &str) -> Result<bool, Fail> {
-    let ops = copies(alloc, told)?;
+fn has_ops(alloc: Global, kept: &KeptBatch, as_text: &str) -> Result<bool, Fail> {
+    let ops = copies(alloc, as_text)?;
     Ok(kept.has_ops(ops.as_slice()))
 }
 
 /// Returns true if a stored batch of the operations of one text has those of another text.
-fn is_same(alloc: Global, told: &str, other: &str) -> Result<bool, Fail> {
-    let kept = kept(alloc, copies(alloc, told)?)?;
+fn is_same(alloc: Global, as_text: &str, other: &str) -> Result<bool, Fail> {
+    let kept = kept(alloc, copies(alloc, as_text)?)?;
     has_ops(alloc, &kept, other)
 }
 
 /// Asserts that an operation equals one of the same text, and differs from the one after the bar.
 fn compare(rt: &impl Abort, alloc: Global, line: &str) -> Result<(), Fail> {
-    let (told, other) = line.split_once(" | ").unwrap_or((line, line));
-    holds(rt, is_same(alloc, told, told)?, told);
-    holds(rt, !is_same(alloc, told, other)?, line);
-    holds(rt, !is_same(alloc, other, told)?, line);
+    let (as_text, other) = line.split_once(" | ").unwrap_or((line, line));
+    holds(rt, is_same(alloc, as_text, as_text)?, as_text);
+    holds(rt, !is_same(alloc, as_text, other)?, line);
+    holds(rt, !is_same(alloc, other, as_text)?, line);
     Ok(())
 }
 
@@ -241,10 +241,10 @@ fn questions_to_selectors_are_compared(rt: HostRuntime) -> Result<(), Fail> {
 #[test]
 fn order_and_count_are_compared(rt: HostRuntime) -> Result<(), Fail> {
     let alloc = rt.alloc();
-    let told = "prune 1; prune 2";
-    let is_turned = is_same(alloc, told, "prune 2; prune 1")?;
+    let as_text = "prune 1; prune 2";
+    let is_turned = is_same(alloc, as_text, "prune 2; prune 1")?;
     holds(&rt, !is_turned, "turned");
-    let is_first = is_same(alloc, told, "prune 1")?;
+    let is_first = is_same(alloc, as_text, "prune 1")?;
     holds(&rt, !is_first, "the first alone");
     Ok(())
 }

@@ -8,7 +8,7 @@ fn the_laws_can_be_called() {
     laws::authorised_entries();
     laws::effects();
     laws::pages();
-    laws::runs();
+    laws::batch_runs();
     laws::faults();
     laws::histories();
     laws::tokens();

@@ -4,7 +4,7 @@
 //!
 //! - `batches`: batches and their refusals; `pages`: those of pages; `kept`: what a batch carries besides its operations, and
 //!   when operations are the same; `rows`: what rows consist of; `limits`: when a limit is passed; `laws`: each theorem is called.
-//! - `making`: entries, and the parts of operations; `told_ops`: operations from the words of a text; `wanted`: assertions.
+//! - `making`: entries, and the parts of operations; `ops_of_text`: operations from the words of a text; `wanted`: assertions.
 //!
 //! `docs/GLOSSARY.md` explains the terms.
 #![tactic(auto)]
@@ -24,6 +24,6 @@ mod pages;
 #[cfg(test)]
 mod rows;
 #[cfg(test)]
-mod told_ops;
+mod ops_of_text;
 #[cfg(test)]
 mod wanted;

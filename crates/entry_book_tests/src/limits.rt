@@ -33,7 +33,7 @@ fn the_book_after_2_to_the_48_commits_is_the_last(rt: HostRuntime) -> Result<(),
 }
 
 #[test]
-fn the_first_limit_is_told(rt: HostRuntime) -> Result<(), Fail> {
+fn the_first_limit_is_reported(rt: HostRuntime) -> Result<(), Fail> {
     let (history, entries) = (Some(Limit::History), Some(Limit::Entries));
     let (agents, bundles) = (Some(Limit::Agents), Some(Limit::Bundles));
     let too_many = (16_385, 4_097, 1_025, 65_537);

@@ -56,6 +56,6 @@ B3 page 0 identity=spiffe://b.org/spire/agent/n1
 ";
 
 #[test]
-fn a_pages_least_fault_is_told(rt: HostRuntime) -> Result<(), Fail> {
+fn a_pages_least_fault_is_reported(rt: HostRuntime) -> Result<(), Fail> {
     check(&rt, rt.alloc(), FAULTS)
 }

@@ -1,7 +1,7 @@
 //! What rows consist of, and what their methods return.
 
 use crate::making::{N1, SERVER, WEB, domain, id};
-use crate::told_ops::created;
+use crate::ops_of_text::created;
 use crate::wanted::{holds, is_number, is_text};
 use entry_book::{DomainSet, Entry, Sequence, Text, is_server};
 use spiffe_name::TrustDomain;
@@ -11,8 +11,8 @@ use std::test::Fail;
 use test_support::copy;
 
 /// The entry that the operation of this text creates, at revision 3.
-fn entry(alloc: Global, told: &str) -> Result<Entry, Fail> {
-    let given = created(alloc, told)?;
+fn entry(alloc: Global, as_text: &str) -> Result<Entry, Fail> {
+    let given = created(alloc, as_text)?;
     Ok(Entry::at_revision(&given, 3)?)
 }
 
@@ -31,8 +31,8 @@ fn has_two_domains(rt: &impl Abort, domains: &DomainSet) {
 
 #[test]
 fn the_parts_of_an_entry_are_those_that_were_given(rt: HostRuntime) -> Result<(), Fail> {
-    let told = "create /spire/agent/n1 /web hint=2 domains=2";
-    let entry = copy(entry(rt.alloc(), told)?)?;
+    let as_text = "create /spire/agent/n1 /web hint=2 domains=2";
+    let entry = copy(entry(rt.alloc(), as_text)?)?;
     let last = entry.id().as_bytes()[15];
     is_number(&rt, u64::from(last), 7, "id");
     is_text(&rt, entry.parent().get().as_str(), N1, "parent");
@@ -68,8 +68,8 @@ fn is_dissociated(
 
 #[test]
 fn an_entry_says_what_it_is_asked(rt: HostRuntime) -> Result<(), Fail> {
-    let told = "create /spire/agent/n1 /web domains=1";
-    let entry = entry(rt.alloc(), told)?;
+    let as_text = "create /spire/agent/n1 /web domains=1";
+    let entry = entry(rt.alloc(), as_text)?;
     holds(&rt, !entry.is_stale(None), "no revision");
     holds(&rt, !entry.is_stale(Some(3)), "revision 3");
     holds(&rt, entry.is_stale(Some(2)), "revision 2");
@@ -84,23 +84,23 @@ fn an_entry_says_what_it_is_asked(rt: HostRuntime) -> Result<(), Fail> {
 fn is_servers(
     rt: &impl Abort,
     alloc: Global,
-    own: &TrustDomain,
+    own_domain: &TrustDomain,
     text: &str,
     is_it: bool,
 ) -> Result<(), Fail> {
     let id = id(alloc, text)?;
-    holds(rt, is_server(own, id.get()) == is_it, text);
+    holds(rt, is_server(own_domain, id.get()) == is_it, text);
     Ok(())
 }
 
 #[test]
 fn the_server_has_one_id(rt: HostRuntime) -> Result<(), Fail> {
     let alloc = rt.alloc();
-    let own = domain(alloc, "ex.org")?;
-    is_servers(&rt, alloc, own.get(), SERVER, true)?;
-    is_servers(&rt, alloc, own.get(), N1, false)?;
+    let own_domain = domain(alloc, "ex.org")?;
+    is_servers(&rt, alloc, own_domain.get(), SERVER, true)?;
+    is_servers(&rt, alloc, own_domain.get(), N1, false)?;
     let other = "spiffe://b.org/spire/server";
-    is_servers(&rt, alloc, own.get(), other, false)
+    is_servers(&rt, alloc, own_domain.get(), other, false)
 }
 
 #[test]

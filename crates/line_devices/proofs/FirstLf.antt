@@ -7,7 +7,7 @@ use Rattle.std.proofs.lemmas.List.{get_or-take, length-take, take_more}
 use Rattle.std.proofs.lemmas.List.Folds.{list_any_at, list_any_none}
 use Rattle.std.proofs.lemmas.List.Sums.{fails_before_first}
 use Rattle.std.proofs.lemmas.List.Quantifiers.{position-Some}
-use Rattle.line_devices.specs.Lines.{has_lf, IsWhole}
+use Rattle.line_devices.specs.Lines.{has_lf, IsWholeLine}
 
 is_ten : (b : ℕ) → (b == 10) ≡ true → b ≡ 10
 is_ten b t = grind (arith, nat_tests)
@@ -26,7 +26,7 @@ no_lf_before bytes at before =
     let m : k < at = omega (arith, length-take at bytes) in
     ap (λ b. b == 10) (get_or-take at bytes k d m) ∙ before k d m)
 
-pub whole_at : (bytes : List ℕ) (at : ℕ) → position (λ b. b == 10) bytes ≡ Some at → (at + 1 ≤ length bytes) × IsWhole (take (at + 1) bytes)
+pub whole_at : (bytes : List ℕ) (at : ℕ) → position (λ b. b == 10) bytes ≡ Some at → (at + 1 ≤ length bytes) × IsWholeLine (take (at + 1) bytes)
 whole_at bytes at some =
     let p = position-Some (λ b. b == 10) bytes at 0 some in
     (omega (arith, p.0), (take at bytes, no_lf_before bytes at (λ k d h. (position-Some (λ b. b == 10) bytes at d some).2 k h), take_more bytes at 0 p.0 ∙ ap (λ b. take at bytes ++ b ∷ []) (is_ten _ p.1)))

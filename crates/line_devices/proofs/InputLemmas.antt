@@ -4,14 +4,14 @@ use Rattle.std.specs.Prelude.{MatchBool, IsTrue, ◌↔◌, ⊤}
 use Rattle.std.proofs.lemmas.Bool.{false≢true}
 use Rattle.std.proofs.lemmas.List.Folds.{list_any-append}
 use Rattle.std.specs.Io.KnownBytes.{Consumes, IsAtEnd, Keeps, prepend_known}
-use Rattle.line_devices.specs.Lines.{onto_line, lines_of, has_lf, kept, kept_bytes, TakesLine}
+use Rattle.line_devices.specs.Lines.{onto_line, lines_of, has_lf, stored_part, kept_bytes, TakesLine}
 use Rattle.line_devices.specs.StreamPrivate.{MovesLine}
 
 -- a part of the first line without its LF was read, and `line` is what is kept of it
 abbrev pub IsBegun : Option (List ℕ) → Option (List ℕ) → List ℕ → Type 0
 IsBegun None new line = ⊤
 IsBegun (Some xs) None line = ⊥
-IsBegun (Some xs) (Some ys) line = (seen : List ℕ) × (has_lf seen ≡ false) × (xs ≡ seen ++ ys) × (line ≡ kept seen)
+IsBegun (Some xs) (Some ys) line = (seen : List ℕ) × (has_lf seen ≡ false) × (xs ≡ seen ++ ys) × (line ≡ stored_part seen)
 
 take_nil : (n : ℕ) → take n [] ≡ (let l : List ℕ = [] in l)
 take_nil zero = refl
@@ -22,8 +22,8 @@ take-take_append zero xs ys = refl
 take-take_append (suc n) [] ys = refl
 take-take_append (suc n) (x ∷ xs) ys = ap (λ l. x ∷ l) (take-take_append n xs ys)
 
-kept_more : (line seen part new : List ℕ) → line ≡ kept seen → new ≡ kept (line ++ part) → new ≡ kept (seen ++ part)
-kept_more line seen part new e f = f ∙ (ap (λ l. kept (l ++ part)) e ∙ take-take_append kept_bytes seen part)
+kept_more : (line seen part new : List ℕ) → line ≡ stored_part seen → new ≡ stored_part (line ++ part) → new ≡ stored_part (seen ++ part)
+kept_more line seen part new e f = f ∙ (ap (λ l. stored_part (l ++ part)) e ∙ take-take_append kept_bytes seen part)
 
 take-nil_from : (n : ℕ) (seen : List ℕ) → 0 < n → take n seen ≡ [] → seen ≡ []
 take-nil_from zero seen l e = absurd (omega arith)
@@ -34,7 +34,7 @@ some_kept : 0 < kept_bytes
 unfolding kept_bytes
 some_kept = lit< tt
 
-kept-nil : (seen : List ℕ) → kept seen ≡ [] → seen ≡ []
+kept-nil : (seen : List ℕ) → stored_part seen ≡ [] → seen ≡ []
 kept-nil seen e = take-nil_from kept_bytes seen some_kept e
 
 no_lf-append : (xs ys : List ℕ) → has_lf xs ≡ false → has_lf ys ≡ false → has_lf (xs ++ ys) ≡ false
@@ -88,7 +88,7 @@ TakesLine-whole (Some xs) (Some z) held mid line new p m =
     let whole : (p.0 ++ w.0) ++ 10 ∷ [] ≡ p.0 ++ m.0 = append_assoc p.0 w.0 (10 ∷ []) ∙ ap (λ l. p.0 ++ l) (sym w.2) in
     (p.0 ++ m.0, ap lines_of bytes ∙ (lines_of-whole (p.0 ++ w.0) (mid ++ z) (no_lf-append p.0 w.0 p.1 w.1) ∙ ap (λ l. l ∷ lines_of (mid ++ z)) whole), kept_more line p.0 m.0 new p.3 m.2)
 
-ended : (xs y line : List ℕ) (seen : List ℕ) (is_empty : Bool) → has_lf seen ≡ false → xs ≡ seen ++ y → line ≡ kept seen → y ≡ [] → IsTrue is_empty ↔ (line ≡ []) → MatchBool (not is_empty) (TakesLine (Some xs) (Some y) line) ((xs ≡ []) × (y ≡ []))
+ended : (xs y line : List ℕ) (seen : List ℕ) (is_empty : Bool) → has_lf seen ≡ false → xs ≡ seen ++ y → line ≡ stored_part seen → y ≡ [] → IsTrue is_empty ↔ (line ≡ []) → MatchBool (not is_empty) (TakesLine (Some xs) (Some y) line) ((xs ≡ []) × (y ≡ []))
 ended xs y line [] false none e f g empty = absurd (false≢true (empty.1 (f ∙ take_nil kept_bytes)))
 ended xs y line (x ∷ seen) false none e f g empty = (x ∷ seen, ap lines_of (e ∙ (ap (λ l. x ∷ seen ++ l) g ∙ append-nil (x ∷ seen))) ∙ (lines_of-rest x seen none ∙ ap (λ l. (x ∷ seen) ∷ lines_of l) (sym g)), f)
 ended xs y line seen true none e f g empty = (e ∙ (ap (λ l. l ++ y) (kept-nil seen (sym f ∙ empty.0 refl)) ∙ g), g)

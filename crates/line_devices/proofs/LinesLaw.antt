@@ -2,7 +2,7 @@
 use Rattle.std.proofs.Common.{◌≡◌, ◌≢◌, ◌==◌, ◌||◌, ℕ, Bool, true, false, cond, List, [], ◌∷◌, ◌++◌, refl, sym, ap, ◌∙◌, append-nil, append_assoc, inl, inr, arith}
 use Rattle.std.specs.List.{concat}
 use Rattle.std.proofs.lemmas.Bool.Decides.{nat_tests}
-use Rattle.line_devices.specs.Lines.{onto_line, lines_of, has_lf, IsWhole, AreLines}
+use Rattle.line_devices.specs.Lines.{onto_line, lines_of, has_lf, IsWholeLine, AreLines}
 use Rattle.line_devices.proofs.InputLemmas.{lines_of-whole, lines_of-rest}
 
 concat-onto_line : (x : ℕ) (ls : List (List ℕ)) → concat (onto_line x ls) ≡ x ∷ concat ls
@@ -20,13 +20,13 @@ concat-lines_of (x ∷ xs) = concat-cond (x == 10) x (lines_of xs) ∙ ap (λ l.
 is_ten : (x : ℕ) → (x == 10) ≡ true → x ≡ 10
 is_ten x e = grind (arith, nat_tests)
 
-IsWhole-lf : (x : ℕ) → (x == 10) ≡ true → IsWhole (x ∷ [])
+IsWhole-lf : (x : ℕ) → (x == 10) ≡ true → IsWholeLine (x ∷ [])
 IsWhole-lf x e = ([], refl, ap (λ b. b ∷ []) (is_ten x e))
 
 no_lf-cons : (x : ℕ) (l : List ℕ) → (x == 10) ≡ false → has_lf l ≡ false → has_lf (x ∷ l) ≡ false
 no_lf-cons x l e f = ap (λ v. v || has_lf l) e ∙ f
 
-IsWhole-cons : (x : ℕ) (l : List ℕ) → (x == 10) ≡ false → IsWhole l → IsWhole (x ∷ l)
+IsWhole-cons : (x : ℕ) (l : List ℕ) → (x == 10) ≡ false → IsWholeLine l → IsWholeLine (x ∷ l)
 IsWhole-cons x l e w = (x ∷ w.0, no_lf-cons x w.0 e w.1, ap (λ l. x ∷ l) w.2)
 
 some_byte : (x : ℕ) (l : List ℕ) → x ∷ l ≢ []
@@ -50,7 +50,7 @@ pub AreLines-lines_of : (bytes : List ℕ) → AreLines (lines_of bytes)
 AreLines-lines_of [] = tt
 AreLines-lines_of (x ∷ xs) = AreLines-cond (x == 10) x (lines_of xs) refl (AreLines-lines_of xs)
 
-whole_first : (line : List ℕ) (rest : List ℕ) → IsWhole line → lines_of (line ++ rest) ≡ line ∷ lines_of rest
+whole_first : (line : List ℕ) (rest : List ℕ) → IsWholeLine line → lines_of (line ++ rest) ≡ line ∷ lines_of rest
 whole_first line rest w =
     ap (λ l. lines_of (l ++ rest)) w.2 ∙ (ap lines_of (append_assoc w.0 (10 ∷ []) rest) ∙ (lines_of-whole w.0 rest w.1 ∙ ap (λ l. l ∷ lines_of rest) (sym w.2)))
 

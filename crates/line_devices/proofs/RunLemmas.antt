@@ -4,8 +4,8 @@ use Rattle.std.specs.Prelude.{⊤, IfSome}
 use Rattle.std.specs.Io.KnownBytes.{Appends, Consumes, IsAtEnd}
 use Rattle.std.proofs.lemmas.List.{take_at, take_all, take-take, take-append-drop}
 use Rattle.line_devices.specs.Lines.{has_lf, lines_of, AreLines, IsLine, TakesLine}
-use Rattle.line_devices.specs.Stream.{OutputState, AppendsFront, Puts, stopped, whole, cut}
-use Rattle.line_devices.specs.Runs.{IsRun, first_lines, StepsKept, AppendsRun, AppendsRunFront, TakesLines}
+use Rattle.line_devices.specs.Stream.{OutputState, AppendsPrefix, Puts, stopped, whole, cut}
+use Rattle.line_devices.specs.Runs.{IsRun, first_lines, StepsKept, AppendsRun, AppendsRunPrefix, TakesLines}
 use Rattle.line_devices.proofs.LinesLaw.{AreLines-lines_of}
 use Rattle.line_devices.proofs.Puts.{Puts-nil, Puts-then, Puts-same}
 
@@ -73,10 +73,10 @@ above_zero : (n : ℕ) → 0 < n → n ≡ 0 → ⊥
 above_zero n h e = omega arith
 
 -- what was put has reached the sink, or a prefix of it has
-pub front_put : (a b : OutputState) (text : List ℕ) → a.failures ≡ 0 → a.held ≡ [] → Puts a b text → AppendsFront a.written b.written text
-front_put a b text f h (stopped p q) = absurd (above_zero _ p f)
-front_put a b text f h (whole p q sent s e) = (sent, b.held, ap (λ l. l ++ text) (sym h) ∙ e, s)
-front_put a b text f h (cut p q s) = (s.0, s.1, ap (λ l. l ++ text) (sym h) ∙ s.2, s.3)
+pub prefix_put : (a b : OutputState) (text : List ℕ) → a.failures ≡ 0 → a.held ≡ [] → Puts a b text → AppendsPrefix a.written b.written text
+prefix_put a b text f h (stopped p q) = absurd (above_zero _ p f)
+prefix_put a b text f h (whole p q sent s e) = (sent, b.held, ap (λ l. l ++ text) (sym h) ∙ e, s)
+prefix_put a b text f h (cut p q s) = (s.0, s.1, ap (λ l. l ++ text) (sym h) ∙ s.2, s.3)
 
 pub all_put : (a b : OutputState) (text : List ℕ) → a.failures ≡ 0 → a.held ≡ [] → b.failures ≡ 0 → b.held ≡ [] → Puts a b text → Appends a.written b.written text
 all_put a b text f h g k (stopped p q) = absurd (above_zero _ p f)
@@ -140,16 +140,16 @@ pub lines_more : (xs : List ℕ) (count most : ℕ) → count ≤ most → first
 lines_more xs count most l =
     ap (λ ls. ls ++ drop count (take most (lines_of xs))) (sym (take-take count most (lines_of xs) l)) ∙ take-append-drop count (take most (lines_of xs))
 
-pub front_longer : (a b : Option (List ℕ)) (t u : List ℕ) → AppendsFront a b t → AppendsFront a b (t ++ u)
-front_longer a b t u f = (f.0, f.1 ++ u, ap (λ w. w ++ u) f.2 ∙ append_assoc f.0 f.1 u, f.3)
+pub prefix_longer : (a b : Option (List ℕ)) (t u : List ℕ) → AppendsPrefix a b t → AppendsPrefix a b (t ++ u)
+prefix_longer a b t u f = (f.0, f.1 ++ u, ap (λ w. w ++ u) f.2 ∙ append_assoc f.0 f.1 u, f.3)
 
 -- In every case, the sink has a prefix of the replies to all lines.
-pub AppendsRunFront-of : {State : Type 0} (step : State → List ℕ → State → List ℕ → Type 0) → ((s : State) (l : List ℕ) → (next : State) × (reply : List ℕ) × step s l next reply) → (first : State) (all left : Option (List ℕ)) (start now : OutputState) (count most : ℕ) (last : State) → start.failures ≡ 0 → start.held ≡ [] → count ≤ most → RunsFrom step first all left start now count last → IfSome all (λ bytes. AppendsRunFront step first (first_lines most bytes) start.written now.written)
-AppendsRunFront-of step answers first None left start now count most last f h l w = tt
-AppendsRunFront-of step answers first (Some xs) None start now count most last f h l w = absurd w
-AppendsRunFront-of step answers first (Some xs) (Some ys) start now count most last f h l w =
+pub AppendsRunPrefix-of : {State : Type 0} (step : State → List ℕ → State → List ℕ → Type 0) → ((s : State) (l : List ℕ) → (next : State) × (reply : List ℕ) × step s l next reply) → (first : State) (all left : Option (List ℕ)) (start now : OutputState) (count most : ℕ) (last : State) → start.failures ≡ 0 → start.held ≡ [] → count ≤ most → RunsFrom step first all left start now count last → IfSome all (λ bytes. AppendsRunPrefix step first (first_lines most bytes) start.written now.written)
+AppendsRunPrefix-of step answers first None left start now count most last f h l w = tt
+AppendsRunPrefix-of step answers first (Some xs) None start now count most last f h l w = absurd w
+AppendsRunPrefix-of step answers first (Some xs) (Some ys) start now count most last f h l w =
     let more = IsRun-on step answers last (drop count (first_lines most xs)) in
     let P : List (List ℕ) → Type 0 = λ ls. IsRun step first ls last w.text in
     let Q : List (List ℕ) → Type 0 = λ ls. IsRun step first ls more.0 (w.text ++ more.1) in
     let so_far = subst P (lines_done xs ys w.done count w.lines w.counted) w.run in
-    (more.0, w.text ++ more.1, subst Q (lines_more xs count most l) (IsRun-append step first last more.0 _ _ w.text more.1 so_far more.2), front_longer _ _ _ _ (front_put _ _ _ f h w.put))
+    (more.0, w.text ++ more.1, subst Q (lines_more xs count most l) (IsRun-append step first last more.0 _ _ w.text more.1 so_far more.2), prefix_longer _ _ _ _ (prefix_put _ _ _ f h w.put))

@@ -26,22 +26,22 @@ unfoldable pub most_lines : ℕ
 most_lines = 2 ^ 48
 
 -- what is kept of a line: its first bytes
-abbrev pub kept : List ℕ → List ℕ
-kept line = take kept_bytes line
+abbrev pub stored_part : List ℕ → List ℕ
+stored_part line = take kept_bytes line
 
 -- a line with its LF, which is its only one
-abbrev pub IsWhole : List ℕ → Type 0
-IsWhole line = (front : List ℕ) × (has_lf front ≡ false) × (line ≡ front ++ 10 ∷ [])
+abbrev pub IsWholeLine : List ℕ → Type 0
+IsWholeLine line = (front : List ℕ) × (has_lf front ≡ false) × (line ≡ front ++ 10 ∷ [])
 
 -- a whole line, or a non-empty part of one without an LF
 abbrev pub IsLine : List ℕ → Type 0
-IsLine line = IsWhole line ⊎ ((has_lf line ≡ false) × (line ≢ []))
+IsLine line = IsWholeLine line ⊎ ((has_lf line ≡ false) × (line ≢ []))
 
 -- each line is whole, except that the last may be a non-empty part without an LF
 abbrev pub AreLines : List (List ℕ) → Type 0
 AreLines [] = ⊤
 AreLines (line ∷ []) = IsLine line
-AreLines (line ∷ next ∷ lines) = IsWhole line × AreLines (next ∷ lines)
+AreLines (line ∷ next ∷ lines) = IsWholeLine line × AreLines (next ∷ lines)
 
 -- The lines of bytes, concatenated, are the bytes, and no other list of lines is.
 abbrev pub LinesJoin : Type 0
@@ -57,7 +57,7 @@ OnlyLinesJoin = (lines : List (List ℕ)) → AreLines lines → lines ≡ lines
 abbrev pub TakesLine : Option (List ℕ) → Option (List ℕ) → List ℕ → Type 0
 TakesLine None new line = ⊤
 TakesLine (Some xs) None line = ⊥
-TakesLine (Some xs) (Some ys) line = (whole : List ℕ) × (lines_of xs ≡ whole ∷ lines_of ys) × (line ≡ kept whole)
+TakesLine (Some xs) (Some ys) line = (whole : List ℕ) × (lines_of xs ≡ whole ∷ lines_of ys) × (line ≡ stored_part whole)
 
 -- the next line was read, or false is returned at the end; a failed call may lose a part of a line
 abbrev pub GivesLine : {E : Type 0} → Option (List ℕ) → Option (List ℕ) → List ℕ → Result Bool E → Type 0

@@ -22,12 +22,12 @@ abbrev pub IsOut : OutputState → Type 0
 IsOut output = (output.held ≡ []) × IsTrue output.is_flushed
 
 -- if the bytes are known, they grow by a prefix of the text
-abbrev pub AppendsFront : Option (List ℕ) → Option (List ℕ) → List ℕ → Type 0
-AppendsFront old new text = (front : List ℕ) × (rest : List ℕ) × (text ≡ front ++ rest) × Appends old new front
+abbrev pub AppendsPrefix : Option (List ℕ) → Option (List ℕ) → List ℕ → Type 0
+AppendsPrefix old new text = (front : List ℕ) × (rest : List ℕ) × (text ≡ front ++ rest) × Appends old new front
 
 -- The text is appended to the buffered bytes. A prefix of these goes to the sink, and the rest stays buffered. If a call fails, the
 -- sink gets a prefix of them. After a failed call, nothing changes any more.
 pub data Puts (old new : OutputState) (text : List ℕ) : Type 0 where
   stopped : 0 < old.failures → new ≡ old → Puts old new text
   whole : old.failures ≡ 0 → new.failures ≡ 0 → (sent : List ℕ) → Appends old.written new.written sent → old.held ++ text ≡ sent ++ new.held → Puts old new text
-  cut : old.failures ≡ 0 → new.failures ≡ 1 → AppendsFront old.written new.written (old.held ++ text) → Puts old new text
+  cut : old.failures ≡ 0 → new.failures ≡ 1 → AppendsPrefix old.written new.written (old.held ++ text) → Puts old new text

@@ -27,7 +27,7 @@ impl Model for Line {
 
 impl Line {
     ghost use Rattle.std.specs.Prelude.{◌≡◌, ◌↔◌, ◌++◌, [], IfOk, IsTrue};
-    ghost use Rattle.line_devices.specs.Lines.{kept};
+    ghost use Rattle.line_devices.specs.Lines.{stored_part};
 
     /// Makes an empty line. The error is out of memory.
     #[tactic(auto, unfolding(crate::specs::Lines::kept_bytes))]
@@ -63,7 +63,7 @@ impl Line {
     /// Appends the next part, as far as it is kept.
     #[tactic(auto, unfolding(crate::specs::Lines::kept_bytes))]
     pub(crate) fn keep(&mut self, part: &[u8])
-        ensures { self.new ≡ kept (self.old ++ part.now) }
+        ensures { self.new ≡ stored_part (self.old ++ part.now) }
     {
         let room = KEPT_BYTES - self.bytes.len();
         let _ = self.bytes.extend_from_slice(front(part, room));

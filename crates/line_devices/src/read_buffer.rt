@@ -1,7 +1,7 @@
 //! Which bytes of a source are buffered, and do they contain a whole line?
 
 ghost use Rattle.std.specs.Prelude.{◌≡◌, ◌==◌, ◌≤◌, length, take, position, false, MatchOption};
-ghost use Rattle.line_devices.specs.Lines.{has_lf, IsWhole};
+ghost use Rattle.line_devices.specs.Lines.{has_lf, IsWholeLine};
 
 use crate::line::Line;
 use crate::source::{Source, SourceFailed};
@@ -38,7 +38,7 @@ fn lf_at(bytes: &[u8]) -> Option<usize>
 
 /// Returns the length of the first line with its LF, if there is an LF.
 fn line_len(bytes: &[u8]) -> Option<usize>
-    ensures { MatchOption result (has_lf bytes.now ≡ false) (λ n. (n ≤ length bytes.now) × IsWhole (take n bytes.now)) }
+    ensures { MatchOption result (has_lf bytes.now ≡ false) (λ n. (n ≤ length bytes.now) × IsWholeLine (take n bytes.now)) }
 {
     match lf_at(bytes) {
         Some(at) => Some(at + 1),

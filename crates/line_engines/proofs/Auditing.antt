@@ -2,27 +2,27 @@
 use Rattle.std.proofs.Common.{◌≡◌, ◌+◌, ℕ, Bool, true, false, List, [], ◌∷◌, ◌++◌, length, Option, None, Some, refl, sym, ap, subst, ◌∙◌, length-append, arith}
 use Rattle.std.specs.Prelude.{⊤, IfSome, MatchBool, Result, Ok, Err, is_none, is_some, not}
 use Rattle.std.specs.Io.KnownBytes.{Appends}
-use Rattle.line_devices.specs.Lines.{kept, most_lines, IsLine}
+use Rattle.line_devices.specs.Lines.{stored_part, most_lines, IsLine}
 use Rattle.line_reading.specs.Records.{AuditRecord}
 use Rattle.line_devices.specs.Runs.{IsRun, first_lines}
 use Rattle.line_devices.specs.Stream.{InputState, OutputState}
 use Rattle.line_reading.proofs.Kept.{kept_spells_record}
 use Rattle.line_devices.proofs.Puts.{Puts-nil}
 use Rattle.call_audit.specs.declared.cause.Cause.{Cause}
-use Rattle.call_audit.specs.declared.verdict.Verdict.{Verdict}
-use Rattle.call_audit.specs.declared.verdict.Verdict.TheVariants.{Yes, No}
+use Rattle.call_audit.specs.declared.verdict.AuditVerdict.{AuditVerdict}
+use Rattle.call_audit.specs.declared.verdict.AuditVerdict.TheVariants.{Yes, No}
 use Rattle.call_audit.specs.Audits.{judged, judged_spelled}
 use Rattle.call_audit.specs.Texts.{verdict_json}
-use Rattle.call_audit.specs.Verdicts.{verdict_by, verdict_of, verdict_on}
+use Rattle.call_audit.specs.Verdicts.{verdict_by, verdict_of_lines, verdict_from}
 use Rattle.line_engines.specs.Answers.{as_line}
-use Rattle.line_engines.specs.Audited.{AnswersRecord, Audited, ClosesWithVerdict, HasNoFault, LeavesBehind, RunsAudit, TellsVerdict, denied, is_over, outcome_by, past, start, taken, verdict_in, verdict_over, wanting}
-use Rattle.line_engines.specs.AuditedPrivate.{AuditKept, AuditsLine, StandsFor, outcome_of}
-use Rattle.line_engines.specs.Driver.{AnswersKept, AppendsClosed, ClosesAs, Goes, LeavesLines, RunsOver, Steps, TakesSoFar, TakesUntilEnd}
+use Rattle.line_engines.specs.Audited.{AnswersRecord, Audited, ClosesWithVerdict, HasNoFault, LeavesBehind, RunsAudit, WritesVerdict, denied, is_audit_over, run_end_by, past, audit_start, taken, audit_verdict_in, audit_verdict_over, lacks_memory_now}
+use Rattle.line_engines.specs.AuditedPrivate.{AuditKept, AuditsLine, AuditRepresents, run_end_of}
+use Rattle.line_engines.specs.Driver.{AnswersKept, AppendsClosed, ClosesAs, AnswersBeforeEnd, LeavesLines, RunsOver, StepsUntilEnd, TakesSoFar, TakesUntilEnd}
 use Rattle.line_engines.specs.declared.audit_engine.Over.{Over}
 use Rattle.line_engines.specs.declared.audit_engine.Over.TheVariants.{Denied, NoMemory}
 use Rattle.line_engines.specs.declared.fault.RunFault.{RunFault}
 use Rattle.line_engines.specs.declared.fault.RunFault.TheVariants as fault
-use Rattle.line_engines.specs.declared.outcome.Outcome.{Outcome}
+use Rattle.line_engines.specs.declared.outcome.RunEnd.{RunEnd}
 use Rattle.line_engines.proofs.Driving.{memory_input}
 
 -- ---- one line
@@ -33,45 +33,45 @@ none_some e = absurd (cc)
 true_false : true ≡ false → ⊥
 true_false e = absurd (cc)
 
-of_some : (a b : Verdict) → Some a ≡ Some b → a ≡ b
+of_some : (a b : AuditVerdict) → Some a ≡ Some b → a ≡ b
 of_some a b e = cc
 
-kept_judged : (domain : List ℕ) (before : List AuditRecord) (line : List ℕ) → IsLine line → judged domain before (kept line) ≡ judged domain before line
+kept_judged : (domain : List ℕ) (before : List AuditRecord) (line : List ℕ) → IsLine line → judged domain before (stored_part line) ≡ judged domain before line
 unfolding judged
 kept_judged domain before line is = ap (judged_spelled before) (kept_spells_record domain line is)
 
-of_kept : (domain : List ℕ) (now : Audited) (line : List ℕ) (next : Audited) (reply : List ℕ) → IsLine line → AnswersRecord domain now (kept line) next reply → AnswersRecord domain now line next reply
+of_kept : (domain : List ℕ) (now : Audited) (line : List ℕ) (next : Audited) (reply : List ℕ) → IsLine line → AnswersRecord domain now (stored_part line) next reply → AnswersRecord domain now line next reply
 of_kept domain now line next reply is (taken e r j n p) = taken e r (sym (kept_judged domain now.records line is) ∙ j) n p
 of_kept domain now line next reply is (denied e cause j n p) = denied e cause (sym (kept_judged domain now.records line is) ∙ j) n p
-of_kept domain now line next reply is (wanting e n p) = wanting e n p
+of_kept domain now line next reply is (lacks_memory_now e n p) = lacks_memory_now e n p
 of_kept domain now line next reply is (past over e n p) = past over e n p
 
-answers_kept : (domain : List ℕ) (now : Audited) (bytes : List ℕ) (next : Audited) (reply : List ℕ) → AnswersRecord domain now bytes next reply → (line : List ℕ) → IsLine line → bytes ≡ kept line → AnswersRecord domain now line next reply
+answers_kept : (domain : List ℕ) (now : Audited) (bytes : List ℕ) (next : Audited) (reply : List ℕ) → AnswersRecord domain now bytes next reply → (line : List ℕ) → IsLine line → bytes ≡ stored_part line → AnswersRecord domain now line next reply
 answers_kept domain now bytes next reply a line is k = of_kept domain now line next reply is (subst (λ x. AnswersRecord domain now x next reply) k a)
 
-audited_by : (domain : List ℕ) (after : AuditKept) (now : Audited) (bytes : List ℕ) (out : OutputState) (over : Option Over) → now.over ≡ None → after.over ≡ over → AuditsLine domain now.records bytes after.auditor over → AnswersKept (AnswersRecord domain) is_over (StandsFor after) now bytes out out (is_none over)
+audited_by : (domain : List ℕ) (after : AuditKept) (now : Audited) (bytes : List ℕ) (out : OutputState) (over : Option Over) → now.over ≡ None → after.over ≡ over → AuditsLine domain now.records bytes after.auditor over → AnswersKept (AnswersRecord domain) is_audit_over (AuditRepresents after) now bytes out out (is_none over)
 audited_by domain after now bytes out None e is a =
     let next : Audited = record { records = now.records ++ a.0 ∷ []; over = None } in
-    (next, [], answers_kept domain now bytes next [] (taken e a.0 a.1 refl refl), Puts-nil out, record { over = sym is; keeps = λ h. a.2 }, refl)
+    (next, [], answers_kept domain now bytes next [] (taken e a.0 a.1 refl refl), Puts-nil out, record { over = sym is; preserves = λ h. a.2 }, refl)
 audited_by domain after now bytes out (Some (Denied number cause)) e is a =
     let next : Audited = record { records = now.records; over = Some (Denied (length now.records + 1) cause) } in
     let same : Some (Denied (length now.records + 1) cause) ≡ after.over = ap (λ n. Some (Denied n cause)) (sym a.0) ∙ sym is in
-    (next, [], answers_kept domain now bytes next [] (denied e cause a.1 refl refl), Puts-nil out, record { over = same; keeps = λ h. absurd (none_some (sym h ∙ is)) }, refl)
+    (next, [], answers_kept domain now bytes next [] (denied e cause a.1 refl refl), Puts-nil out, record { over = same; preserves = λ h. absurd (none_some (sym h ∙ is)) }, refl)
 audited_by domain after now bytes out (Some NoMemory) e is a =
     let next : Audited = record { records = now.records; over = Some NoMemory } in
-    (next, [], answers_kept domain now bytes next [] (wanting e refl refl), Puts-nil out, record { over = sym is; keeps = λ h. absurd (none_some (sym h ∙ is)) }, refl)
+    (next, [], answers_kept domain now bytes next [] (lacks_memory_now e refl refl), Puts-nil out, record { over = sym is; preserves = λ h. absurd (none_some (sym h ∙ is)) }, refl)
 
 -- a line was audited
-pub audited : (domain : List ℕ) (before after : AuditKept) (now : Audited) (bytes : List ℕ) (out : OutputState) → StandsFor before now → before.over ≡ None → AuditsLine domain now.records bytes after.auditor after.over → AnswersKept (AnswersRecord domain) is_over (StandsFor after) now bytes out out (is_none after.over)
+pub audited : (domain : List ℕ) (before after : AuditKept) (now : Audited) (bytes : List ℕ) (out : OutputState) → AuditRepresents before now → before.over ≡ None → AuditsLine domain now.records bytes after.auditor after.over → AnswersKept (AnswersRecord domain) is_audit_over (AuditRepresents after) now bytes out out (is_none after.over)
 audited domain before after now bytes out s e a = audited_by domain after now bytes out after.over (s.over ∙ e) refl a
 
 -- a line after the end
-left_out_by : (domain : List ℕ) (before after : AuditKept) (now : Audited) (bytes : List ℕ) (out : OutputState) (over : Option Over) → before.over ≡ over → is_some over ≡ true → StandsFor before now → after.over ≡ before.over → AnswersKept (AnswersRecord domain) is_over (StandsFor after) now bytes out out false
+left_out_by : (domain : List ℕ) (before after : AuditKept) (now : Audited) (bytes : List ℕ) (out : OutputState) (over : Option Over) → before.over ≡ over → is_some over ≡ true → AuditRepresents before now → after.over ≡ before.over → AnswersKept (AnswersRecord domain) is_audit_over (AuditRepresents after) now bytes out out false
 left_out_by domain before after now bytes out None e b s f = absurd (true_false (sym b))
 left_out_by domain before after now bytes out (Some over) e b s f =
-    (now, [], answers_kept domain now bytes now [] (past over (s.over ∙ e) refl refl), Puts-nil out, record { over = s.over ∙ sym f; keeps = λ h. absurd (none_some (sym h ∙ (f ∙ e))) }, ap is_some (s.over ∙ e))
+    (now, [], answers_kept domain now bytes now [] (past over (s.over ∙ e) refl refl), Puts-nil out, record { over = s.over ∙ sym f; preserves = λ h. absurd (none_some (sym h ∙ (f ∙ e))) }, ap is_some (s.over ∙ e))
 
-pub left_out : (domain : List ℕ) (before after : AuditKept) (now : Audited) (bytes : List ℕ) (out : OutputState) → is_some before.over ≡ true → StandsFor before now → after.over ≡ before.over → AnswersKept (AnswersRecord domain) is_over (StandsFor after) now bytes out out false
+pub left_out : (domain : List ℕ) (before after : AuditKept) (now : Audited) (bytes : List ℕ) (out : OutputState) → is_some before.over ≡ true → AuditRepresents before now → after.over ≡ before.over → AnswersKept (AnswersRecord domain) is_audit_over (AuditRepresents after) now bytes out out false
 left_out domain before after now bytes out b s f = left_out_by domain before after now bytes out before.over refl b s f
 
 not_not : (a : Bool) → not (not a) ≡ a
@@ -95,7 +95,7 @@ now_step : (domain : List ℕ) (over : Option Over) (now next : Audited) (line r
 now_step domain None now next line reply e s = s
 now_step domain (Some x) now next line reply e s = absurd (none_some (sym e))
 
-past_run : (domain : List ℕ) (over : Over) (lines : List (List ℕ)) (first last : Audited) (text : List ℕ) → first.over ≡ Some over → IsRun (Steps is_over (AnswersRecord domain)) first lines last text → (last ≡ first) × (text ≡ [])
+past_run : (domain : List ℕ) (over : Over) (lines : List (List ℕ)) (first last : Audited) (text : List ℕ) → first.over ≡ Some over → IsRun (StepsUntilEnd is_audit_over (AnswersRecord domain)) first lines last text → (last ≡ first) × (text ≡ [])
 past_run domain over [] first last text e run = run
 past_run domain over (line ∷ lines) first last text e run =
     let step = past_step domain first.over over first run.0 line run.1 e run.3 in
@@ -103,40 +103,40 @@ past_run domain over (line ∷ lines) first last text e run =
     (rest.0 ∙ step.0, run.4 ∙ (ap (λ r. r ++ run.2) step.1 ∙ rest.1))
 
 -- the text after the lines is the verdict on them
-record Comes (domain : List ℕ) (before : List AuditRecord) (lines : List (List ℕ)) (text : List ℕ) (verdict : Verdict) : Type 0 where
+record Comes (domain : List ℕ) (before : List AuditRecord) (lines : List (List ℕ)) (text : List ℕ) (verdict : AuditVerdict) : Type 0 where
   none : text ≡ []
-  is : verdict ≡ verdict_on domain before lines
+  is : verdict ≡ verdict_from domain before lines
 
-yes_of : (over : Option Over) (n : ℕ) (v : Verdict) → over ≡ None → verdict_over over n ≡ Some v → v ≡ Yes n
-yes_of over n v e h = (let q : Some v ≡ Some (Yes n) = sym h ∙ ap (λ o. verdict_over o n) e in of_some v (Yes n) q)
+yes_of : (over : Option Over) (n : ℕ) (v : AuditVerdict) → over ≡ None → audit_verdict_over over n ≡ Some v → v ≡ Yes n
+yes_of over n v e h = (let q : Some v ≡ Some (Yes n) = sym h ∙ ap (λ o. audit_verdict_over o n) e in of_some v (Yes n) q)
 
-no_of : (over : Option Over) (n line : ℕ) (cause : Cause) (v : Verdict) → over ≡ Some (Denied line cause) → verdict_over over n ≡ Some v → v ≡ No line cause
-no_of over n line cause v e h = (let q : Some v ≡ Some (No line cause) = sym h ∙ ap (λ o. verdict_over o n) e in of_some v (No line cause) q)
+no_of : (over : Option Over) (n line : ℕ) (cause : Cause) (v : AuditVerdict) → over ≡ Some (Denied line cause) → audit_verdict_over over n ≡ Some v → v ≡ No line cause
+no_of over n line cause v e h = (let q : Some v ≡ Some (No line cause) = sym h ∙ ap (λ o. audit_verdict_over o n) e in of_some v (No line cause) q)
 
-not_wanting : (over : Option Over) (n : ℕ) (v : Verdict) → over ≡ Some NoMemory → verdict_over over n ≡ Some v → ⊥
-not_wanting over n v e h = none_some (sym (ap (λ o. verdict_over o n) e) ∙ h)
+not_out_of_memory : (over : Option Over) (n : ℕ) (v : AuditVerdict) → over ≡ Some NoMemory → audit_verdict_over over n ≡ Some v → ⊥
+not_out_of_memory over n v e h = none_some (sym (ap (λ o. audit_verdict_over o n) e) ∙ h)
 
-comes_by : (domain : List ℕ) (line : List ℕ) (lines : List (List ℕ)) (first next last : Audited) (reply rest : List ℕ) (v : Verdict) → AnswersRecord domain first line next reply → first.over ≡ None → (next.over ≡ None → Comes domain next.records lines rest v) → IsRun (Steps is_over (AnswersRecord domain)) next lines last rest → verdict_in last ≡ Some v → Comes domain first.records (line ∷ lines) (reply ++ rest) v
+comes_by : (domain : List ℕ) (line : List ℕ) (lines : List (List ℕ)) (first next last : Audited) (reply rest : List ℕ) (v : AuditVerdict) → AnswersRecord domain first line next reply → first.over ≡ None → (next.over ≡ None → Comes domain next.records lines rest v) → IsRun (StepsUntilEnd is_audit_over (AnswersRecord domain)) next lines last rest → audit_verdict_in last ≡ Some v → Comes domain first.records (line ∷ lines) (reply ++ rest) v
 comes_by domain line lines first next last reply rest v (taken e r j n p) o go run h =
     let c = go (ap (λ (s : Audited). s.over) n) in
     record {
       none = ap (λ t. t ++ rest) p ∙ c.none;
-      is = c.is ∙ (ap (λ (s : Audited). verdict_on domain s.records lines) n ∙ sym (ap (λ k. verdict_by k (length first.records) (λ x. verdict_on domain (first.records ++ x ∷ []) lines)) j));
+      is = c.is ∙ (ap (λ (s : Audited). verdict_from domain s.records lines) n ∙ sym (ap (λ k. verdict_by k (length first.records) (λ x. verdict_from domain (first.records ++ x ∷ []) lines)) j));
     }
 comes_by domain line lines first next last reply rest v (denied e cause j n p) o go run h =
     let over = ap (λ (s : Audited). s.over) n in
-    let stays = past_run domain (Denied (length first.records + 1) cause) lines next last rest over run in
+    let is_unchanged = past_run domain (Denied (length first.records + 1) cause) lines next last rest over run in
     record {
-      none = ap (λ t. t ++ rest) p ∙ stays.1;
-      is = no_of last.over (length last.records) (length first.records + 1) cause v (ap (λ (s : Audited). s.over) stays.0 ∙ over) h ∙ sym (ap (λ k. verdict_by k (length first.records) (λ x. verdict_on domain (first.records ++ x ∷ []) lines)) j);
+      none = ap (λ t. t ++ rest) p ∙ is_unchanged.1;
+      is = no_of last.over (length last.records) (length first.records + 1) cause v (ap (λ (s : Audited). s.over) is_unchanged.0 ∙ over) h ∙ sym (ap (λ k. verdict_by k (length first.records) (λ x. verdict_from domain (first.records ++ x ∷ []) lines)) j);
     }
-comes_by domain line lines first next last reply rest v (wanting e n p) o go run h =
+comes_by domain line lines first next last reply rest v (lacks_memory_now e n p) o go run h =
     let over = ap (λ (s : Audited). s.over) n in
-    let stays = past_run domain NoMemory lines next last rest over run in
-    absurd (not_wanting last.over (length last.records) v (ap (λ (s : Audited). s.over) stays.0 ∙ over) h)
+    let is_unchanged = past_run domain NoMemory lines next last rest over run in
+    absurd (not_out_of_memory last.over (length last.records) v (ap (λ (s : Audited). s.over) is_unchanged.0 ∙ over) h)
 comes_by domain line lines first next last reply rest v (past over e n p) o go run h = absurd (none_some (sym o ∙ e))
 
-comes : (domain : List ℕ) (lines : List (List ℕ)) (first last : Audited) (text : List ℕ) (v : Verdict) → first.over ≡ None → IsRun (Steps is_over (AnswersRecord domain)) first lines last text → verdict_in last ≡ Some v → Comes domain first.records lines text v
+comes : (domain : List ℕ) (lines : List (List ℕ)) (first last : Audited) (text : List ℕ) (v : AuditVerdict) → first.over ≡ None → IsRun (StepsUntilEnd is_audit_over (AnswersRecord domain)) first lines last text → audit_verdict_in last ≡ Some v → Comes domain first.records lines text v
 comes domain [] first last text v e run h =
     let same = ap (λ (s : Audited). s.over) run.0 ∙ e in
     record { none = run.1; is = yes_of last.over (length last.records) v same h ∙ ap (λ (s : Audited). Yes (length s.records)) run.0 }
@@ -145,30 +145,30 @@ comes domain (line ∷ lines) first last text v e run h =
     let c = comes_by domain line lines first run.0 last run.1 run.2 v step e (λ o. comes domain lines run.0 last run.2 v o run.5 h) run.5 h in
     record { none = run.4 ∙ c.none; is = c.is }
 
-outcome_is : (over : Option Over) (n : ℕ) (v : Verdict) → verdict_over over n ≡ Some v → outcome_of over ≡ outcome_by v
-outcome_is None n v e = ap outcome_by (of_some (Yes n) v e)
-outcome_is (Some (Denied line cause)) n v e = ap outcome_by (of_some (No line cause) v e)
+outcome_is : (over : Option Over) (n : ℕ) (v : AuditVerdict) → audit_verdict_over over n ≡ Some v → run_end_of over ≡ run_end_by v
+outcome_is None n v e = ap run_end_by (of_some (Yes n) v e)
+outcome_is (Some (Denied line cause)) n v e = ap run_end_by (of_some (No line cause) v e)
 outcome_is (Some NoMemory) n v e = absurd (none_some e)
 
 -- the end of an audit: the verdict on the lines is written, and the outcome is that of the verdict
-tells : (domain : List ℕ) (kept : AuditKept) (lines : List (List ℕ)) (a b : Option (List ℕ)) (told : Outcome) → told ≡ outcome_of kept.over → AppendsClosed (Steps is_over (AnswersRecord domain)) (ClosesAs ClosesWithVerdict (StandsFor kept)) start lines a b → TellsVerdict (verdict_of domain lines) told a b
-tells domain kept lines a b told o w =
+writes_verdict : (domain : List ℕ) (stored_part : AuditKept) (lines : List (List ℕ)) (a b : Option (List ℕ)) (reported : RunEnd) → reported ≡ run_end_of stored_part.over → AppendsClosed (StepsUntilEnd is_audit_over (AnswersRecord domain)) (ClosesAs ClosesWithVerdict (AuditRepresents stored_part)) audit_start lines a b → WritesVerdict (verdict_of_lines domain lines) reported a b
+writes_verdict domain stored_part lines a b reported o w =
     let last = w.1.0 in
     let closed = w.1.4 in
     let v = closed.0.0 in
-    let c = comes domain lines start last w.1.1 v refl w.1.3 closed.0.1 in
-    let text : w.0 ≡ as_line (verdict_json (verdict_of domain lines)) = w.1.5 ∙ (ap (λ r. r ++ w.1.2) c.none ∙ (closed.0.2 ∙ ap (λ x. as_line (verdict_json x)) c.is)) in
-    let mine : told ≡ outcome_by (verdict_of domain lines) = o ∙ (sym (ap outcome_of closed.1.over) ∙ (outcome_is last.over (length last.records) v closed.0.1 ∙ ap outcome_by c.is)) in
+    let c = comes domain lines audit_start last w.1.1 v refl w.1.3 closed.0.1 in
+    let text : w.0 ≡ as_line (verdict_json (verdict_of_lines domain lines)) = w.1.5 ∙ (ap (λ r. r ++ w.1.2) c.none ∙ (closed.0.2 ∙ ap (λ x. as_line (verdict_json x)) c.is)) in
+    let mine : reported ≡ run_end_by (verdict_of_lines domain lines) = o ∙ (sym (ap run_end_of closed.1.over) ∙ (outcome_is last.over (length last.records) v closed.0.1 ∙ ap run_end_by c.is)) in
     (subst (λ t. Appends a b t) text w.2, mine)
 
-pub tells_all : (domain : List ℕ) (kept : AuditKept) (left a b : Option (List ℕ)) (told : Outcome) → told ≡ outcome_of kept.over → IfSome left (λ bytes. AppendsClosed (Steps is_over (AnswersRecord domain)) (ClosesAs ClosesWithVerdict (StandsFor kept)) start (first_lines most_lines bytes) a b) → IfSome left (λ bytes. TellsVerdict (verdict_of domain (first_lines most_lines bytes)) told a b)
-tells_all domain kept None a b told o w = tt
-tells_all domain kept (Some bytes) a b told o w = tells domain kept (first_lines most_lines bytes) a b told o w
+pub writes_verdict_all : (domain : List ℕ) (stored_part : AuditKept) (left a b : Option (List ℕ)) (reported : RunEnd) → reported ≡ run_end_of stored_part.over → IfSome left (λ bytes. AppendsClosed (StepsUntilEnd is_audit_over (AnswersRecord domain)) (ClosesAs ClosesWithVerdict (AuditRepresents stored_part)) audit_start (first_lines most_lines bytes) a b) → IfSome left (λ bytes. WritesVerdict (verdict_of_lines domain (first_lines most_lines bytes)) reported a b)
+writes_verdict_all domain stored_part None a b reported o w = tt
+writes_verdict_all domain stored_part (Some bytes) a b reported o w = writes_verdict domain stored_part (first_lines most_lines bytes) a b reported o w
 
 -- ---- no line after the first fault is read
 
 -- a run that has ended reads no more lines
-stops : (domain : List ℕ) (over : Over) (lines : List (List ℕ)) (first last : Audited) (text : List ℕ) → first.over ≡ Some over → IsRun (Goes is_over (AnswersRecord domain)) first lines last text → (lines ≡ []) × (last ≡ first)
+stops : (domain : List ℕ) (over : Over) (lines : List (List ℕ)) (first last : Audited) (text : List ℕ) → first.over ≡ Some over → IsRun (AnswersBeforeEnd is_audit_over (AnswersRecord domain)) first lines last text → (lines ≡ []) × (last ≡ first)
 stops domain over [] first last text e run = (refl, run.0)
 stops domain over (line ∷ lines) first last text e run = absurd (true_false (ap is_some (sym e) ∙ run.3.0))
 
@@ -181,9 +181,9 @@ number_of m n a b e = cc
 -- the result of a run, from its first state on: a fault at its last line, or none
 record Ran (domain : List ℕ) (before : List AuditRecord) (lines : List (List ℕ)) (last : Audited) : Type 0 where
   number : (line : ℕ) (cause : Cause) → last.over ≡ Some (Denied line cause) → line ≡ length before + length lines
-  yes : last.over ≡ None → verdict_on domain before lines ≡ Yes (length before + length lines)
+  yes : last.over ≡ None → verdict_from domain before lines ≡ Yes (length before + length lines)
 
-ran_past : (domain : List ℕ) (line : List ℕ) (lines : List (List ℕ)) (first next last : Audited) (text : List ℕ) (over : Over) → next.over ≡ Some over → IsRun (Goes is_over (AnswersRecord domain)) next lines last text → ((at : ℕ) (cause : Cause) → over ≡ Denied at cause → at ≡ length first.records + 1) → Ran domain first.records (line ∷ lines) last
+ran_past : (domain : List ℕ) (line : List ℕ) (lines : List (List ℕ)) (first next last : Audited) (text : List ℕ) (over : Over) → next.over ≡ Some over → IsRun (AnswersBeforeEnd is_audit_over (AnswersRecord domain)) next lines last text → ((at : ℕ) (cause : Cause) → over ≡ Denied at cause → at ≡ length first.records + 1) → Ran domain first.records (line ∷ lines) last
 ran_past domain line lines first next last text over e run number =
     let s = stops domain over lines next last text e run in
     let is : last.over ≡ Some over = ap (λ (s : Audited). s.over) s.1 ∙ e in
@@ -192,22 +192,22 @@ ran_past domain line lines first next last text over e run number =
       yes = λ h. absurd (none_some (sym h ∙ is));
     }
 
-ran_by : (domain : List ℕ) (line : List ℕ) (lines : List (List ℕ)) (first next last : Audited) (reply text : List ℕ) → AnswersRecord domain first line next reply → first.over ≡ None → (next.over ≡ None → Ran domain next.records lines last) → IsRun (Goes is_over (AnswersRecord domain)) next lines last text → Ran domain first.records (line ∷ lines) last
+ran_by : (domain : List ℕ) (line : List ℕ) (lines : List (List ℕ)) (first next last : Audited) (reply text : List ℕ) → AnswersRecord domain first line next reply → first.over ≡ None → (next.over ≡ None → Ran domain next.records lines last) → IsRun (AnswersBeforeEnd is_audit_over (AnswersRecord domain)) next lines last text → Ran domain first.records (line ∷ lines) last
 ran_by domain line lines first next last reply text (taken e r j n p) o go run =
     let w = go (ap (λ (s : Audited). s.over) n) in
     let more : length next.records ≡ length first.records + 1 = ap (λ (s : Audited). length s.records) n ∙ length-append first.records (r ∷ []) in
     let one : length next.records + length lines ≡ length first.records + length (line ∷ lines) = omega arith in
     record {
       number = λ at cause h. w.number at cause h ∙ one;
-      yes = λ h. ap (λ k. verdict_by k (length first.records) (λ x. verdict_on domain (first.records ++ x ∷ []) lines)) j ∙ (ap (λ (s : Audited). verdict_on domain s.records lines) (sym n) ∙ (w.yes h ∙ ap Yes one));
+      yes = λ h. ap (λ k. verdict_by k (length first.records) (λ x. verdict_from domain (first.records ++ x ∷ []) lines)) j ∙ (ap (λ (s : Audited). verdict_from domain s.records lines) (sym n) ∙ (w.yes h ∙ ap Yes one));
     }
 ran_by domain line lines first next last reply text (denied e cause j n p) o go run =
     ran_past domain line lines first next last text (Denied (length first.records + 1) cause) (ap (λ (s : Audited). s.over) n) run (λ at other h. number_of at (length first.records + 1) other cause h)
-ran_by domain line lines first next last reply text (wanting e n p) o go run =
+ran_by domain line lines first next last reply text (lacks_memory_now e n p) o go run =
     ran_past domain line lines first next last text NoMemory (ap (λ (s : Audited). s.over) n) run (λ at cause h. absurd (cc))
 ran_by domain line lines first next last reply text (past over e n p) o go run = absurd (none_some (sym o ∙ e))
 
-ran : (domain : List ℕ) (lines : List (List ℕ)) (first last : Audited) (text : List ℕ) → first.over ≡ None → IsRun (Goes is_over (AnswersRecord domain)) first lines last text → Ran domain first.records lines last
+ran : (domain : List ℕ) (lines : List (List ℕ)) (first last : Audited) (text : List ℕ) → first.over ≡ None → IsRun (AnswersBeforeEnd is_audit_over (AnswersRecord domain)) first lines last text → Ran domain first.records lines last
 ran domain [] first last text e run =
     let same = ap (λ (s : Audited). s.over) run.0 ∙ e in
     let all : length first.records ≡ length first.records + 0 = omega arith in
@@ -216,42 +216,42 @@ ran domain (line ∷ lines) first last text e run =
     ran_by domain line lines first run.0 last run.1 run.2 run.3.1 e (λ o. ran domain lines run.0 last run.2 o run.5) run.5
 
 -- the verdict that was written is that of the stored state
-told_by : (domain : List ℕ) (kept : AuditKept) (lines : List (List ℕ)) (a b : Option (List ℕ)) → AppendsClosed (Steps is_over (AnswersRecord domain)) (ClosesAs ClosesWithVerdict (StandsFor kept)) start lines a b → (last : Audited) × (kept.over ≡ last.over) × (verdict_over kept.over (length last.records) ≡ Some (verdict_of domain lines))
-told_by domain kept lines a b w =
+reported_by : (domain : List ℕ) (stored_part : AuditKept) (lines : List (List ℕ)) (a b : Option (List ℕ)) → AppendsClosed (StepsUntilEnd is_audit_over (AnswersRecord domain)) (ClosesAs ClosesWithVerdict (AuditRepresents stored_part)) audit_start lines a b → (last : Audited) × (stored_part.over ≡ last.over) × (audit_verdict_over stored_part.over (length last.records) ≡ Some (verdict_of_lines domain lines))
+reported_by domain stored_part lines a b w =
     let last = w.1.0 in
     let closed = w.1.4 in
     let v = closed.0.0 in
-    let c = comes domain lines start last w.1.1 v refl w.1.3 closed.0.1 in
-    (last, sym closed.1.over, ap (λ o. verdict_over o (length last.records)) (sym closed.1.over) ∙ (closed.0.1 ∙ ap Some c.is))
+    let c = comes domain lines audit_start last w.1.1 v refl w.1.3 closed.0.1 in
+    (last, sym closed.1.over, ap (λ o. audit_verdict_over o (length last.records)) (sym closed.1.over) ∙ (closed.0.1 ∙ ap Some c.is))
 
-left_by : (domain : List ℕ) (kept : AuditKept) (over : Option Over) (n : ℕ) (bytes : List ℕ) (left : Option (List ℕ)) (v : Verdict) → kept.over ≡ over → verdict_over over n ≡ Some v → TakesUntilEnd is_over (AnswersRecord domain) (StandsFor kept) start bytes left → LeavesBehind v bytes left
-left_by domain kept None n bytes left v k h t = subst (λ x. LeavesBehind x bytes left) (of_some (Yes n) v h) tt
-left_by domain kept (Some (Denied line cause)) n bytes left v k h t =
-    let is : (t.last).over ≡ Some (Denied line cause) = (t.stood).over ∙ k in
-    let at = (ran domain (first_lines t.count bytes) start t.last t.text refl t.run).number line cause is in
+left_by : (domain : List ℕ) (stored_part : AuditKept) (over : Option Over) (n : ℕ) (bytes : List ℕ) (left : Option (List ℕ)) (v : AuditVerdict) → stored_part.over ≡ over → audit_verdict_over over n ≡ Some v → TakesUntilEnd is_audit_over (AnswersRecord domain) (AuditRepresents stored_part) audit_start bytes left → LeavesBehind v bytes left
+left_by domain stored_part None n bytes left v k h t = subst (λ x. LeavesBehind x bytes left) (of_some (Yes n) v h) tt
+left_by domain stored_part (Some (Denied line cause)) n bytes left v k h t =
+    let is : (t.last).over ≡ Some (Denied line cause) = (t.represented).over ∙ k in
+    let at = (ran domain (first_lines t.count bytes) audit_start t.last t.text refl t.run).number line cause is in
     let counted = t.counted in
     let same : t.count ≡ line = omega arith in
     subst (λ x. LeavesBehind x bytes left) (of_some (No line cause) v h) (subst (λ x. LeavesLines x bytes left) same (t.ended (ap is_some is)))
-left_by domain kept (Some NoMemory) n bytes left v k h t = absurd (none_some h)
+left_by domain stored_part (Some NoMemory) n bytes left v k h t = absurd (none_some h)
 
-pub left_behind : (domain : List ℕ) (kept : AuditKept) (all left a b : Option (List ℕ)) → IfSome all (λ bytes. AppendsClosed (Steps is_over (AnswersRecord domain)) (ClosesAs ClosesWithVerdict (StandsFor kept)) start (first_lines most_lines bytes) a b) → IfSome all (λ bytes. TakesUntilEnd is_over (AnswersRecord domain) (StandsFor kept) start bytes left) → IfSome all (λ bytes. LeavesBehind (verdict_of domain (first_lines most_lines bytes)) bytes left)
-left_behind domain kept None left a b w t = tt
-left_behind domain kept (Some bytes) left a b w t =
-    let v = told_by domain kept (first_lines most_lines bytes) a b w in
-    left_by domain kept kept.over (length (v.0).records) bytes left (verdict_of domain (first_lines most_lines bytes)) refl v.2 t
+pub left_behind : (domain : List ℕ) (stored_part : AuditKept) (all left a b : Option (List ℕ)) → IfSome all (λ bytes. AppendsClosed (StepsUntilEnd is_audit_over (AnswersRecord domain)) (ClosesAs ClosesWithVerdict (AuditRepresents stored_part)) audit_start (first_lines most_lines bytes) a b) → IfSome all (λ bytes. TakesUntilEnd is_audit_over (AnswersRecord domain) (AuditRepresents stored_part) audit_start bytes left) → IfSome all (λ bytes. LeavesBehind (verdict_of_lines domain (first_lines most_lines bytes)) bytes left)
+left_behind domain stored_part None left a b w t = tt
+left_behind domain stored_part (Some bytes) left a b w t =
+    let v = reported_by domain stored_part (first_lines most_lines bytes) a b w in
+    left_by domain stored_part stored_part.over (length (v.0).records) bytes left (verdict_of_lines domain (first_lines most_lines bytes)) refl v.2 t
 
-pub no_fault : (domain : List ℕ) (all left : Option (List ℕ)) → IfSome all (λ bytes. TakesSoFar is_over (AnswersRecord domain) start bytes left) → IfSome all (λ bytes. HasNoFault domain bytes left)
+pub no_fault : (domain : List ℕ) (all left : Option (List ℕ)) → IfSome all (λ bytes. TakesSoFar is_audit_over (AnswersRecord domain) audit_start bytes left) → IfSome all (λ bytes. HasNoFault domain bytes left)
 no_fault domain None left t = tt
 no_fault domain (Some bytes) left t =
-    let w = ran domain (first_lines t.count bytes) start t.last t.text refl t.run in
+    let w = ran domain (first_lines t.count bytes) audit_start t.last t.text refl t.run in
     let counted = t.counted in
     let all : 0 + length (first_lines t.count bytes) ≡ t.count = omega arith in
-    (t.count, t.taken, w.yes (none_of (t.last).over t.goes_on) ∙ ap Yes all)
+    (t.count, t.taken, w.yes (none_of (t.last).over t.continues) ∙ ap Yes all)
 
 -- ---- an audit that didn't begin
 
-pub stopped_audit : (domain : List ℕ) (input rest : InputState) (output out : OutputState) (result : Result Outcome RunFault) → result ≡ Err fault.NoMemory → RunsOver (Steps is_over (AnswersRecord domain)) ClosesWithVerdict ⊤ start input rest output out result → RunsAudit domain input rest output out result
+pub stopped_audit : (domain : List ℕ) (input rest : InputState) (output out : OutputState) (result : Result RunEnd RunFault) → result ≡ Err fault.NoMemory → RunsOver (StepsUntilEnd is_audit_over (AnswersRecord domain)) ClosesWithVerdict ⊤ audit_start input rest output out result → RunsAudit domain input rest output out result
 stopped_audit domain input rest output out (Ok x) e run = absurd (cc)
 stopped_audit domain input rest output out (Err f) e run =
     let is : f ≡ fault.NoMemory = cc in
-    record { run = run; told = tt; left = tt; failed = λ i. absurd (memory_input (sym is ∙ i)) }
+    record { run = run; reported = tt; left = tt; failed = λ i. absurd (memory_input (sym is ∙ i)) }

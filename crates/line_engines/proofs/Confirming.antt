@@ -8,12 +8,12 @@ use Rattle.entry_book.proofs.Sets.{All-within}
 use Rattle.call_machine.specs.Calls.{Call}
 use Rattle.call_machine.specs.Schedules.{Different}
 use Rattle.line_devices.specs.Lines.{lines_of}
-use Rattle.reg_lines.specs.Spelled.{Fits}
-use Rattle.call_audit.specs.Confirmed.{AreConfirmed, CallAt, CallHasEnded, CallsAreStrict, CallsHaveEnded, CallsStandOnce, ConfirmedAreAudited, IsReadable, RecordedCall, line_of_call, text_of_call}
-use Rattle.call_audit.specs.Verdicts.{verdict_of}
-use Rattle.call_audit.specs.declared.verdict.Verdict.TheVariants.{Yes}
+use Rattle.reg_lines.specs.Spelled.{FitsInLine}
+use Rattle.call_audit.specs.Confirmed.{AreConfirmed, CallAt, CallHasEnded, CallsAreStrict, CallsHaveEnded, CallsAreOnce, ConfirmedAreAudited, IsReadableCall, RecordedCall, line_of_call, text_of_call}
+use Rattle.call_audit.specs.Verdicts.{verdict_of_lines}
+use Rattle.call_audit.specs.declared.verdict.AuditVerdict.TheVariants.{Yes}
 use Rattle.line_engines.specs.Confirmed.{RecordsAreAudited, call_of}
-use Rattle.line_engines.specs.Recorded.{AreLegal, AreRecords, IsEnded, IsEndedAt, IsWritten, Recorded, StampsInOrder, record_line}
+use Rattle.line_engines.specs.Recorded.{RecordedAreLegal, AreRecords, IsEnded, IsEndedAt, IsWritten, Recorded, StampsInOrder, record_line}
 
 abbrev calls_of : List Recorded → List RecordedCall
 calls_of rs = map call_of rs
@@ -52,16 +52,16 @@ within_numbers calls (n ∷ ns) (r ∷ rs) (suc i) c h e = inr (within_numbers c
 not_again : (calls : List Call) (n : ℕ) (ns : List ℕ) (rs : List Recorded) (j : ℕ) (b : RecordedCall) → AllByRecursion (λ d. n ≡ d → ⊥) ns → AreRecords calls ns rs → CallAt (calls_of rs) j b → n ≡ b.call → ⊥
 not_again calls n ns rs j b d h e same = All-within (λ x. n ≡ x → ⊥) ns b.call d (within_numbers calls ns rs j b h e) same
 
-stand_once : (calls : List Call) (numbers : List ℕ) (rs : List Recorded) → Different numbers → AreRecords calls numbers rs → CallsStandOnce (calls_of rs)
-stand_once calls [] [] d h i j a b e f same = absurd (cc)
-stand_once calls [] (r ∷ rs) d h i j a b e f same = absurd h
-stand_once calls (n ∷ ns) [] d h i j a b e f same = absurd h
-stand_once calls (n ∷ ns) (r ∷ rs) d h zero zero a b e f same = refl
-stand_once calls (n ∷ ns) (r ∷ rs) d h zero (suc j) a b e f same =
+are_once : (calls : List Call) (numbers : List ℕ) (rs : List Recorded) → Different numbers → AreRecords calls numbers rs → CallsAreOnce (calls_of rs)
+are_once calls [] [] d h i j a b e f same = absurd (cc)
+are_once calls [] (r ∷ rs) d h i j a b e f same = absurd h
+are_once calls (n ∷ ns) [] d h i j a b e f same = absurd h
+are_once calls (n ∷ ns) (r ∷ rs) d h zero zero a b e f same = refl
+are_once calls (n ∷ ns) (r ∷ rs) d h zero (suc j) a b e f same =
     absurd (not_again calls n ns rs j b d.0 h.1 f (sym h.0.number_is ∙ ap (λ x. x.call) (sym (same_call (call_of r) a e)) ∙ same))
-stand_once calls (n ∷ ns) (r ∷ rs) d h (suc i) zero a b e f same =
+are_once calls (n ∷ ns) (r ∷ rs) d h (suc i) zero a b e f same =
     absurd (not_again calls n ns rs i a d.0 h.1 e (sym h.0.number_is ∙ ap (λ x. x.call) (sym (same_call (call_of r) b f)) ∙ sym same))
-stand_once calls (n ∷ ns) (r ∷ rs) d h (suc i) (suc j) a b e f same = ap suc (stand_once calls ns rs d.1 h.1 i j a b e f same)
+are_once calls (n ∷ ns) (r ∷ rs) d h (suc i) (suc j) a b e f same = ap suc (are_once calls ns rs d.1 h.1 i j a b e f same)
 
 -- ---- what ended before another began comes before it
 
@@ -75,7 +75,7 @@ in_order (r ∷ rs) h (suc i) (suc j) a b n l e f replied = in_order rs h.1 i j 
 
 -- ---- the plain book gives the replies
 
-given : (books : List Book) (rs : List Recorded) → AreLegal books rs → (i : ℕ) (c : RecordedCall) → CallAt (calls_of rs) i c → c.reply ≡ reply_to c.batch (books_from books (map (λ d. d.batch) (take i (calls_of rs))))
+given : (books : List Book) (rs : List Recorded) → RecordedAreLegal books rs → (i : ℕ) (c : RecordedCall) → CallAt (calls_of rs) i c → c.reply ≡ reply_to c.batch (books_from books (map (λ d. d.batch) (take i (calls_of rs))))
 given books [] h i c e = absurd (cc)
 given books (r ∷ rs) h zero c e = subst (λ x. x.reply ≡ reply_to x.batch books) (sym (same_call (call_of r) c e)) h.0
 given books (r ∷ rs) h (suc i) c e = given (books_after r.batch books) rs h.1 i c e
@@ -92,13 +92,13 @@ same_count (r ∷ rs) = ap suc (same_count rs)
 
 -- ---- each can be read back
 
-readable : (domain : List ℕ) (rs : List Recorded) → AllByRecursion (λ r. r.batch.domain ≡ domain) rs → AllByRecursion IsWritten rs → AllByRecursion (λ r. Fits (text_of_call (call_of r))) rs → AllByRecursion (λ r. IsReadable domain (call_of r)) rs
+readable : (domain : List ℕ) (rs : List Recorded) → AllByRecursion (λ r. r.batch.domain ≡ domain) rs → AllByRecursion IsWritten rs → AllByRecursion (λ r. FitsInLine (text_of_call (call_of r))) rs → AllByRecursion (λ r. IsReadableCall domain (call_of r)) rs
 readable domain [] made written fits = tt
 readable domain (r ∷ rs) made written fits = (record { domain_is = made.0; batch = written.0.0; call = written.0.1; fits = fits.0 }, readable domain rs made.1 written.1 fits.1)
 
 pub records_are_audited : ConfirmedAreAudited → RecordsAreAudited
 records_are_audited law domain last order recorded end h fits =
-    let confirmed : AreConfirmed (calls_of recorded) = record { once = stand_once last.machine.calls order recorded h.headline.serial.once h.records; ended = have_ended recorded h.ended; strict = in_order recorded h.in_order; legal = given first_books recorded h.legal } in
-    ap (λ bytes. verdict_of domain (lines_of bytes)) (h.end_is ∙ same_lines recorded)
-    ∙ law domain (calls_of recorded) confirmed (at_call (IsReadable domain) recorded (readable domain recorded h.made_for h.written fits))
+    let confirmed : AreConfirmed (calls_of recorded) = record { once = are_once last.machine.calls order recorded h.headline.serial.once h.records; ended = have_ended recorded h.ended; strict = in_order recorded h.in_order; legal = given first_books recorded h.legal } in
+    ap (λ bytes. verdict_of_lines domain (lines_of bytes)) (h.end_is ∙ same_lines recorded)
+    ∙ law domain (calls_of recorded) confirmed (at_call (IsReadableCall domain) recorded (readable domain recorded h.made_for h.written fits))
     ∙ ap (λ n. Yes n) (same_count recorded)

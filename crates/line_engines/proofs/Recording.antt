@@ -12,12 +12,12 @@ use Rattle.entry_book.specs.Batches.{Batch}
 use Rattle.entry_book.specs.History.{books_after, first_books, is_committed, reply_to}
 use Rattle.entry_book.specs.Order.{Within}
 use Rattle.entry_book.proofs.Sets.{All-more, All-within}
-use Rattle.call_machine.specs.Calls.{Call, Stage, State, waiting, running, ready, answered, committed, conflict, call_at, first_state, answer_of}
-use Rattle.call_machine.specs.Known.{Tells, TellsCall}
+use Rattle.call_machine.specs.Calls.{Call, CallStage, MachineState, waiting, running, ready, answered, committed, conflict, call_at, first_machine, answer_of}
+use Rattle.call_machine.specs.Known.{Reports, ReportsCall}
 use Rattle.call_machine.specs.Laws.{HoldReplies, IsOrder, IsStamped}
 use Rattle.call_events.specs.Events.{IsFor}
 use Rattle.call_machine.specs.Machine.{AreFor, Runs}
-use Rattle.call_machine.specs.Schedules.{Answer, At, Different, EndedBefore, GaveOut, HandedIn, Happened, Headline, IsListed, IsReplyOf, OneBatch, RunsFrom, StandsBefore, accepted}
+use Rattle.call_machine.specs.Schedules.{EventAnswer, EventAt, Different, EndedBefore, GaveOut, HandedIn, Happened, Headline, IsListed, IsReplyOf, OneBatch, RunsFrom, IsListedBefore, accepted}
 use Rattle.call_answers.specs.declared.call.KnownCall.{KnownCall}
 use Rattle.call_answers.specs.declared.answer.Done.TheVariants.{Answered}
 use Rattle.call_events.specs.declared.event.Event.{Event}
@@ -27,10 +27,10 @@ use Rattle.call_answers.specs.declared.answer.CallAnswer.{CallAnswer}
 use Rattle.call_answers.specs.declared.answer.CallAnswer.TheVariants.{Replied}
 use Rattle.call_machine.proofs.Events.{first_sound}
 use Rattle.call_machine.proofs.Line.{is_begun}
-use Rattle.call_machine.proofs.Runs.{runs_go_on}
+use Rattle.call_machine.proofs.Runs.{runs_extend}
 use Rattle.call_machine.proofs.Rows.{call_within, same_call}
 use Rattle.call_machine.proofs.Ties.{first_tied}
-use Rattle.call_machine.proofs.Whole.{Stands, calls_are_stamped, runs_stand}
+use Rattle.call_machine.proofs.Whole.{LogInvariant, calls_are_stamped, runs_keep_invariant}
 use Rattle.reg_lines.specs.CallRecords.{HasRecord, HasRecordWith, Records}
 use Rattle.reg_lines.specs.RecordLines.{record_json}
 use Rattle.line_devices.specs.Runs.{IsRun, first_lines}
@@ -41,10 +41,10 @@ use Rattle.reg_lines.specs.declared.printing.records.CallRecord.{CallRecord}
 use Rattle.line_engines.specs.Answers.{as_line}
 use Rattle.line_devices.specs.Lines.{most_lines}
 use Rattle.line_engines.specs.Driver.{AnswersKept, AppendsClosed, Closes, ClosesAs, RunsOver}
-use Rattle.line_engines.specs.Recorded.{AppendsAllRecords, AppendsRecords, AreLegal, AreRecords, ClosesRecording, ClosesWithRecords, HasStamps, IsEnded, IsEndedAt, IsNotPast, IsRecordOf, IsWritten, Recorded, Recording, RecordsLine, RunsRecord, StampsInOrder, TellsRecords, events_by, events_of, first_recording, record_line, was_lost, was_taken}
+use Rattle.line_engines.specs.Recorded.{AppendsAllRecords, AppendsRecords, RecordedAreLegal, AreRecords, ClosesRecording, ClosesWithRecords, HasStamps, IsEnded, IsEndedAt, IsNotPast, IsRecordOf, IsWritten, Recorded, Recording, RecordsLine, RunsRecord, StampsInOrder, WritesRecords, events_by, events_of, first_recording, record_line, was_lost, was_taken}
 use Rattle.line_engines.specs.RecordedPrivate.{KeepsRecording, RecordKept}
 use Rattle.line_engines.specs.declared.fault.RunFault.{RunFault}
-use Rattle.line_engines.specs.Schedules.{Scheduled, TakesEvent, lacks_memory, passed, start, stepped, took, took_none}
+use Rattle.line_engines.specs.Schedules.{Scheduled, TakesEvent, lacks_memory, schedule_skips, schedule_start, stepped, took, took_none}
 use Rattle.line_engines.specs.SchedulesPrivate.{ScheduleKept, TakesKept}
 
 -- ---- one record after another
@@ -92,34 +92,34 @@ same_record r batch call invoked replied reply a b c d e =
     ∙ ap (λ x. made batch call invoked replied x) e)))
 
 -- what the machine reports about a call is its record
-known_answer : (calls : List Call) (n : ℕ) (r : Recorded) (known : KnownCall) → IsRecordOf calls n r → Tells (call_at n calls) (Some known) → (c : Option CallRecord) → HasRecord n known c → HasRecordWith n known (Some (Replied r.reply)) c
+known_answer : (calls : List Call) (n : ℕ) (r : Recorded) (known : KnownCall) → IsRecordOf calls n r → Reports (call_at n calls) (Some known) → (c : Option CallRecord) → HasRecord n known c → HasRecordWith n known (Some (Replied r.reply)) c
 known_answer calls n r known of t c has =
-    let told : TellsCall of.call known = subst (λ o. Tells o (Some known)) of.found t in
-    subst (λ a. HasRecordWith n known a c) (told.answer ∙ of.holds) has
+    let reported : ReportsCall of.call known = subst (λ o. Reports o (Some known)) of.found t in
+    subst (λ a. HasRecordWith n known a c) (reported.answer ∙ of.holds) has
 
-told_same_record : (calls : List Call) (n : ℕ) (r : Recorded) (known : KnownCall) (x : CallRecord) → IsRecordOf calls n r → Tells (call_at n calls) (Some known) → HasRecord n known (Some x) → recorded_as x ≡ r
-told_same_record calls n r known x of t has =
-    let told : TellsCall of.call known = subst (λ o. Tells o (Some known)) of.found t in
+reported_same_record : (calls : List Call) (n : ℕ) (r : Recorded) (known : KnownCall) (x : CallRecord) → IsRecordOf calls n r → Reports (call_at n calls) (Some known) → HasRecord n known (Some x) → recorded_as x ≡ r
+reported_same_record calls n r known x of t has =
+    let reported : ReportsCall of.call known = subst (λ o. Reports o (Some known)) of.found t in
     let is : Records n known r.reply x = known_answer calls n r known of t (Some x) has in
     sym (same_record r x.batch.now x.call x.invoked x.replied x.reply.now
-    (of.batch_is ∙ (sym told.batch ∙ ap (λ (b : Bor Batch). b.now) (sym is.batch)))
+    (of.batch_is ∙ (sym reported.batch ∙ ap (λ (b : Bor Batch). b.now) (sym is.batch)))
     (of.number_is ∙ sym is.call_is)
-    (of.invoked_is ∙ (sym told.invoked ∙ sym is.invoked))
-    (of.replied_is ∙ (sym told.replied ∙ sym is.replied))
+    (of.invoked_is ∙ (sym reported.invoked ∙ sym is.invoked))
+    (of.replied_is ∙ (sym reported.replied ∙ sym is.replied))
     (sym is.reply_is))
 
-pub told_line : (calls : List Call) (n : ℕ) (r : Recorded) (known : KnownCall) (x : CallRecord) → IsRecordOf calls n r → Tells (call_at n calls) (Some known) → HasRecord n known (Some x) → as_line (record_json x.batch.now x.call x.invoked x.replied x.reply.now) ≡ record_line r
-told_line calls n r known x of t has = ap record_line (told_same_record calls n r known x of t has)
+pub reported_line : (calls : List Call) (n : ℕ) (r : Recorded) (known : KnownCall) (x : CallRecord) → IsRecordOf calls n r → Reports (call_at n calls) (Some known) → HasRecord n known (Some x) → as_line (record_json x.batch.now x.call x.invoked x.replied x.reply.now) ≡ record_line r
+reported_line calls n r known x of t has = ap record_line (reported_same_record calls n r known x of t has)
 
-pub told_written : (calls : List Call) (n : ℕ) (r : Recorded) (known : KnownCall) (x : CallRecord) → IsRecordOf calls n r → Tells (call_at n calls) (Some known) → HasRecord n known (Some x) → IsWrittenBatch x.batch.now → IsWrittenCall x.call x.invoked x.replied x.reply.now → IsWritten r
-told_written calls n r known x of t has batch call = subst IsWritten (told_same_record calls n r known x of t has) (batch, call)
+pub reported_written : (calls : List Call) (n : ℕ) (r : Recorded) (known : KnownCall) (x : CallRecord) → IsRecordOf calls n r → Reports (call_at n calls) (Some known) → HasRecord n known (Some x) → IsWrittenBatch x.batch.now → IsWrittenCall x.call x.invoked x.replied x.reply.now → IsWritten r
+reported_written calls n r known x of t has batch call = subst IsWritten (reported_same_record calls n r known x of t has) (batch, call)
 
 -- ---- the records of an order
 
 abbrev recorded : (call : Call) (number : ℕ) (books : List Book) → Recorded
 recorded call number books = record { batch = call.batch; call = number; invoked = call.invoked; replied = call.replied; reply = reply_to call.batch books }
 
-records_of : (calls : List Call) (books : List Book) (order : List ℕ) → HoldReplies calls books order → (records : List Recorded) × AreRecords calls order records × AreLegal books records
+records_of : (calls : List Call) (books : List Book) (order : List ℕ) → HoldReplies calls books order → (records : List Recorded) × AreRecords calls order records × RecordedAreLegal books records
 records_of calls books [] h = ([], tt, tt)
 records_of calls books (n ∷ ns) h =
     let t = records_of calls (books_after h.0.batch books) ns h.3 in (
@@ -130,8 +130,8 @@ records_of calls books (n ∷ ns) h =
 
 -- ---- their stamps
 
-told_same : (a b : CallAnswer) → Some a ≡ Some b → a ≡ b
-told_same a b e = cc
+reported_same : (a b : CallAnswer) → Some a ≡ Some b → a ≡ b
+reported_same a b e = cc
 
 has_stamps : (log : List Happened) (calls : List Call) (n : ℕ) (r : Recorded) (of : IsRecordOf calls n r) → IsStamped log of.call → HasStamps log r
 has_stamps log calls n r of s =
@@ -140,18 +140,18 @@ has_stamps log calls n r of s =
     record {
       invoked = (
         invoked.0,
-        subst (λ b. At log r.invoked (Invoke r.call b) invoked.0) (sym of.batch_is)
-            (subst (λ k. At log r.invoked (Invoke k of.call.batch) invoked.0) same
-            (subst (λ i. At log i (Invoke of.call.number of.call.batch) invoked.0) (sym of.invoked_is) invoked.1)),
+        subst (λ b. EventAt log r.invoked (Invoke r.call b) invoked.0) (sym of.batch_is)
+            (subst (λ k. EventAt log r.invoked (Invoke k of.call.batch) invoked.0) same
+            (subst (λ i. EventAt log i (Invoke of.call.number of.call.batch) invoked.0) (sym of.invoked_is) invoked.1)),
       );
       replied = λ i. (
         λ e.
             let at = (s.replied i).0 (sym of.replied_is ∙ e) in
-            let t = s.told i at.0 at.1 in
-            let is : t.0 ≡ Replied r.reply = told_same _ _ (sym t.1 ∙ of.holds) in
-            subst (λ k. At log i (on.Reply k) (Answered k (Replied r.reply))) same
-            (subst (λ d. At log i (on.Reply of.call.number) d) (t.2 ∙ ap (Answered of.call.number) is) at.1),
-        λ at. of.replied_is ∙ (s.replied i).1 (Answered r.call (Replied r.reply), subst (λ k. At log i (on.Reply k) (Answered r.call (Replied r.reply))) (sym same) at),
+            let t = s.reported i at.0 at.1 in
+            let is : t.0 ≡ Replied r.reply = reported_same _ _ (sym t.1 ∙ of.holds) in
+            subst (λ k. EventAt log i (on.Reply k) (Answered k (Replied r.reply))) same
+            (subst (λ d. EventAt log i (on.Reply of.call.number) d) (t.2 ∙ ap (Answered of.call.number) is) at.1),
+        λ at. of.replied_is ∙ (s.replied i).1 (Answered r.call (Replied r.reply), subst (λ k. EventAt log i (on.Reply k) (Answered r.call (Replied r.reply))) (sym same) at),
       );
     }
 
@@ -168,16 +168,16 @@ at_most zero k f = omega arith
 at_most (suc i) zero f = absurd (f (omega arith))
 at_most (suc i) (suc k) f = let h = at_most i k (λ l. f (omega arith)) in omega arith
 
-stands_within : (order : List ℕ) (a b : ℕ) → StandsBefore order a b → Within order b
-stands_within [] a b s = absurd s
-stands_within (c ∷ cs) a b s = ⊎_elim (λ p. inr p.1) (λ t. inr (stands_within cs a b t)) s
+listed_within : (order : List ℕ) (a b : ℕ) → IsListedBefore order a b → Within order b
+listed_within [] a b s = absurd s
+listed_within (c ∷ cs) a b s = ⊎_elim (λ p. inr p.1) (λ t. inr (listed_within cs a b t)) s
 
 -- by the stamps of the records, the call of the second ended before that of the first
 ended_before : (log : List Happened) (first second : Recorded) (k : ℕ) → HasStamps log first → HasStamps log second → second.replied ≡ Some k → k < first.invoked → EndedBefore log second.call first.call
 ended_before log first second k f s e l = record {
   reply_number = k;
   invoke_number = first.invoked;
-  told = Answered second.call (Replied second.reply);
+  reported = Answered second.call (Replied second.reply);
   batch = first.batch;
   done = f.invoked.0;
   reply = (s.replied k).0 e;
@@ -194,7 +194,7 @@ none_past log calls r h (n ∷ ns) (x ∷ xs) a s f = (
   none_past log calls r h ns xs a.1 s.1 (λ d w. f d (inr w)),
 )
 
-in_order : (log : List Happened) (calls : List Call) (order : List ℕ) (records : List Recorded) → AreRecords calls order records → AllByRecursion (HasStamps log) records → Different order → ((a b : ℕ) → Within order a → Within order b → EndedBefore log a b → StandsBefore order a b) → StampsInOrder records
+in_order : (log : List Happened) (calls : List Call) (order : List ℕ) (records : List Recorded) → AreRecords calls order records → AllByRecursion (HasStamps log) records → Different order → ((a b : ℕ) → Within order a → Within order b → EndedBefore log a b → IsListedBefore order a b) → StampsInOrder records
 in_order log calls [] [] a s d strict = tt
 in_order log calls [] (r ∷ rs) a s d strict = absurd a
 in_order log calls (n ∷ ns) [] a s d strict = absurd a
@@ -202,23 +202,23 @@ in_order log calls (n ∷ ns) (r ∷ rs) a s d strict =
     let apart : (c : ℕ) → Within ns c → n ≡ c → ⊥ = λ c w. All-within (λ x. n ≡ x → ⊥) ns c d.0 w in (
       none_past log calls r s.0 ns rs a.1 s.1 (λ c w e.
           let here : EndedBefore log c n = subst (λ k. EndedBefore log c k) a.0.number_is e in
-          ⊎_elim (λ p. apart c w p.0) (λ t. apart n (stands_within ns c n t) refl) (strict c n (inr w) (inl refl) here)),
+          ⊎_elim (λ p. apart c w p.0) (λ t. apart n (listed_within ns c n t) refl) (strict c n (inr w) (inl refl) here)),
       in_order log calls ns rs a.1 s.1 d.1 (λ b c v w e. ⊎_elim (λ p. absurd (apart b v p.0)) (λ t. t) (strict b c (inr v) (inr w) e)),
     )
 
 -- ---- their ends
 
 -- a call with the plain book's reply has begun
-begun_told : (stage : Stage) (reply : Reply) → answer_of stage ≡ Some (Replied reply) → is_begun stage ≡ true
-begun_told waiting reply e = absurd (cc)
-begun_told (running base made) reply e = absurd (cc)
-begun_told (ready base) reply e = absurd (cc)
-begun_told (conflict n) reply e = absurd (cc)
-begun_told (answered r) reply e = refl
-begun_told (committed r) reply e = refl
+begun_reported : (stage : CallStage) (reply : Reply) → answer_of stage ≡ Some (Replied reply) → is_begun stage ≡ true
+begun_reported waiting reply e = absurd (cc)
+begun_reported (running base made) reply e = absurd (cc)
+begun_reported (ready base) reply e = absurd (cc)
+begun_reported (conflict n) reply e = absurd (cc)
+begun_reported (answered r) reply e = refl
+begun_reported (committed r) reply e = refl
 
 -- a call whose reply was returned has replied
-gave_out : (log : List Happened) (s : State) → Stands log s → (n : ℕ) (call : Call) → call_at n s.calls ≡ Some call → (reply : Reply) → GaveOut log n reply → (k : ℕ) × (call.replied ≡ Some k)
+gave_out : (log : List Happened) (s : MachineState) → LogInvariant log s → (n : ℕ) (call : Call) → call_at n s.calls ≡ Some call → (reply : Reply) → GaveOut log n reply → (k : ℕ) × (call.replied ≡ Some k)
 gave_out log s h n call found reply out =
     let kept = h.tied.kept out.1.0 _ out.1.2 in
     let within = call_within n s.calls call found in
@@ -233,7 +233,7 @@ ended_by None invoked reply f g = f refl
 ended_by (Some k) invoked reply f g = g k refl
 
 -- the second list of books is the first one: both come from the batches of the calls
-have_ended : (log : List Happened) (s : State) → Stands log s → OneBatch log → ((n : ℕ) (call : Call) → call_at n s.calls ≡ Some call → IsStamped log call) → (books : List Book) (order : List ℕ) (records : List Recorded) → ((n : ℕ) → Within order n → IsListed log n) → AreRecords s.calls order records → AreLegal books records → RunsFrom log books order → AllByRecursion IsEnded records
+have_ended : (log : List Happened) (s : MachineState) → LogInvariant log s → OneBatch log → ((n : ℕ) (call : Call) → call_at n s.calls ≡ Some call → IsStamped log call) → (books : List Book) (order : List ℕ) (records : List Recorded) → ((n : ℕ) → Within order n → IsListed log n) → AreRecords s.calls order records → RecordedAreLegal books records → RunsFrom log books order → AllByRecursion IsEnded records
 have_ended log s h one stamps books [] [] listed are legal runs = tt
 have_ended log s h one stamps books [] (r ∷ rs) listed are legal runs = absurd are
 have_ended log s h one stamps books (n ∷ ns) [] listed are legal runs = absurd are
@@ -243,7 +243,7 @@ have_ended log s h one stamps books (n ∷ ns) (r ∷ rs) listed are legal runs 
     let within = call_within n s.calls call of.found in
     let stamp = h.sound.stamped call within.0 in
     let invoked = ((stamps n call of.found).invoked call.invoked call.batch).0 (refl, refl) in
-    let begun = begun_told call.stage r.reply of.holds in
+    let begun = begun_reported call.stage r.reply of.holds in
     let handed : HandedIn log n call.batch = subst (λ m. HandedIn log m call.batch) within.1 (call.invoked, invoked.0, invoked.1) in
     let batch : runs.0 ≡ r.batch = one n runs.0 call.batch runs.1 handed ∙ sym of.batch_is in
     let reply : reply_to runs.0 books ≡ r.reply = ap (λ b. reply_to b books) batch ∙ sym legal.0 in
@@ -264,11 +264,11 @@ have_ended log s h one stamps books (n ∷ ns) (r ∷ rs) listed are legal runs 
 
 -- ---- the trust domain of their batches
 
-all_accepted : (own : List ℕ) (events : List Event) (answers : List Answer) → AreFor own events → AllByRecursion (λ h. IsFor own h.event) (accepted events answers)
-all_accepted own [] answers m = tt
-all_accepted own (e ∷ es) [] m = tt
-all_accepted own (e ∷ es) (Ok d ∷ answers) m = (m.0, all_accepted own es answers m.1)
-all_accepted own (e ∷ es) (Err r ∷ answers) m = all_accepted own es answers m.1
+all_accepted : (own_domain : List ℕ) (events : List Event) (answers : List EventAnswer) → AreFor own_domain events → AllByRecursion (λ h. IsFor own_domain h.event) (accepted events answers)
+all_accepted own_domain [] answers m = tt
+all_accepted own_domain (e ∷ es) [] m = tt
+all_accepted own_domain (e ∷ es) (Ok d ∷ answers) m = (m.0, all_accepted own_domain es answers m.1)
+all_accepted own_domain (e ∷ es) (Err r ∷ answers) m = all_accepted own_domain es answers m.1
 
 same_event : (g h : Happened) → Some g ≡ Some h → g ≡ h
 same_event g h e = cc
@@ -278,32 +278,32 @@ at_event P [] i h all e = absurd (cc)
 at_event P (g ∷ log) zero h all e = subst P (same_event g h e) all.0
 at_event P (g ∷ log) (suc i) h all e = at_event P log i h all.1 e
 
-made_for : (own : List ℕ) (log : List Happened) → AllByRecursion (λ h. IsFor own h.event) log → (records : List Recorded) → AllByRecursion (HasStamps log) records → AllByRecursion (λ r. r.batch.domain ≡ own) records
-made_for own log all [] s = tt
-made_for own log all (r ∷ rs) s =
+made_for : (own_domain : List ℕ) (log : List Happened) → AllByRecursion (λ h. IsFor own_domain h.event) log → (records : List Recorded) → AllByRecursion (HasStamps log) records → AllByRecursion (λ r. r.batch.domain ≡ own_domain) records
+made_for own_domain log all [] s = tt
+made_for own_domain log all (r ∷ rs) s =
     let invoked = s.0.invoked.1 in
-    (at_event (λ h. IsFor own h.event) log invoked.0 _ all invoked.2, made_for own log all rs s.1)
+    (at_event (λ h. IsFor own_domain h.event) log invoked.0 _ all invoked.2, made_for own_domain log all rs s.1)
 
 -- ---- what the end of a run writes
 
-pub tells_records : (own : List ℕ) (last : Scheduled) (order : List ℕ) → Runs (first_state own) last.events last.answers last.machine → AreFor own last.events → IsOrder last.machine order → Headline (accepted last.events last.answers) order → HoldReplies last.machine.calls first_books order → ((records : List Recorded) → AreRecords last.machine.calls order records → AllByRecursion IsWritten records) → (records : List Recorded) × TellsRecords own last order records (flat_map record_line records)
-tells_records own last order runs made is headline held written =
+pub writes_records : (own_domain : List ℕ) (last : Scheduled) (order : List ℕ) → Runs (first_machine own_domain) last.events last.answers last.machine → AreFor own_domain last.events → IsOrder last.machine order → Headline (accepted last.events last.answers) order → HoldReplies last.machine.calls first_books order → ((records : List Recorded) → AreRecords last.machine.calls order records → AllByRecursion IsWritten records) → (records : List Recorded) × WritesRecords own_domain last order records (flat_map record_line records)
+writes_records own_domain last order runs made is headline held written =
     let log = accepted last.events last.answers in
     let calls = last.machine.calls in
     let found = records_of calls first_books order held in
-    let stamps : (n : ℕ) (call : Call) → call_at n calls ≡ Some call → IsStamped log call = λ n call at. calls_are_stamped own last.events last.answers last.machine n call runs at in
-    let stands : Stands log last.machine = runs_stand last.events last.answers [] (first_state own) last.machine (record { sound = first_sound own; tied = first_tied own }) runs in
-    let stamped = have_stamps log calls (λ n call at. calls_are_stamped own last.events last.answers last.machine n call runs at) order found.0 found.1 in (
+    let stamps : (n : ℕ) (call : Call) → call_at n calls ≡ Some call → IsStamped log call = λ n call at. calls_are_stamped own_domain last.events last.answers last.machine n call runs at in
+    let represents : LogInvariant log last.machine = runs_keep_invariant last.events last.answers [] (first_machine own_domain) last.machine (record { sound = first_sound own_domain; tied = first_tied own_domain }) runs in
+    let stamped = have_stamps log calls (λ n call at. calls_are_stamped own_domain last.events last.answers last.machine n call runs at) order found.0 found.1 in (
       found.0,
       record {
         is_order = is;
         headline = headline;
         records = found.1;
         stamped = stamped;
-        ended = have_ended log last.machine stands headline.one_batch stamps first_books order found.0 (λ n w. (headline.serial.listed n).0 w) found.1 found.2 headline.legal;
+        ended = have_ended log last.machine represents headline.one_batch stamps first_books order found.0 (λ n w. (headline.serial.listed n).0 w) found.1 found.2 headline.legal;
         legal = found.2;
         in_order = in_order log calls order found.0 found.1 stamped headline.serial.once (λ a b v w e. headline.strict a b ((headline.serial.listed a).0 v) ((headline.serial.listed b).0 w) e);
-        made_for = made_for own log (all_accepted own last.events last.answers made) found.0 stamped;
+        made_for = made_for own_domain log (all_accepted own_domain last.events last.answers made) found.0 stamped;
         written = written found.0 found.1;
         end_is = refl;
       },
@@ -315,10 +315,10 @@ no_reply : (domain : List ℕ) (now next : Recording) (line reply : List ℕ) �
 no_reply domain now next line reply (was_taken t l r) = r
 no_reply domain now next line reply (was_lost t l r) = r
 
-nothing_told : (domain : List ℕ) (first last : Recording) (lines : List (List ℕ)) (text : List ℕ) → IsRun (RecordsLine domain) first lines last text → text ≡ []
-nothing_told domain first last [] text r = r.1
-nothing_told domain first last (l ∷ lines) text r =
-    r.4 ∙ (ap (λ x. x ++ r.2) (no_reply domain first r.0 l r.1 r.3) ∙ nothing_told domain r.0 last lines r.2 r.5)
+nothing_reported : (domain : List ℕ) (first last : Recording) (lines : List (List ℕ)) (text : List ℕ) → IsRun (RecordsLine domain) first lines last text → text ≡ []
+nothing_reported domain first last [] text r = r.1
+nothing_reported domain first last (l ∷ lines) text r =
+    r.4 ∙ (ap (λ x. x ++ r.2) (no_reply domain first r.0 l r.1 r.3) ∙ nothing_reported domain r.0 last lines r.2 r.5)
 
 -- ---- how many lines were lost
 
@@ -339,11 +339,11 @@ lost_so_far domain first last (l ∷ lines) text r =
 record Went (domain : List ℕ) (lines : List (List ℕ)) (first last : Scheduled) : Type 0 where
   events : last.events ≡ first.events ++ events_of domain first.ids lines
   memory : AllByRecursion (λ answer. lacks_memory answer ≡ false) first.answers → AllByRecursion (λ answer. lacks_memory answer ≡ false) last.answers
-  runs : (s : State) → Runs s first.events first.answers first.machine → Runs s last.events last.answers last.machine
+  runs : (s : MachineState) → Runs s first.events first.answers first.machine → Runs s last.events last.answers last.machine
 
 went_on : (domain : List ℕ) (line : List ℕ) (lines : List (List ℕ)) (first next last : Scheduled) → TakesEvent domain first line next → Went domain lines next last → Went domain (line ∷ lines) first last
 went_on domain line lines first next last (took_none fault e n) w =
-    let then : Went domain lines (passed first) last = subst (λ s. Went domain lines s last) n w in
+    let then : Went domain lines (schedule_skips first) last = subst (λ s. Went domain lines s last) n w in
     record {
       events = then.events ∙ ap (λ r. first.events ++ events_by r (λ event left. event ∷ events_of domain left lines) (events_of domain first.ids lines)) (sym e);
       memory = then.memory;
@@ -356,7 +356,7 @@ went_on domain line lines first next last (took event ids answer machine e a m n
           ∙ (append_assoc first.events (event ∷ []) (events_of domain ids lines)
           ∙ ap (λ r. first.events ++ events_by r (λ event left. event ∷ events_of domain left lines) (events_of domain first.ids lines)) (sym e));
       memory = λ h. then.memory (All-more (λ answer. lacks_memory answer ≡ false) first.answers answer h m);
-      runs = λ s r. then.runs s (runs_go_on first.events first.answers s first.machine machine event answer r a);
+      runs = λ s r. then.runs s (runs_extend first.events first.answers s first.machine machine event answer r a);
     }
 
 none_lost : (domain : List ℕ) (line : List ℕ) (first next : Recording) (reply : List ℕ) → RecordsLine domain first line next reply → next.lost ≡ 0 → TakesEvent domain first.scheduled line next.scheduled
@@ -381,7 +381,7 @@ went domain (line ∷ lines) first last text run z =
 records_alone : (domain seed : List ℕ) (kept : RecordKept) (lines : List (List ℕ)) (old new : Option (List ℕ)) → AppendsClosed (RecordsLine domain) (ClosesAs (ClosesRecording domain) (KeepsRecording kept)) (first_recording domain seed) lines old new → AppendsRecords domain seed lines kept.lost old new
 records_alone domain seed kept lines old new a =
     let run = a.1 in
-    let none = nothing_told domain (first_recording domain seed) run.0 lines run.1 run.3 in
+    let none = nothing_reported domain (first_recording domain seed) run.0 lines run.1 run.3 in
     let text : a.0 ≡ run.2 = run.5 ∙ ap (λ x. x ++ run.2) none in (
       run.0,
       run.2,
@@ -398,7 +398,7 @@ all_records domain seed lines lost old new a z =
       last = (a.0).scheduled;
       text = a.1;
       events = w.events;
-      runs = w.runs (first_state domain) refl;
+      runs = w.runs (first_machine domain) refl;
       memory = w.memory tt;
       closes = a.4;
       appends = a.5;
@@ -427,22 +427,22 @@ abbrev pub recorded_as_lost : ScheduleKept → ℕ → Bool → RecordKept
 recorded_as_lost schedule before lost = record { schedule = schedule; lost = counted lost before }
 
 pub recorded_line : (domain : List ℕ) (before after : RecordKept) (schedule : ScheduleKept) (now : Recording) (bytes text : List ℕ) (lost : Bool) (out : OutputState) → KeepsRecording before now → TakesKept domain schedule now.scheduled bytes text lost → after ≡ recorded_as_lost schedule before.lost lost → AnswersKept (RecordsLine domain) (λ _. false) (KeepsRecording after) now bytes out out true
-recorded_line domain before after schedule now bytes text true out keeps t e =
+recorded_line domain before after schedule now bytes text true out preserves t e =
     let next : Recording = record { scheduled = t.0; lost = now.lost + 1 } in
-    let kept : KeepsRecording (recorded_as_lost schedule before.lost true) next = (t.2, ap (λ n. n + 1) keeps.1) in
+    let kept : KeepsRecording (recorded_as_lost schedule before.lost true) next = (t.2, ap (λ n. n + 1) preserves.1) in
     (next, [], (λ line is k. was_lost (t.1 line is k).1 refl refl), Puts-nil out, subst (λ r. KeepsRecording r next) (sym e) kept, refl)
-recorded_line domain before after schedule now bytes text false out keeps t e =
+recorded_line domain before after schedule now bytes text false out preserves t e =
     let next : Recording = record { scheduled = t.0; lost = now.lost } in
-    let kept : KeepsRecording (recorded_as_lost schedule before.lost false) next = (t.2, keeps.1) in
+    let kept : KeepsRecording (recorded_as_lost schedule before.lost false) next = (t.2, preserves.1) in
     (next, [], (λ line is k. was_taken (t.1 line is k).1 refl refl), Puts-nil out, subst (λ r. KeepsRecording r next) (sym e) kept, refl)
 
 -- the records were put after what was put before
-pub closed_with_records : (own : List ℕ) (now : Scheduled) (m : State) (order : List ℕ) → now.machine ≡ m → Runs (first_state own) now.events now.answers now.machine → AreFor own now.events → IsOrder m order → ((own : List ℕ) (events : List Event) (answers : List Answer) → Runs (first_state own) events answers m → Headline (accepted events answers) order) → ((own : List ℕ) (events : List Event) (answers : List Answer) → Runs (first_state own) events answers m → HoldReplies m.calls first_books order) → (a b : OutputState) → ((records : List Recorded) → AreRecords m.calls order records → Puts a b (flat_map record_line records)) → ((records : List Recorded) → AreRecords m.calls order records → AllByRecursion IsWritten records) → Closes (ClosesWithRecords own) now a b
-closed_with_records own now m order e runs made is headline held a b put written =
-    let ran = subst (λ s. Runs (first_state own) now.events now.answers s) e runs in
-    let told = tells_records own now order runs made
+pub closed_with_records : (own_domain : List ℕ) (now : Scheduled) (m : MachineState) (order : List ℕ) → now.machine ≡ m → Runs (first_machine own_domain) now.events now.answers now.machine → AreFor own_domain now.events → IsOrder m order → ((own_domain : List ℕ) (events : List Event) (answers : List EventAnswer) → Runs (first_machine own_domain) events answers m → Headline (accepted events answers) order) → ((own_domain : List ℕ) (events : List Event) (answers : List EventAnswer) → Runs (first_machine own_domain) events answers m → HoldReplies m.calls first_books order) → (a b : OutputState) → ((records : List Recorded) → AreRecords m.calls order records → Puts a b (flat_map record_line records)) → ((records : List Recorded) → AreRecords m.calls order records → AllByRecursion IsWritten records) → Closes (ClosesWithRecords own_domain) now a b
+closed_with_records own_domain now m order e runs made is headline held a b put written =
+    let ran = subst (λ s. Runs (first_machine own_domain) now.events now.answers s) e runs in
+    let reported = writes_records own_domain now order runs made
     (subst (λ s. IsOrder s order) (sym e) is)
-    (headline own now.events now.answers ran)
-    (subst (λ (s : State). HoldReplies s.calls first_books order) (sym e) (held own now.events now.answers ran))
-    (λ records are. written records (subst (λ (s : State). AreRecords s.calls order records) e are)) in
-    (flat_map record_line told.0, (order, told.0, told.1), put told.0 (subst (λ (s : State). AreRecords s.calls order told.0) e told.1.records))
+    (headline own_domain now.events now.answers ran)
+    (subst (λ (s : MachineState). HoldReplies s.calls first_books order) (sym e) (held own_domain now.events now.answers ran))
+    (λ records are. written records (subst (λ (s : MachineState). AreRecords s.calls order records) e are)) in
+    (flat_map record_line reported.0, (order, reported.0, reported.1), put reported.0 (subst (λ (s : MachineState). AreRecords s.calls order reported.0) e reported.1.records))

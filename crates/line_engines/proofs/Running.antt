@@ -2,11 +2,11 @@
 use Rattle.std.proofs.Common.{◌≡◌, ◌+◌, ℕ, List, true, false, refl, ap, subst, sym, ◌∙◌}
 use Rattle.rand_chacha.specs.ChaCha.{ChaCha}
 use Rattle.entry_book.specs.Book.{Book}
-use Rattle.line_devices.specs.Lines.{kept, IsLine}
+use Rattle.line_devices.specs.Lines.{stored_part, IsLine}
 use Rattle.line_devices.specs.Stream.{OutputState}
 use Rattle.line_reading.proofs.Kept.{kept_spells}
 use Rattle.line_engines.specs.Answers.{Answers, Running, refused, replied, not_read, not_run}
-use Rattle.line_engines.specs.AnswersPrivate.{AnswersLine, Keeping, StandsFor}
+use Rattle.line_engines.specs.AnswersPrivate.{AnswersLine, Keeping, PlainRepresents}
 use Rattle.line_engines.specs.Driver.{AnswersKept}
 
 same_state : (a b : Running) → a.books ≡ b.books → a.ids ≡ b.ids → a.calls ≡ b.calls → a.lines ≡ b.lines → a ≡ b
@@ -18,15 +18,15 @@ same_state a b e i f g =
     ap p e ∙ (ap d i ∙ (ap q f ∙ ap r g))
 
 -- a reply to what is kept of a line is one to the line
-of_kept : (domain : List ℕ) (now : Running) (line : List ℕ) (next : Running) (reply : List ℕ) → IsLine line → Answers domain now (kept line) next reply → Answers domain now line next reply
+of_kept : (domain : List ℕ) (now : Running) (line : List ℕ) (next : Running) (reply : List ℕ) → IsLine line → Answers domain now (stored_part line) next reply → Answers domain now line next reply
 of_kept domain now line next reply is (refused fault e n r) = refused fault (sym (kept_spells domain now.ids line is) ∙ e) n r
 of_kept domain now line next reply is (replied request ids e n r) = replied request ids (sym (kept_spells domain now.ids line is) ∙ e) n r
 of_kept domain now line next reply is (not_read n r) = not_read n r
 of_kept domain now line next reply is (not_run request ids e n r) = not_run request ids (sym (kept_spells domain now.ids line is) ∙ e) n r
 
 -- the line of which these bytes are kept was answered
-pub told : (domain : List ℕ) (before after : Keeping) (now : Running) (bytes : List ℕ) (old out : OutputState) → StandsFor before now → AnswersLine domain (record { books = now.books; ids = before.ids; calls = before.calls; lines = before.lines }) bytes old out after.book after.ids after.calls → after.lines ≡ before.lines + 1 → AnswersKept (Answers domain) (λ _. false) (StandsFor after) now bytes old out true
-told domain before after now bytes old out s a l =
+pub reported : (domain : List ℕ) (before after : Keeping) (now : Running) (bytes : List ℕ) (old out : OutputState) → PlainRepresents before now → AnswersLine domain (record { books = now.books; ids = before.ids; calls = before.calls; lines = before.lines }) bytes old out after.book after.ids after.calls → after.lines ≡ before.lines + 1 → AnswersKept (Answers domain) (λ _. false) (PlainRepresents after) now bytes old out true
+reported domain before after now bytes old out s a l =
     let e = same_state (record { books = now.books; ids = before.ids; calls = before.calls; lines = before.lines }) now refl (sym s.1) (sym s.2) (sym s.3) in
     let P : Running → Type 0 = λ r. AnswersLine domain r bytes old out after.book after.ids after.calls in
     let b = subst P e a in

@@ -22,12 +22,12 @@ pub record Running : Type 0 where
   pub lines : ℕ
 
 -- before the first line: no book but the empty one, and no id of the seed is drawn
-abbrev pub start : List ℕ → Running
-start seed = record { books = first_books; ids = first_ids seed; calls = 0; lines = 0 }
+abbrev pub plain_start : List ℕ → Running
+plain_start seed = record { books = first_books; ids = first_ids seed; calls = 0; lines = 0 }
 
 -- after a line without a call
-abbrev pub passed : Running → Running
-passed now = record { books = now.books; ids = now.ids; calls = now.calls; lines = now.lines + 1 }
+abbrev pub plain_skips : Running → Running
+plain_skips now = record { books = now.books; ids = now.ids; calls = now.calls; lines = now.lines + 1 }
 
 -- after a line whose batch was run and left these books and these ids
 abbrev pub called : Running → List Book → ChaCha → Running
@@ -41,9 +41,9 @@ as_line text = text ++ codes "\n"
 -- whatever the book replies; a refused line draws none. If memory runs out, the reply says so. The line then changes nothing, except
 -- that a batch may have drawn its ids and taken a call number.
 pub data Answers (domain : List ℕ) (now : Running) (line : List ℕ) (next : Running) (reply : List ℕ) : Type 0 where
-  refused : (fault : Fault) → spelled domain now.ids line ≡ Err fault → next ≡ passed now → reply ≡ as_line (fault_json (now.lines + 1) fault) → Answers domain now line next reply
+  refused : (fault : Fault) → spelled domain now.ids line ≡ Err fault → next ≡ plain_skips now → reply ≡ as_line (fault_json (now.lines + 1) fault) → Answers domain now line next reply
   replied : (request : Request) (ids : ChaCha) → spelled domain now.ids line ≡ Ok (request, ids) → next ≡ called now (books_after request.batch now.books) ids → reply ≡ as_line (reply_json (now.calls + 1) (reply_to request.batch now.books)) → Answers domain now line next reply
-  not_read : next ≡ passed now → reply ≡ as_line (no_memory_json (now.lines + 1)) → Answers domain now line next reply
+  not_read : next ≡ plain_skips now → reply ≡ as_line (no_memory_json (now.lines + 1)) → Answers domain now line next reply
   not_run : (request : Request) (ids : ChaCha) → spelled domain now.ids line ≡ Ok (request, ids) → next ≡ called now now.books ids → reply ≡ as_line (no_memory_json (now.lines + 1)) → Answers domain now line next reply
 
 -- no text follows the last reply
@@ -52,4 +52,4 @@ ClosesWithNothing last end = end ≡ []
 
 -- the result of a run of the engine over an input and an output
 abbrev pub RunsPlain : {T : Type 0} → List ℕ → List ℕ → InputState → InputState → OutputState → OutputState → Result T RunFault → Type 0
-RunsPlain domain seed input rest output out result = RunsOver (Answers domain) ClosesWithNothing ⊥ (start seed) input rest output out result
+RunsPlain domain seed input rest output out result = RunsOver (Answers domain) ClosesWithNothing ⊥ (plain_start seed) input rest output out result

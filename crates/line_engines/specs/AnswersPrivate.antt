@@ -2,25 +2,25 @@
 use Rattle.std.specs.Prelude.{◌≡◌, ◌⊎◌, ℕ, ◌+◌, List, refl}
 use Rattle.rand_chacha.specs.ChaCha.{ChaCha}
 use Rattle.entry_book.specs.Book.{Book}
-use Rattle.entry_book.specs.History.{PlainState, Stands, books_after, reply_to}
+use Rattle.entry_book.specs.History.{PlainState, RepresentsBooks, books_after, reply_to}
 use Rattle.entry_book.specs.Batches.{Batch}
 use Rattle.reg_lines.specs.Refusals.{no_memory_json}
 use Rattle.reg_lines.specs.Replies.{reply_json}
 use Rattle.line_devices.specs.Stream.{OutputState, Puts}
-use Rattle.line_engines.specs.Answers.{Running, passed, as_line, Answers, not_read}
+use Rattle.line_engines.specs.Answers.{Running, plain_skips, as_line, Answers, not_read}
 
 -- One batch was answered: it was run, or refused for lack of memory. The book's state represents the resulting books.
 abbrev pub AnswersBatch : List Book → Batch → ℕ → ℕ → OutputState → OutputState → PlainState → Type 0
-AnswersBatch books batch call line old new book = (Stands book (books_after batch books) × Puts old new (as_line (reply_json call (reply_to batch books)))) ⊎ (Stands book books × Puts old new (as_line (no_memory_json line)))
+AnswersBatch books batch call line old new book = (RepresentsBooks book (books_after batch books) × Puts old new (as_line (reply_json call (reply_to batch books)))) ⊎ (RepresentsBooks book books × Puts old new (as_line (no_memory_json line)))
 
 -- One line was answered: its reply was put, the book's state represents the resulting books, and these are the resulting ids and
 -- number of calls.
 abbrev pub AnswersLine : List ℕ → Running → List ℕ → OutputState → OutputState → PlainState → ChaCha → ℕ → Type 0
-AnswersLine domain now line old new book ids calls = (next : Running) × (reply : List ℕ) × Answers domain now line next reply × Puts old new reply × Stands book next.books × (next.ids ≡ ids) × (next.calls ≡ calls) × (next.lines ≡ now.lines + 1)
+AnswersLine domain now line old new book ids calls = (next : Running) × (reply : List ℕ) × Answers domain now line next reply × Puts old new reply × RepresentsBooks book next.books × (next.ids ≡ ids) × (next.calls ≡ calls) × (next.lines ≡ now.lines + 1)
 
 -- Each line has a reply in every state: at least the one for out of memory.
 pub an_answer : (domain : List ℕ) (now : Running) (line : List ℕ) → (next : Running) × (reply : List ℕ) × Answers domain now line next reply
-an_answer domain now line = (passed now, as_line (no_memory_json (now.lines + 1)), not_read refl refl)
+an_answer domain now line = (plain_skips now, as_line (no_memory_json (now.lines + 1)), not_read refl refl)
 
 -- the state that the engine stores
 pub record Keeping : Type 0 where
@@ -29,5 +29,5 @@ pub record Keeping : Type 0 where
   pub calls : ℕ
   pub lines : ℕ
 
-abbrev pub StandsFor : Keeping → Running → Type 0
-StandsFor kept now = Stands kept.book now.books × (now.ids ≡ kept.ids) × (now.calls ≡ kept.calls) × (now.lines ≡ kept.lines)
+abbrev pub PlainRepresents : Keeping → Running → Type 0
+PlainRepresents kept now = RepresentsBooks kept.book now.books × (now.ids ≡ kept.ids) × (now.calls ≡ kept.calls) × (now.lines ≡ kept.lines)

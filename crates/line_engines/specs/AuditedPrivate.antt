@@ -2,25 +2,25 @@
 use Rattle.std.specs.Prelude.{◌≡◌, ℕ, ◌+◌, ⊤, List, [], ◌∷◌, ◌++◌, length, Option, None, Some, Ok, Err, refl}
 use Rattle.line_reading.specs.Records.{AuditRecord}
 use Rattle.call_audit.specs.Audits.{judged}
-use Rattle.call_audit.specs.Keeps.{AuditState, Keeps}
+use Rattle.call_audit.specs.Represents.{AuditState, RepresentsRecords}
 use Rattle.line_engines.specs.declared.audit_engine.Over.{Over}
 use Rattle.line_engines.specs.declared.audit_engine.Over.TheVariants.{Denied, NoMemory}
-use Rattle.line_engines.specs.declared.outcome.Outcome.{Outcome}
-use Rattle.line_engines.specs.declared.outcome.Outcome.TheVariants as outcome
-use Rattle.line_engines.specs.Audited.{Audited, AnswersRecord, wanting, past}
+use Rattle.line_engines.specs.declared.outcome.RunEnd.{RunEnd}
+use Rattle.line_engines.specs.declared.outcome.RunEnd.TheVariants as outcome
+use Rattle.line_engines.specs.Audited.{Audited, AnswersRecord, lacks_memory_now, past}
 
 -- Each line has a result in every state: at least that for out of memory.
 an_audit_by : (domain : List ℕ) (now : Audited) (line : List ℕ) (over : Option Over) → now.over ≡ over → (next : Audited) × (reply : List ℕ) × AnswersRecord domain now line next reply
-an_audit_by domain now line None e = (record { records = now.records; over = Some NoMemory }, [], wanting e refl refl)
+an_audit_by domain now line None e = (record { records = now.records; over = Some NoMemory }, [], lacks_memory_now e refl refl)
 an_audit_by domain now line (Some over) e = (now, [], past over e refl refl)
 
 pub an_audit : (domain : List ℕ) (now : Audited) (line : List ℕ) → (next : Audited) × (reply : List ℕ) × AnswersRecord domain now line next reply
 an_audit domain now line = an_audit_by domain now line now.over refl
 
-abbrev pub outcome_of : Option Over → Outcome
-outcome_of None = outcome.Done
-outcome_of (Some (Denied line cause)) = outcome.Denied
-outcome_of (Some NoMemory) = outcome.Done
+abbrev pub run_end_of : Option Over → RunEnd
+run_end_of None = outcome.Done
+run_end_of (Some (Denied line cause)) = outcome.Denied
+run_end_of (Some NoMemory) = outcome.Done
 
 pub record AuditKept : Type 0 where
   pub auditor : AuditState
@@ -28,12 +28,12 @@ pub record AuditKept : Type 0 where
   pub over : Option Over
 
 -- the auditor represents the records, unless the run is over
-pub record StandsFor (kept : AuditKept) (now : Audited) : Type 0 where
+pub record AuditRepresents (kept : AuditKept) (now : Audited) : Type 0 where
   pub over : now.over ≡ kept.over
-  pub keeps : kept.over ≡ None → Keeps kept.auditor now.records
+  pub preserves : kept.over ≡ None → RepresentsRecords kept.auditor now.records
 
 -- the result of auditing one line after these records; if memory runs out, nothing is said
 abbrev pub AuditsLine : List ℕ → List AuditRecord → List ℕ → AuditState → Option Over → Type 0
-AuditsLine domain records line auditor None = (r : AuditRecord) × (judged domain records line ≡ Ok r) × Keeps auditor (records ++ r ∷ [])
+AuditsLine domain records line auditor None = (r : AuditRecord) × (judged domain records line ≡ Ok r) × RepresentsRecords auditor (records ++ r ∷ [])
 AuditsLine domain records line auditor (Some (Denied number cause)) = (number ≡ length records + 1) × (judged domain records line ≡ Err cause)
 AuditsLine domain records line auditor (Some NoMemory) = ⊤

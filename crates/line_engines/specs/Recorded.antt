@@ -7,10 +7,10 @@ use Rattle.entry_book.specs.declared.reply.Reply.{Reply}
 use Rattle.entry_book.specs.Batches.{Batch}
 use Rattle.entry_book.specs.Book.{Book}
 use Rattle.entry_book.specs.History.{books_after, first_books, is_committed, reply_to}
-use Rattle.call_machine.specs.Calls.{Call, call_at, first_state, answer_of}
+use Rattle.call_machine.specs.Calls.{Call, call_at, first_machine, answer_of}
 use Rattle.call_machine.specs.Laws.{IsOrder}
 use Rattle.call_machine.specs.Machine.{Runs}
-use Rattle.call_machine.specs.Schedules.{At, Happened, Headline, accepted}
+use Rattle.call_machine.specs.Schedules.{EventAt, Happened, Headline, accepted}
 use Rattle.call_answers.specs.declared.answer.Done.{Done}
 use Rattle.call_answers.specs.declared.answer.Done.TheVariants.{Answered}
 use Rattle.call_events.specs.declared.event.Event.{Event}
@@ -27,7 +27,7 @@ use Rattle.reg_lines.specs.Spelled.{IsWrittenBatch, IsWrittenCall}
 use Rattle.line_devices.specs.Stream.{InputState, OutputState}
 use Rattle.line_engines.specs.Answers.{as_line}
 use Rattle.line_engines.specs.Driver.{RunsOver}
-use Rattle.line_engines.specs.Schedules.{LosesLine, Scheduled, TakesEvent, lacks_memory, start}
+use Rattle.line_engines.specs.Schedules.{LosesLine, Scheduled, TakesEvent, lacks_memory, schedule_start}
 use Rattle.line_engines.specs.declared.fault.RunFault.{RunFault}
 
 -- ---- a record, and properties of a list of records that mention no machine
@@ -45,9 +45,9 @@ abbrev pub record_line : Recorded → List ℕ
 record_line r = as_line (record_json r.batch r.call r.invoked r.replied r.reply)
 
 -- the plain book, run through the batches of the records, gives each of them its reply
-abbrev pub AreLegal : List Book → List Recorded → Type 0
-AreLegal books [] = ⊤
-AreLegal books (r ∷ rs) = (r.reply ≡ reply_to r.batch books) × AreLegal (books_after r.batch books) rs
+abbrev pub RecordedAreLegal : List Book → List Recorded → Type 0
+RecordedAreLegal books [] = ⊤
+RecordedAreLegal books (r ∷ rs) = (r.reply ≡ reply_to r.batch books) × RecordedAreLegal (books_after r.batch books) rs
 
 -- the second call did not reply before the first one was invoked
 abbrev pub IsNotPast : Recorded → Recorded → Type 0
@@ -75,8 +75,8 @@ IsWritten r = IsWrittenBatch r.batch × IsWrittenCall r.call r.invoked r.replied
 -- The stamps are numbers of accepted events: that of the invoke of the batch, and, exactly if there is one, that of the event that
 -- returned this reply.
 pub record HasStamps (log : List Happened) (r : Recorded) : Type 0 where
-  pub invoked : (done : Done) × At log r.invoked (Invoke r.call r.batch) done
-  pub replied : (n : ℕ) → (r.replied ≡ Some n) ↔ At log n (on.Reply r.call) (Answered r.call (Replied r.reply))
+  pub invoked : (done : Done) × EventAt log r.invoked (Invoke r.call r.batch) done
+  pub replied : (n : ℕ) → (r.replied ≡ Some n) ↔ EventAt log n (on.Reply r.call) (Answered r.call (Replied r.reply))
 
 -- the call of this number has this record; the call holds the reply
 pub record IsRecordOf (calls : List Call) (number : ℕ) (r : Recorded) : Type 0 where
@@ -104,7 +104,7 @@ pub record Recording : Type 0 where
 
 -- before the first line
 abbrev pub first_recording : List ℕ → List ℕ → Recording
-first_recording domain seed = record { scheduled = start domain seed; lost = 0 }
+first_recording domain seed = record { scheduled = schedule_start domain seed; lost = 0 }
 
 -- A line is taken, or it is lost and counted. Its answer isn't written.
 pub data RecordsLine (domain : List ℕ) (now : Recording) (line : List ℕ) (next : Recording) (reply : List ℕ) : Type 0 where
@@ -114,20 +114,20 @@ pub data RecordsLine (domain : List ℕ) (now : Recording) (line : List ℕ) (ne
 -- The last text is the records of the machine's calls, a line each, in an order for which the headline (main theorem) holds with the
 -- events and their answers. The stamps of the records are those of the events. Each call replied after its invoke, or was committed.
 -- The plain book gives them their replies in this order, which is strict by the stamps alone. The batches are of the trust domain.
-pub record TellsRecords (domain : List ℕ) (last : Scheduled) (order : List ℕ) (recorded : List Recorded) (end : List ℕ) : Type 0 where
+pub record WritesRecords (domain : List ℕ) (last : Scheduled) (order : List ℕ) (recorded : List Recorded) (end : List ℕ) : Type 0 where
   pub is_order : IsOrder last.machine order
   pub headline : Headline (accepted last.events last.answers) order
   pub records : AreRecords last.machine.calls order recorded
   pub stamped : AllByRecursion (HasStamps (accepted last.events last.answers)) recorded
   pub ended : AllByRecursion IsEnded recorded
-  pub legal : AreLegal first_books recorded
+  pub legal : RecordedAreLegal first_books recorded
   pub in_order : StampsInOrder recorded
   pub made_for : AllByRecursion (λ r. r.batch.domain ≡ domain) recorded
   pub written : AllByRecursion IsWritten recorded
   pub end_is : end ≡ flat_map record_line recorded
 
 abbrev pub ClosesWithRecords : List ℕ → Scheduled → List ℕ → Type 0
-ClosesWithRecords domain last end = (order : List ℕ) × (recorded : List Recorded) × TellsRecords domain last order recorded end
+ClosesWithRecords domain last end = (order : List ℕ) × (recorded : List Recorded) × WritesRecords domain last order recorded end
 
 abbrev pub ClosesRecording : List ℕ → Recording → List ℕ → Type 0
 ClosesRecording domain last end = ClosesWithRecords domain last.scheduled end
@@ -153,7 +153,7 @@ pub record AppendsAllRecords (domain seed : List ℕ) (lines : List (List ℕ)) 
   pub last : Scheduled
   pub text : List ℕ
   pub events : last.events ≡ events_of domain (first_ids seed) lines
-  pub runs : Runs (first_state domain) last.events last.answers last.machine
+  pub runs : Runs (first_machine domain) last.events last.answers last.machine
   pub memory : AllByRecursion (λ answer. lacks_memory answer ≡ false) last.answers
   pub closes : ClosesWithRecords domain last text
   pub appends : Appends old new text

@@ -1,16 +1,16 @@
 -- The state that the engine `record_schedule` stores. For this crate's own contracts.
 use Rattle.std.specs.Prelude.{◌≡◌, ◌+◌, ℕ, List, [], refl}
-use Rattle.line_engines.specs.Schedules.{passed, unread}
-use Rattle.line_engines.specs.SchedulesPrivate.{ScheduleKept, StandsFor}
+use Rattle.line_engines.specs.Schedules.{schedule_skips, unread}
+use Rattle.line_engines.specs.SchedulesPrivate.{ScheduleKept, ScheduleRepresents}
 use Rattle.line_engines.specs.Recorded.{Recording, RecordsLine, was_lost}
 
 -- any line may be lost, in every state
 pub a_line_recorded : (domain : List ℕ) (now : Recording) (line : List ℕ) → (next : Recording) × (reply : List ℕ) × RecordsLine domain now line next reply
-a_line_recorded domain now line = (record { scheduled = passed now.scheduled; lost = now.lost + 1 }, [], was_lost (unread refl) refl refl)
+a_line_recorded domain now line = (record { scheduled = schedule_skips now.scheduled; lost = now.lost + 1 }, [], was_lost (unread refl) refl refl)
 
 pub record RecordKept : Type 0 where
   pub schedule : ScheduleKept
   pub lost : ℕ
 
 abbrev pub KeepsRecording : RecordKept → Recording → Type 0
-KeepsRecording kept now = StandsFor kept.schedule now.scheduled × (now.lost ≡ kept.lost)
+KeepsRecording kept now = ScheduleRepresents kept.schedule now.scheduled × (now.lost ≡ kept.lost)

@@ -2,14 +2,14 @@
 
 ghost use Rattle.std.specs.Prelude.{◌≡◌, ◌+◌, ◌<◌, ◌^◌, [], List};
 ghost use Rattle.line_reading.specs.Records.{AuditRecord};
-ghost use Rattle.call_audit.specs.Keeps.{Keeps};
+ghost use Rattle.call_audit.specs.Represents.{RepresentsRecords};
 ghost use Rattle.line_engines.specs.Audited.{RunsAudit};
 ghost use Rattle.line_engines.specs.AuditedPrivate.{AuditsLine};
 
-use crate::driver::{Answerer, run_lines};
+use crate::driver::{LineHandler, run_lines};
 use crate::fault::RunFault;
-use crate::outcome::Outcome;
-use call_audit::{Auditor, Cause, Verdict};
+use crate::outcome::RunEnd;
+use call_audit::{Auditor, Cause, AuditVerdict};
 use line_devices::{Input, Output, Sink, Source};
 use reg_lines::print_line;
 use spiffe_name::TrustDomain;
@@ -25,7 +25,7 @@ pub fn audit<S: Source, K: Sink>(
     domain: TrustDomain,
     input: &mut Input<S>,
     output: &mut Output<K>,
-) -> Result<Outcome, RunFault>
+) -> Result<RunEnd, RunFault>
     requires input { input.old.failures ≡ 0 }
     requires output { output.old.failures ≡ 0 }
     requires none_held { output.old.held ≡ [] }
@@ -65,12 +65,12 @@ impl Model for AuditRun {
 
 impl AuditRun {
     ghost use Rattle.std.specs.Prelude.{◌≡◌, IfOk};
-    ghost use Rattle.line_engines.specs.Audited.{Audited, start, verdict_in};
-    ghost use Rattle.line_engines.specs.AuditedPrivate.{StandsFor, outcome_of};
+    ghost use Rattle.line_engines.specs.Audited.{Audited, audit_start, audit_verdict_in};
+    ghost use Rattle.line_engines.specs.AuditedPrivate.{AuditRepresents, run_end_of};
 
     /// The state before the first line. The error is out of memory.
     fn new(alloc: Global, domain: TrustDomain) -> Result<AuditRun, AllocError>
-        ensures stands { IfOk result (λ run. StandsFor run start) }
+        ensures represents { IfOk result (λ run. AuditRepresents run audit_start) }
         ensures domain { IfOk result (λ run. run.auditor.book.domain ≡ domain) }
         ensures lines { IfOk result (λ run. run.lines ≡ 0) }
     {
@@ -82,31 +82,31 @@ impl AuditRun {
     }
 
     /// Returns the verdict after the lines so far. The error is that memory ran out for one of them.
-    fn verdict(&self) -> Result<Verdict, AllocError>
-        ensures { (now : Audited) → StandsFor self.now now → IfOk result (λ verdict. verdict_in now ≡ Some verdict) }
+    fn verdict(&self) -> Result<AuditVerdict, AllocError>
+        ensures { (now : Audited) → AuditRepresents self.now now → IfOk result (λ verdict. audit_verdict_in now ≡ Some verdict) }
     {
         match &self.over {
-            None => Ok(Verdict::Yes(self.auditor.count() as u64)),
-            Some(Over::Denied(line, cause)) => Ok(Verdict::No(*line, *cause)),
+            None => Ok(AuditVerdict::Yes(self.auditor.count() as u64)),
+            Some(Over::Denied(line, cause)) => Ok(AuditVerdict::No(*line, *cause)),
             Some(Over::NoMemory) => Err(AllocError),
         }
     }
 
     /// Returns the outcome, which decides the exit status.
-    fn outcome(&self) -> Outcome
-        ensures { result ≡ outcome_of self.now.over }
+    fn outcome(&self) -> RunEnd
+        ensures { result ≡ run_end_of self.now.over }
     {
         match &self.over {
-            Some(Over::Denied(_, _)) => Outcome::Denied,
-            Some(Over::NoMemory) | None => Outcome::Done,
+            Some(Over::Denied(_, _)) => RunEnd::Denied,
+            Some(Over::NoMemory) | None => RunEnd::Done,
         }
     }
 }
 
-impl Answerer for AuditRun {
+impl LineHandler for AuditRun {
     ghost use Rattle.std.specs.Prelude.{ℕ, List, ⊤};
-    ghost use Rattle.line_engines.specs.Audited.{AnswersRecord, Audited, ClosesWithVerdict, is_over};
-    ghost use Rattle.line_engines.specs.AuditedPrivate.{StandsFor, an_audit};
+    ghost use Rattle.line_engines.specs.Audited.{AnswersRecord, Audited, ClosesWithVerdict, is_audit_over};
+    ghost use Rattle.line_engines.specs.AuditedPrivate.{AuditRepresents, an_audit};
 
     ghost State = { Audited };
 
@@ -114,19 +114,19 @@ impl Answerer for AuditRun {
 
     ghost setting = { λ r. r.auditor.book.domain };
 
-    ghost stands = { StandsFor };
+    ghost represents = { AuditRepresents };
 
     ghost lines = { λ r. r.lines };
 
-    ghost keeps = { λ _ _. ⊤ };
+    ghost preserves = { λ _ _. ⊤ };
 
     ghost answers = { AnswersRecord };
 
-    ghost ends = { is_over };
+    ghost ends = { is_audit_over };
 
     ghost closes = { λ _. ClosesWithVerdict };
 
-    ghost wants = { ⊤ };
+    ghost may_lack_memory = { ⊤ };
 
     ghost some_answer = { an_audit };
 
@@ -151,7 +151,7 @@ impl Answerer for AuditRun {
 /// Audits the next line, and returns why the audit is over, if it is.
 fn audit_line(auditor: &mut Auditor, line: &[u8]) -> Option<Over>
     ensures domain { auditor.new.book.domain ≡ auditor.old.book.domain }
-    ensures line { (records : List AuditRecord) → Keeps auditor.old records
+    ensures line { (records : List AuditRecord) → RepresentsRecords auditor.old records
         → AuditsLine auditor.old.book.domain records line.now auditor.new result }
 {
     let number = auditor.count() as u64 + 1;

@@ -2,7 +2,7 @@
 
 ghost use Rattle.std.specs.Prelude.{◌≡◌, ◌+◌, ◌<◌, ◌^◌, ◌⊎◌, ℕ, Bool, false, List, [], OnErr, OnOk, IfErr};
 ghost use Rattle.line_devices.specs.Stream.{IsOut, Puts};
-ghost use Rattle.line_engines.specs.Driver.{AnswersKept, Closes, ClosesAs, RunsOver, Steps, TakesNoMore};
+ghost use Rattle.line_engines.specs.Driver.{AnswersKept, Closes, ClosesAs, RunsOver, StepsUntilEnd, TakesNoMore};
 ghost use Rattle.line_engines.specs.DriverPrivate.{FailsToClose};
 
 use crate::fault::RunFault;
@@ -10,7 +10,7 @@ use line_devices::{Input, Line, Output, Sink, Source, flush_before_waiting, most
 use std::alloc::{AllocError, Global};
 
 /// A line handler: it answers the lines of an input, one after another, and may add a last text.
-pub trait Answerer {
+pub trait LineHandler {
     // The state of a run.
     ghost State: { Type 0 };
 
@@ -20,13 +20,13 @@ pub trait Answerer {
     ghost setting: { Self → Self.Setting };
 
     // Whether the value represents this state.
-    ghost stands: { Self → Self.State → Type 0 };
+    ghost represents: { Self → Self.State → Type 0 };
 
     // The number of lines that were answered.
     ghost lines: { Self → ℕ };
 
     // What a value at the start of a run and a later value have in common, whatever the replies to its lines and however it ends.
-    ghost keeps: { Self → Self → Type 0 };
+    ghost preserves: { Self → Self → Type 0 };
 
     // The reply that a line may get in a state, and the state after it.
     ghost answers: { Self.Setting → Self.State → List ℕ → Self.State → List ℕ → Type 0 };
@@ -38,26 +38,26 @@ pub trait Answerer {
     ghost closes: { Self.Setting → Self.State → List ℕ → Type 0 };
 
     // Whether that text may fail for lack of memory.
-    ghost wants: { Type 0 };
+    ghost may_lack_memory: { Type 0 };
 
     /// Answers the next line, of which these bytes are kept. Returns true if the run goes on.
     fn answer<K: Sink>(&mut self, alloc: Global, line: &[u8], output: &mut Output<K>) -> bool
         requires { Self.lines self.old < 2 ^ 63 }
         ensures lines { Self.lines self.new ≡ Self.lines self.old + 1 }
         ensures setting { Self.setting self.new ≡ Self.setting self.old }
-        ensures keeps { (first : Self) → Self.keeps first self.old → Self.keeps first self.new }
-        ensures answered { (now : Self.State) → Self.stands self.old now
-            → AnswersKept (Self.answers (Self.setting self.old)) Self.ends (Self.stands self.new) now line.now output.old output.new result };
+        ensures preserves { (first : Self) → Self.preserves first self.old → Self.preserves first self.new }
+        ensures answered { (now : Self.State) → Self.represents self.old now
+            → AnswersKept (Self.answers (Self.setting self.old)) Self.ends (Self.represents self.new) now line.now output.old output.new result };
 
     /// Puts the text that follows the last reply; the state stays the same. The error is out of memory, and then nothing is
     /// put.
     fn close<K: Sink>(&mut self, alloc: Global, output: &mut Output<K>) -> Result<(), AllocError>
-        ensures closed { (now : Self.State) → Self.stands self.old now
+        ensures closed { (now : Self.State) → Self.represents self.old now
             → OnOk result (Closes (Self.closes (Self.setting self.old)) now output.old output.new) }
-        ensures stood { (now : Self.State) → Self.stands self.old now → Self.stands self.new now }
-        ensures keeps { (first : Self) → Self.keeps first self.old → Self.keeps first self.new }
-        ensures wanting { OnErr result Self.wants }
-        ensures stays { OnErr result (output.new ≡ output.old) };
+        ensures represented { (now : Self.State) → Self.represents self.old now → Self.represents self.new now }
+        ensures preserves { (first : Self) → Self.preserves first self.old → Self.preserves first self.new }
+        ensures lacks_memory_now { OnErr result Self.may_lack_memory }
+        ensures is_unchanged { OnErr result (output.new ≡ output.old) };
 
     // Each line may get a reply.
     ghost some_answer: { (s : Self.Setting) (now : Self.State) (line : List ℕ) → (next : Self.State) × (reply : List ℕ) × Self.answers s now line next reply };
@@ -67,22 +67,22 @@ pub trait Answerer {
 /// the one at which the run ends.
 ///
 /// The replies are out before each read that may wait, and at the end. The handler then represents the final state. The run
-/// preserves `keeps`, even if a device failed.
-pub fn run_lines<A: Answerer, S: Source, K: Sink>(
+/// preserves `preserves`, even if a device failed.
+pub fn run_lines<A: LineHandler, S: Source, K: Sink>(
     alloc: Global,
-    answerer: &mut A,
+    handler: &mut A,
     input: &mut Input<S>,
     output: &mut Output<K>,
 ) -> Result<(), RunFault>
-    requires fresh { A.lines answerer.old ≡ 0 }
+    requires fresh { A.lines handler.old ≡ 0 }
     requires input { input.old.failures ≡ 0 }
     requires output { output.old.failures ≡ 0 }
     requires none_held { output.old.held ≡ [] }
-    ensures keeps { (first : A) → A.keeps first answerer.old → A.keeps first answerer.new }
-    ensures runs { (first : A.State) → A.stands answerer.old first → A.ends first ≡ false
-        → RunsOver (Steps A.ends (A.answers (A.setting answerer.old))) (ClosesAs (A.closes (A.setting answerer.old)) (A.stands answerer.new)) A.wants first input.old input.new output.old output.new result }
-    ensures takes { (first : A.State) → A.stands answerer.old first → A.ends first ≡ false
-        → TakesNoMore A.ends (A.answers (A.setting answerer.old)) (A.stands answerer.new) first input.old input.new result }
+    ensures preserves { (first : A) → A.preserves first handler.old → A.preserves first handler.new }
+    ensures runs { (first : A.State) → A.represents handler.old first → A.ends first ≡ false
+        → RunsOver (StepsUntilEnd A.ends (A.answers (A.setting handler.old))) (ClosesAs (A.closes (A.setting handler.old)) (A.represents handler.new)) A.may_lack_memory first input.old input.new output.old output.new result }
+    ensures takes { (first : A.State) → A.represents handler.old first → A.ends first ≡ false
+        → TakesNoMore A.ends (A.answers (A.setting handler.old)) (A.represents handler.new) first input.old input.new result }
 {
     let mut line = Line::new(alloc)?;
     for count in 0..most_lines() {
@@ -92,34 +92,34 @@ pub fn run_lines<A: Answerer, S: Source, K: Sink>(
         }
         match input.read_line(&mut line) {
             Err(_) => return Err(RunFault::Input),
-            Ok(false) => return finish(alloc, answerer, output),
+            Ok(false) => return finish(alloc, handler, output),
             Ok(true) => {
-                if !answerer.answer(alloc, line.as_bytes(), output) {
-                    return finish(alloc, answerer, output);
+                if !handler.answer(alloc, line.as_bytes(), output) {
+                    return finish(alloc, handler, output);
                 }
             }
         }
     }
-    finish(alloc, answerer, output)
+    finish(alloc, handler, output)
 }
 
 /// Puts the last text, and flushes what is left, even if memory runs out for that text.
-fn finish<A: Answerer, K: Sink>(
+fn finish<A: LineHandler, K: Sink>(
     alloc: Global,
-    answerer: &mut A,
+    handler: &mut A,
     output: &mut Output<K>,
 ) -> Result<(), RunFault>
-    ensures closed { (now : A.State) → A.stands answerer.old now
-        → Closes (A.closes (A.setting answerer.old)) now output.old output.new ⊎ Puts output.old output.new [] }
-    ensures stood { (now : A.State) → A.stands answerer.old now → A.stands answerer.new now }
-    ensures keeps { (first : A) → A.keeps first answerer.old → A.keeps first answerer.new }
+    ensures closed { (now : A.State) → A.represents handler.old now
+        → Closes (A.closes (A.setting handler.old)) now output.old output.new ⊎ Puts output.old output.new [] }
+    ensures represented { (now : A.State) → A.represents handler.old now → A.represents handler.new now }
+    ensures preserves { (first : A) → A.preserves first handler.old → A.preserves first handler.new }
     ensures ok { OnOk result ((output.new.failures ≡ 0) × IsOut output.new) }
-    ensures ok_closed { (now : A.State) → A.stands answerer.old now
-        → OnOk result (Closes (A.closes (A.setting answerer.old)) now output.old output.new) }
+    ensures ok_closed { (now : A.State) → A.represents handler.old now
+        → OnOk result (Closes (A.closes (A.setting handler.old)) now output.old output.new) }
     ensures err { IfErr result (λ fault. ((fault ≡ RunFault.Output) × (0 < output.new.failures))
-        ⊎ ((fault ≡ RunFault.NoMemory) × FailsToClose A.wants output.old output.new)) }
+        ⊎ ((fault ≡ RunFault.NoMemory) × FailsToClose A.may_lack_memory output.old output.new)) }
 {
-    let closed = answerer.close(alloc, output);
+    let closed = handler.close(alloc, output);
     output.flush();
     if output.has_failed() {
         return Err(RunFault::Output);

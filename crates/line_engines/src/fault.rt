@@ -20,9 +20,9 @@ pub enum RunFault {
 }
 
 impl From<AllocError> for RunFault {
-    ghost use Rattle.line_engines.specs.declared.fault.RunFault.TheVariants.{NoMemory as WantOfMemory};
+    ghost use Rattle.line_engines.specs.declared.fault.RunFault.TheVariants.{NoMemory as OutOfMemory};
 
-    ghost from_gives = { λ _ fault. fault ≡ WantOfMemory };
+    ghost from_gives = { λ _ fault. fault ≡ OutOfMemory };
 
     fn from(_: AllocError) -> RunFault {
         RunFault::NoMemory

@@ -1,10 +1,10 @@
 //! How are the lines of an input answered, from the bytes that are read to the bytes that are written?
 //!
-//! - [`Answerer`]: a line handler, which answers the lines of an input; [`run_lines`]: a run of any of them over the bytes.
+//! - [`LineHandler`]: a line handler, which answers the lines of an input; [`run_lines`]: a run of any of them over the bytes.
 //! - [`plain`]: from the bytes of request lines to the bytes of reply lines, on a plain book; [`schedule`]: from event lines to
 //!   their answers and the order of the calls; [`record_schedule`]: from event lines to the records of the calls alone; [`audit`]:
 //!   from records of calls to the verdict on them.
-//! - [`Outcome`]: the result of a run that succeeded; [`RunFault`]: why a run failed.
+//! - [`RunEnd`]: the result of a run that succeeded; [`RunFault`]: why a run failed.
 //! - [`recorded_runs_are_confirmed`]: the verdict on the records of a schedule is yes.
 //!
 //! The definitions are in `specs/`: `Driver` defines a run of any line handler, and `Answers`, `Schedules`, `Recorded` and `Audited`
@@ -23,10 +23,10 @@ mod record_engine;
 mod schedule_engine;
 
 pub use audit_engine::audit;
-pub use driver::{Answerer, run_lines};
+pub use driver::{LineHandler, run_lines};
 pub use fault::RunFault;
 pub use laws::recorded_runs_are_confirmed;
-pub use outcome::Outcome;
+pub use outcome::RunEnd;
 pub use plain_engine::plain;
 pub use record_engine::record_schedule;
 pub use schedule_engine::schedule;

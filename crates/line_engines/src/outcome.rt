@@ -2,7 +2,7 @@
 
 /// The result of a run that succeeded.
 #[derive(Clone, Copy, Debug, PartialEq, Eq, Drop)]
-pub enum Outcome {
+pub enum RunEnd {
     /// Everything was done; an audit found no fault.
     Done,
     /// An audit found a fault.

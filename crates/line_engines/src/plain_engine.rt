@@ -2,11 +2,11 @@
 
 ghost use Rattle.std.specs.Prelude.{◌≡◌, ◌+◌, ◌<◌, ◌≤◌, ◌^◌, [], List};
 ghost use Rattle.entry_book.specs.Book.{Book};
-ghost use Rattle.entry_book.specs.History.{Stands};
+ghost use Rattle.entry_book.specs.History.{RepresentsBooks};
 ghost use Rattle.line_engines.specs.Answers.{RunsPlain};
 ghost use Rattle.line_engines.specs.AnswersPrivate.{AnswersBatch, AnswersLine};
 
-use crate::driver::{Answerer, run_lines};
+use crate::driver::{LineHandler, run_lines};
 use crate::fault::RunFault;
 use entry_book::Batch;
 use line_devices::{Input, Output, Sink, Source};
@@ -59,12 +59,12 @@ impl Model for PlainRun {
 
 impl PlainRun {
     ghost use Rattle.std.specs.Prelude.{◌≡◌, IfOk};
-    ghost use Rattle.line_engines.specs.Answers.{start};
-    ghost use Rattle.line_engines.specs.AnswersPrivate.{StandsFor};
+    ghost use Rattle.line_engines.specs.Answers.{plain_start};
+    ghost use Rattle.line_engines.specs.AnswersPrivate.{PlainRepresents};
 
     /// The state before the first line. The error is out of memory.
     fn new(alloc: Global, domain: TrustDomain, seed: [u8; 32]) -> Result<PlainRun, AllocError>
-        ensures stands { IfOk result (λ run. StandsFor run (start seed)) }
+        ensures represents { IfOk result (λ run. PlainRepresents run (plain_start seed)) }
         ensures domain { IfOk result (λ run. run.book.domain ≡ domain) }
     {
         Ok(PlainRun {
@@ -76,10 +76,10 @@ impl PlainRun {
     }
 }
 
-impl Answerer for PlainRun {
+impl LineHandler for PlainRun {
     ghost use Rattle.std.specs.Prelude.{ℕ, List, false, ⊤, ◌+◌, refl};
     ghost use Rattle.line_engines.specs.Answers.{Answers, ClosesWithNothing, Running};
-    ghost use Rattle.line_engines.specs.AnswersPrivate.{Keeping, StandsFor, an_answer};
+    ghost use Rattle.line_engines.specs.AnswersPrivate.{Keeping, PlainRepresents, an_answer};
 
     ghost State = { Running };
 
@@ -87,11 +87,11 @@ impl Answerer for PlainRun {
 
     ghost setting = { λ r. r.book.domain };
 
-    ghost stands = { StandsFor };
+    ghost represents = { PlainRepresents };
 
     ghost lines = { λ r. r.lines };
 
-    ghost keeps = { λ _ _. ⊤ };
+    ghost preserves = { λ _ _. ⊤ };
 
     ghost answers = { Answers };
 
@@ -99,7 +99,7 @@ impl Answerer for PlainRun {
 
     ghost closes = { λ _. ClosesWithNothing };
 
-    ghost wants = { ⊥ };
+    ghost may_lack_memory = { ⊥ };
 
     ghost some_answer = { an_answer };
 
@@ -137,7 +137,7 @@ fn answer<K: Sink>(
     requires lines { lines < 2 ^ 63 }
     ensures domain { book.new.domain ≡ book.old.domain }
     ensures calls { result ≤ calls + 1 }
-    ensures line { (books : List Book) → Stands book.old books
+    ensures line { (books : List Book) → RepresentsBooks book.old books
         → AnswersLine book.old.domain (record { books = books; ids = ids.old; calls = calls; lines = lines }) line.now output.old output.new book.new ids.new result }
 {
     match read_request(alloc, book.domain(), ids, line, lines + 1) {
@@ -156,7 +156,7 @@ fn answer<K: Sink>(
 fn call<K: Sink>(book: &mut PlainBook, batch: &Batch, call: u64, line: u64, output: &mut Output<K>)
     requires made_for { batch.now.domain ≡ book.old.domain }
     ensures domain { book.new.domain ≡ book.old.domain }
-    ensures answered { (books : List Book) → Stands book.old books
+    ensures answered { (books : List Book) → RepresentsBooks book.old books
         → AnswersBatch books batch.now call line output.old output.new book.new }
 {
     match book.run(batch) {

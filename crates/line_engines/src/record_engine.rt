@@ -5,7 +5,7 @@ ghost use Rattle.std.specs.List.{AllByRecursion, flat_map};
 ghost use Rattle.line_devices.specs.Stream.{Puts};
 ghost use Rattle.line_engines.specs.Recorded.{AreRecords, IsRecordOf, IsWritten, Recorded, RunsRecord, record_line};
 
-use crate::driver::{Answerer, run_lines};
+use crate::driver::{LineHandler, run_lines};
 use crate::fault::RunFault;
 use crate::schedule_engine::ScheduleRun;
 use call_machine::Machine;
@@ -67,7 +67,7 @@ impl RecordRun {
 
     /// The state before the first line. The error is out of memory.
     fn new(alloc: Global, domain: TrustDomain, seed: [u8; 32]) -> Result<RecordRun, AllocError>
-        ensures stands { IfOk result (λ run. KeepsRecording run (first_recording domain seed)) }
+        ensures represents { IfOk result (λ run. KeepsRecording run (first_recording domain seed)) }
         ensures domain { IfOk result (λ run. run.schedule.machine.domain ≡ domain) }
         ensures lines { IfOk result (λ run. run.schedule.lines ≡ 0) }
     {
@@ -85,7 +85,7 @@ impl RecordRun {
     }
 }
 
-impl Answerer for RecordRun {
+impl LineHandler for RecordRun {
     ghost use Rattle.std.specs.Prelude.{ℕ, List, false, ⊤};
     ghost use Rattle.line_engines.specs.Recorded.{ClosesRecording, Recording, RecordsLine};
     ghost use Rattle.line_engines.specs.RecordedPrivate.{KeepsRecording, a_line_recorded};
@@ -96,11 +96,11 @@ impl Answerer for RecordRun {
 
     ghost setting = { λ r. r.schedule.machine.domain };
 
-    ghost stands = { KeepsRecording };
+    ghost represents = { KeepsRecording };
 
     ghost lines = { λ r. r.schedule.lines };
 
-    ghost keeps = { λ _ _. ⊤ };
+    ghost preserves = { λ _ _. ⊤ };
 
     ghost answers = { RecordsLine };
 
@@ -108,7 +108,7 @@ impl Answerer for RecordRun {
 
     ghost closes = { ClosesRecording };
 
-    ghost wants = { ⊤ };
+    ghost may_lack_memory = { ⊤ };
 
     ghost some_answer = { a_line_recorded };
 

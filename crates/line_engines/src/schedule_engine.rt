@@ -5,7 +5,7 @@ ghost use Rattle.call_events.specs.Events.{IsFor};
 ghost use Rattle.line_engines.specs.Schedules.{RunsSchedule, Scheduled};
 ghost use Rattle.line_engines.specs.SchedulesPrivate.{Applied, TakesEventLine, is_lost, line_answer_json};
 
-use crate::driver::{Answerer, run_lines};
+use crate::driver::{LineHandler, run_lines};
 use crate::fault::RunFault;
 use call_answers::Done;
 use call_events::{Event, EventRefusal};
@@ -60,8 +60,8 @@ impl Model for ScheduleRun {
 
 impl ScheduleRun {
     ghost use Rattle.std.specs.Prelude.{◌≡◌, ◌+◌, ◌<◌, ◌^◌, IfOk};
-    ghost use Rattle.line_engines.specs.Schedules.{Scheduled, start};
-    ghost use Rattle.line_engines.specs.SchedulesPrivate.{StandsFor, TakesKept, is_lost, line_answer_json};
+    ghost use Rattle.line_engines.specs.Schedules.{Scheduled, schedule_start};
+    ghost use Rattle.line_engines.specs.SchedulesPrivate.{ScheduleRepresents, TakesKept, is_lost, line_answer_json};
 
     /// The state before the first line. The error is out of memory.
     pub(crate) fn new(
@@ -69,7 +69,7 @@ impl ScheduleRun {
         domain: TrustDomain,
         seed: [u8; 32],
     ) -> Result<ScheduleRun, AllocError>
-        ensures stands { IfOk result (λ run. StandsFor run (start domain seed)) }
+        ensures represents { IfOk result (λ run. ScheduleRepresents run (schedule_start domain seed)) }
         ensures domain { IfOk result (λ run. run.machine.domain ≡ domain) }
         ensures lines { IfOk result (λ run. run.lines ≡ 0) }
     {
@@ -86,7 +86,7 @@ impl ScheduleRun {
         requires lines { self.old.lines < 2 ^ 63 }
         ensures lines { self.new.lines ≡ self.old.lines + 1 }
         ensures domain { self.new.machine.domain ≡ self.old.machine.domain }
-        ensures taken { (now : Scheduled) → StandsFor self.old now
+        ensures taken { (now : Scheduled) → ScheduleRepresents self.old now
             → TakesKept self.old.machine.domain self.new now line.now (line_answer_json result) (is_lost result) }
     {
         let answer = take(
@@ -109,10 +109,10 @@ impl ScheduleRun {
     }
 }
 
-impl Answerer for ScheduleRun {
+impl LineHandler for ScheduleRun {
     ghost use Rattle.std.specs.Prelude.{ℕ, List, false, ⊤};
     ghost use Rattle.line_engines.specs.Schedules.{AnswersEvent, ClosesWithOrder, Scheduled};
-    ghost use Rattle.line_engines.specs.SchedulesPrivate.{StandsFor, an_event_answer};
+    ghost use Rattle.line_engines.specs.SchedulesPrivate.{ScheduleRepresents, an_event_answer};
 
     ghost State = { Scheduled };
 
@@ -120,11 +120,11 @@ impl Answerer for ScheduleRun {
 
     ghost setting = { λ r. r.machine.domain };
 
-    ghost stands = { StandsFor };
+    ghost represents = { ScheduleRepresents };
 
     ghost lines = { λ r. r.lines };
 
-    ghost keeps = { λ _ _. ⊤ };
+    ghost preserves = { λ _ _. ⊤ };
 
     ghost answers = { AnswersEvent };
 
@@ -132,7 +132,7 @@ impl Answerer for ScheduleRun {
 
     ghost closes = { λ _. ClosesWithOrder };
 
-    ghost wants = { ⊤ };
+    ghost may_lack_memory = { ⊤ };
 
     ghost some_answer = { an_event_answer };
 

@@ -11,7 +11,7 @@ use Rattle.line_reading.specs.declared.fault.Fault.{Fault}
 use Rattle.line_reading.specs.declared.request.Request.{Request}
 use Rattle.line_reading.specs.declared.fault.Key.{Key}
 use Rattle.line_reading.specs.declared.fault.Key.TheVariants as key
-use Rattle.line_reading.specs.Batches.{Listed, unless_refused, batch_of, listed_in, missing_beside, batch_in}
+use Rattle.line_reading.specs.Batches.{Listed, unless_refused, batch_of, listed_in, missing_with_token, batch_in}
 use Rattle.line_reading.specs.Fields.{◌>>=◌, tries_at, no_others}
 use Rattle.line_reading.specs.Operations.{ops_in}
 use Rattle.line_reading.specs.Requests.{request_in, framed, value_in, object_in, of_line, spelled}
@@ -47,7 +47,7 @@ unfolding batch_in
 batch_in-domain domain ids listed =
     let batch : List Op → Batch = λ ops. record { domain = domain; ops = ops; after = listed.after; token = listed.token } in
     let from_ops : List Op × ChaCha → ReadBatch = λ ops. batch_of domain ops.0 listed.after listed.token >>= batch_and ops.1 in
-    then_ok (batch_made domain) (ops_in 0 (missing_beside listed.token) ids listed.items) from_ops (λ ops. unless_refused-domain (batch_refusal domain ops.0 listed.token) (batch ops.0) ops.1)
+    then_ok (batch_made domain) (ops_in 0 (missing_with_token listed.token) ids listed.items) from_ops (λ ops. unless_refused-domain (batch_refusal domain ops.0 listed.token) (batch ops.0) ops.1)
 
 -- ---- a request
 

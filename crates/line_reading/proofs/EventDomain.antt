@@ -16,7 +16,7 @@ use Rattle.line_reading.specs.declared.event.EventKind.TheVariants as kind
 use Rattle.line_reading.specs.Batches.{Listed, listed_in, batch_in, batch_alone_in}
 use Rattle.line_reading.specs.Codes.{key_name}
 use Rattle.line_reading.specs.Events.{kind_at, invoke_in, event_alone_in, event_of, event_in, spelled_event}
-use Rattle.line_reading.specs.Fields.{◌>>=◌, beside, required, number_at, no_others}
+use Rattle.line_reading.specs.Fields.{◌>>=◌, with_ids, required, number_at, no_others}
 use Rattle.line_reading.proofs.Domain.{ReadBatch, batch_made, batch_in-domain, both_ok, of_line-ok, then_ok}
 
 abbrev Read : Type 0
@@ -51,16 +51,16 @@ invoke_in-domain domain ids call d ms =
     then_ok (made domain) (no_others keys ms) (from_keys inner members) (λ none.
     both_ok (batch_made domain) (made domain) (batch_alone_in domain ids inner members) (invoke_of call) (batch_alone_in-domain domain ids inner members) (λ batch e. e))))
 
-beside-ok : (P : Event → Type 0) (ids : ChaCha) (r : Result Event Fault) → IfOk r P → IfOk (beside ids r) (λ read. P read.0)
-beside-ok P ids (Ok e) h = h
-beside-ok P ids (Err fault) h = tt
+with_ids-ok : (P : Event → Type 0) (ids : ChaCha) (r : Result Event Fault) → IfOk r P → IfOk (with_ids ids r) (λ read. P read.0)
+with_ids-ok P ids (Ok e) h = h
+with_ids-ok P ids (Err fault) h = tt
 
-event_alone_in-domain : (domain : List ℕ) (ids : ChaCha) (event : Event) (ms : Members) → IsFor domain event → IfOk (beside ids (event_alone_in event ms)) (made domain)
+event_alone_in-domain : (domain : List ℕ) (ids : ChaCha) (event : Event) (ms : Members) → IsFor domain event → IfOk (with_ids ids (event_alone_in event ms)) (made domain)
 unfolding event_alone_in
 event_alone_in-domain domain ids event ms h =
     let keys : List Key = key.Event ∷ key.Call ∷ [] in
     let from_keys : ⊤ → Result Event Fault = λ none. Ok event in
-    beside-ok (IsFor domain) ids (no_others keys ms >>= from_keys) (then_ok (IsFor domain) (no_others keys ms) from_keys (λ none. h))
+    with_ids-ok (IsFor domain) ids (no_others keys ms >>= from_keys) (then_ok (IsFor domain) (no_others keys ms) from_keys (λ none. h))
 
 event_of-domain : (domain : List ℕ) (ids : ChaCha) (k : EventKind) (call : ℕ) (d : Data) (ms : Members) → IfOk (event_of domain ids k call d ms) (made domain)
 event_of-domain domain ids kind.Invoke call d ms = invoke_in-domain domain ids call d ms

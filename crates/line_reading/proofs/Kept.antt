@@ -13,7 +13,7 @@ use Rattle.line_reading.specs.declared.fault.Fault.{Fault}
 use Rattle.line_reading.specs.Fields.{◌>>=◌, at_line}
 use Rattle.line_reading.specs.Events.{event_in, spelled_event}
 use Rattle.line_reading.specs.Kept.{KeptSpells, KeptSpellsEvent, KeptSpellsRecord}
-use Rattle.line_devices.specs.Lines.{has_lf, kept, kept_bytes, IsLine}
+use Rattle.line_devices.specs.Lines.{has_lf, stored_part, kept_bytes, IsLine}
 use Rattle.line_reading.specs.Records.{record_in, spelled_record}
 use Rattle.line_reading.specs.Requests.{framed, line_limit, object_in, of_line, request_in, spelled, value_in}
 
@@ -89,7 +89,7 @@ module _ {A : Type 0} (reader : Data → Members → Result A Fault) (line : Lis
       of_line-long reader (take n line) (framed-cut (take n line) (cut_none n line is_line l) (omega (arith, e, is)))
       ∙ sym (of_line-long reader line (framed-long line (omega (arith, longer, is, l))))
 
-  kept_reads : of_line reader (kept line) ≡ of_line reader line
+  kept_reads : of_line reader (stored_part line) ≡ of_line reader line
   kept_reads = elim (split_at (length line) kept_bytes) [ inl l ↦ ap (of_line reader) (take_all kept_bytes line l) | inr l ↦ cut_reads kept_bytes limit_is l ]
 
 pub kept_spells : KeptSpells

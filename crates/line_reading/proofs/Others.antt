@@ -16,7 +16,7 @@ use Rattle.serde_json.specs.Data.{Data, Members, no_members, member}
 use Rattle.serde_json.specs.View.{members_view}
 use Rattle.serde_json.specs.declared.value.Value.{Value}
 use Rattle.line_reading.specs.declared.fault.Key.{Key}
-use Rattle.line_reading.specs.Fields.{HasKey, HasNoOther, HasOther, IsLeastOther, is_one_of, least_other, lesser}
+use Rattle.line_reading.specs.Fields.{HasKey, HasNoOther, HasOther, IsLeastOther, is_known_key, least_other, lesser}
 
 abbrev Bytes : Type 0
 Bytes = List ℕ
@@ -74,7 +74,7 @@ before_others keys k [] h = tt
 before_others keys k (m ∷ ms) h =
     let rest = least_other keys (members_view ms) in
     let after : Before (string_bytes k) rest = before_others keys k ms h.1 in
-    elim (is_one_of keys (string_bytes m.0)) as (λ b. Before (string_bytes k) (cond b rest (Some (lesser (string_bytes m.0) rest)))) [
+    elim (is_known_key keys (string_bytes m.0)) as (λ b. Before (string_bytes k) (cond b rest (Some (lesser (string_bytes m.0) rest)))) [
       | true ↦ after
       | false ↦ before_lesser (string_bytes k) (string_bytes m.0) rest (less_before (string_bytes k) (string_bytes m.0) h.0) after
     ]
@@ -83,7 +83,7 @@ pub ascending_rest : (m : String Global × Value) (ms : Entries) → IsStrictlyS
 unfolding IsStrictlySortedBy
 ascending_rest m ms h = h.1
 
-pub first_is_least : (keys : List Key) (m : String Global × Value) (ms : Entries) → IsStrictlySortedBy string_cmp (keys_of (m ∷ ms)) → is_one_of keys (string_bytes m.0) ≡ false
+pub first_is_least : (keys : List Key) (m : String Global × Value) (ms : Entries) → IsStrictlySortedBy string_cmp (keys_of (m ∷ ms)) → is_known_key keys (string_bytes m.0) ≡ false
     → least_other keys (members_view (m ∷ ms)) ≡ Some (string_bytes m.0)
 unfolding IsStrictlySortedBy
 first_is_least keys m ms h e =
@@ -91,7 +91,7 @@ first_is_least keys m ms h e =
     let least : lesser (string_bytes m.0) rest ≡ string_bytes m.0 = lesser_first (string_bytes m.0) rest (before_others keys m.0 ms h.0) in
     ap (λ b. cond b rest (Some (lesser (string_bytes m.0) rest))) e ∙ ap (λ x. Some x) least
 
-pub known_is_passed : (keys : List Key) (m : String Global × Value) (ms : Entries) → is_one_of keys (string_bytes m.0) ≡ true
+pub known_is_passed : (keys : List Key) (m : String Global × Value) (ms : Entries) → is_known_key keys (string_bytes m.0) ≡ true
     → least_other keys (members_view (m ∷ ms)) ≡ least_other keys (members_view ms)
 known_is_passed keys m ms e =
     let rest = least_other keys (members_view ms) in
@@ -99,23 +99,23 @@ known_is_passed keys m ms e =
 
 -- ---- the theorem
 
-abbrev Told : List Key → Members → Option Bytes → Type 0
-Told keys ms None = (name : Bytes) → HasKey name ms → is_one_of keys name ≡ true
-Told keys ms (Some name) = HasOther keys ms name × ((other : Bytes) → HasOther keys ms other → is_before other name ≡ false)
+abbrev NamesLeastOther : List Key → Members → Option Bytes → Type 0
+NamesLeastOther keys ms None = (name : Bytes) → HasKey name ms → is_known_key keys name ≡ true
+NamesLeastOther keys ms (Some name) = HasOther keys ms name × ((other : Bytes) → HasOther keys ms other → is_before other name ≡ false)
 
-told-known : (keys : List Key) (n : Bytes) (d : Data) (ms : Members) (o : Option Bytes) → is_one_of keys n ≡ true → Told keys ms o → Told keys (member n d ms) o
-told-known keys n d ms None e h = λ name w. ⊎_elim (λ q. subst (λ x. is_one_of keys x ≡ true) q e) (λ v. h name v) w
-told-known keys n d ms (Some name) e h = (
+least_of_others-known : (keys : List Key) (n : Bytes) (d : Data) (ms : Members) (o : Option Bytes) → is_known_key keys n ≡ true → NamesLeastOther keys ms o → NamesLeastOther keys (member n d ms) o
+least_of_others-known keys n d ms None e h = λ name w. ⊎_elim (λ q. subst (λ x. is_known_key keys x ≡ true) q e) (λ v. h name v) w
+least_of_others-known keys n d ms (Some name) e h = (
   (inr h.0.0, h.0.1),
-  λ other w. ⊎_elim (λ q. absurd (both_ways (is_one_of keys n) (ap (is_one_of keys) q ∙ w.1) e)) (λ v. h.1 other (v, w.1)) w.0,
+  λ other w. ⊎_elim (λ q. absurd (both_ways (is_known_key keys n) (ap (is_known_key keys) q ∙ w.1) e)) (λ v. h.1 other (v, w.1)) w.0,
 )
 
-told-other : (keys : List Key) (n : Bytes) (d : Data) (ms : Members) (o : Option Bytes) → is_one_of keys n ≡ false → Told keys ms o → Told keys (member n d ms) (Some (lesser n o))
-told-other keys n d ms None e h = (
+least_of_others-other : (keys : List Key) (n : Bytes) (d : Data) (ms : Members) (o : Option Bytes) → is_known_key keys n ≡ false → NamesLeastOther keys ms o → NamesLeastOther keys (member n d ms) (Some (lesser n o))
+least_of_others-other keys n d ms None e h = (
   (inl refl, e),
-  λ other w. ⊎_elim (λ q. subst (λ x. is_before x n ≡ false) q (not_itself n)) (λ v. absurd (both_ways (is_one_of keys other) w.1 (h other v))) w.0,
+  λ other w. ⊎_elim (λ q. subst (λ x. is_before x n ≡ false) q (not_itself n)) (λ v. absurd (both_ways (is_known_key keys other) w.1 (h other v))) w.0,
 )
-told-other keys n d ms (Some name) e h = elim (is_before name n) as (λ t. is_before name n ≡ t → Told keys (member n d ms) (Some (cond t name n))) [
+least_of_others-other keys n d ms (Some name) e h = elim (is_before name n) as (λ t. is_before name n ≡ t → NamesLeastOther keys (member n d ms) (Some (cond t name n))) [
   | true ↦ λ t. (
     (inr h.0.0, h.0.1),
     λ other w. ⊎_elim (λ q. subst (λ x. is_before x name ≡ false) q (not_after name n t)) (λ v. h.1 other (v, w.1)) w.0,
@@ -126,17 +126,17 @@ told-other keys n d ms (Some name) e h = elim (is_before name n) as (λ t. is_be
   )
 ] refl
 
-told : (keys : List Key) (ms : Members) → Told keys ms (least_other keys ms)
-told keys no_members = λ name w. absurd w
-told keys (member n d ms) =
+least_of_others : (keys : List Key) (ms : Members) → NamesLeastOther keys ms (least_other keys ms)
+least_of_others keys no_members = λ name w. absurd w
+least_of_others keys (member n d ms) =
     let rest = least_other keys ms in
-    elim (is_one_of keys n) as (λ b. is_one_of keys n ≡ b → Told keys (member n d ms) (cond b rest (Some (lesser n rest)))) [
-      | true ↦ λ e. told-known keys n d ms rest e (told keys ms)
-      | false ↦ λ e. told-other keys n d ms rest e (told keys ms)
+    elim (is_known_key keys n) as (λ b. is_known_key keys n ≡ b → NamesLeastOther keys (member n d ms) (cond b rest (Some (lesser n rest)))) [
+      | true ↦ λ e. least_of_others-known keys n d ms rest e (least_of_others keys ms)
+      | false ↦ λ e. least_of_others-other keys n d ms rest e (least_of_others keys ms)
     ] refl
 
 pub is_least_other : IsLeastOther
-is_least_other keys ms name e = subst (Told keys ms) e (told keys ms)
+is_least_other keys ms name e = subst (NamesLeastOther keys ms) e (least_of_others keys ms)
 
 pub has_no_other : HasNoOther
-has_no_other keys ms e = subst (Told keys ms) e (told keys ms)
+has_no_other keys ms e = subst (NamesLeastOther keys ms) e (least_of_others keys ms)

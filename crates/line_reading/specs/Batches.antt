@@ -47,14 +47,14 @@ abbrev pub batch_of : List ℕ → List Op → ℕ → Option (List ℕ) → Res
 batch_of domain ops after token = unless_refused (batch_refusal domain ops token) (record { domain = domain; ops = ops; after = after; token = token })
 
 -- a create without an id is refused if the batch has a token, so that the batch can be sent again unchanged
-abbrev pub missing_beside : Option (List ℕ) → MissingId
-missing_beside None = Drawn
-missing_beside (Some token) = Refused
+abbrev pub missing_with_token : Option (List ℕ) → MissingId
+missing_with_token None = Drawn
+missing_with_token (Some token) = Refused
 
 -- the batch with these values for a trust domain, and the ids that are left
 unfoldable pub batch_in : List ℕ → ChaCha → Listed → Result (Batch × ChaCha) Fault
 batch_in domain ids listed = do
-  ops ← ops_in 0 (missing_beside listed.token) ids listed.items
+  ops ← ops_in 0 (missing_with_token listed.token) ids listed.items
   batch ← batch_of domain ops.0 listed.after listed.token
   Ok (batch, ops.1)
 

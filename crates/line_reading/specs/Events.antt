@@ -12,7 +12,7 @@ use Rattle.line_reading.specs.declared.event.EventKind.{EventKind}
 use Rattle.line_reading.specs.declared.event.EventKind.TheVariants as kind
 use Rattle.line_reading.specs.Codes.{key_name}
 use Rattle.line_reading.specs.Batches.{batch_alone_in}
-use Rattle.line_reading.specs.Fields.{◌>>=◌, beside, required, number_at, no_others}
+use Rattle.line_reading.specs.Fields.{◌>>=◌, with_ids, required, number_at, no_others}
 use Rattle.line_reading.specs.Requests.{of_line}
 
 -- ---- the kind of an event
@@ -48,10 +48,10 @@ event_alone_in event ms = do
 
 abbrev pub event_of : List ℕ → ChaCha → EventKind → ℕ → Data → Members → Result (Event × ChaCha) Fault
 event_of domain ids kind.Invoke call d ms = invoke_in domain ids call d ms
-event_of domain ids kind.Begin call d ms = beside ids (event_alone_in (on.Begin call) ms)
-event_of domain ids kind.Step call d ms = beside ids (event_alone_in (on.Step call) ms)
-event_of domain ids kind.Commit call d ms = beside ids (event_alone_in (on.Commit call) ms)
-event_of domain ids kind.Reply call d ms = beside ids (event_alone_in (on.Reply call) ms)
+event_of domain ids kind.Begin call d ms = with_ids ids (event_alone_in (on.Begin call) ms)
+event_of domain ids kind.Step call d ms = with_ids ids (event_alone_in (on.Step call) ms)
+event_of domain ids kind.Commit call d ms = with_ids ids (event_alone_in (on.Commit call) ms)
+event_of domain ids kind.Reply call d ms = with_ids ids (event_alone_in (on.Reply call) ms)
 
 -- The event of an object, and the ids that are left.
 unfoldable pub event_in : List ℕ → ChaCha → Data → Members → Result (Event × ChaCha) Fault

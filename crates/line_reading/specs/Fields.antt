@@ -149,13 +149,13 @@ id_in key d = do
 unfoldable pub optional_id_at : Key → Data → Result (Option (List ℕ)) Fault
 optional_id_at key d = optional (id_in key) (given_at key d)
 
-abbrev pub domain_of : Key → List ℕ → Result (List ℕ) Fault
-domain_of key text = unless (coded code.Id (domain_refusal text)) key text
+abbrev pub domain_or_fault : Key → List ℕ → Result (List ℕ) Fault
+domain_or_fault key text = unless (coded code.Id (domain_refusal text)) key text
 
 unfoldable pub domain_at : Key → Data → Result (List ℕ) Fault
 domain_at key d = do
   text ← text_at key d
-  domain_of key text
+  domain_or_fault key text
 
 abbrev pub uuid_of : Key → Option (List ℕ) → Result (List ℕ) Fault
 uuid_of key None = at_key code.NotUuid key
@@ -181,14 +181,14 @@ uuid_or_drawn_at ids key d = do
   Ok (given_or_drawn given ids)
 
 -- the result of a reader that draws no id, with all the ids
-abbrev pub beside : {A : Type 0} → ChaCha → Result A Fault → Result (A × ChaCha) Fault
-beside ids (Ok x) = Ok (x, ids)
-beside ids (Err fault) = Err fault
+abbrev pub with_ids : {A : Type 0} → ChaCha → Result A Fault → Result (A × ChaCha) Fault
+with_ids ids (Ok x) = Ok (x, ids)
+with_ids ids (Err fault) = Err fault
 
 -- the id at the key of a new entry, and the ids that are left; a missing id is drawn, or refused
 abbrev pub new_uuid_at : MissingId → ChaCha → Key → Data → Result (List ℕ × ChaCha) Fault
 new_uuid_at missing.Drawn ids key d = uuid_or_drawn_at ids key d
-new_uuid_at missing.Refused ids key d = beside ids (uuid_at key d)
+new_uuid_at missing.Refused ids key d = with_ids ids (uuid_at key d)
 
 -- ---- lists, read item by item
 
@@ -224,7 +224,7 @@ optional_selectors_at key d = optional (selector_set_in key) (given_at key d)
 unfoldable pub domain_in : Key → Data → Result (List ℕ) Fault
 domain_in key d = do
   text ← text_in key d
-  domain_of key text
+  domain_or_fault key text
 
 unfoldable pub optional_domain_at : Key → Data → Result (Option (List ℕ)) Fault
 optional_domain_at key d = optional (domain_in key) (given_at key d)
@@ -249,8 +249,8 @@ optional_domains_at key d = optional (domain_set_in key) (given_at key d)
 
 -- ---- no other keys
 
-abbrev pub is_one_of : List Key → List ℕ → Bool
-is_one_of keys name = list_any (λ key. bytes_eq (key_name key) name) keys
+abbrev pub is_known_key : List Key → List ℕ → Bool
+is_known_key keys name = list_any (λ key. bytes_eq (key_name key) name) keys
 
 -- the lesser of two names, in the order of their bytes
 abbrev pub lesser : List ℕ → Option (List ℕ) → List ℕ
@@ -260,7 +260,7 @@ lesser name (Some other) = if is_before other name then other else name
 -- the least name that is not one of these keys, in the order of bytes
 abbrev pub least_other : List Key → Members → Option (List ℕ)
 least_other keys no_members = None
-least_other keys (member name d ms) = if is_one_of keys name then least_other keys ms else Some (lesser name (least_other keys ms))
+least_other keys (member name d ms) = if is_known_key keys name then least_other keys ms else Some (lesser name (least_other keys ms))
 
 abbrev pub unless_other : Option (List ℕ) → Result ⊤ Fault
 unless_other None = Ok tt
@@ -277,7 +277,7 @@ HasKey name no_members = ⊥
 HasKey name (member other d ms) = (other ≡ name) ⊎ HasKey name ms
 
 abbrev pub HasOther : List Key → Members → List ℕ → Type 0
-HasOther keys ms name = HasKey name ms × (is_one_of keys name ≡ false)
+HasOther keys ms name = HasKey name ms × (is_known_key keys name ≡ false)
 
 -- the refused key is in the object and not one of these keys, and no other such key is before it in the order of bytes
 abbrev pub IsLeastOther : Type 0
@@ -287,4 +287,4 @@ IsLeastOther = (keys : List Key) (ms : Members) (name : List ℕ) → least_othe
 -- if no key is refused, each key of the object is one of these
 abbrev pub HasNoOther : Type 0
 HasNoOther = (keys : List Key) (ms : Members) → least_other keys ms ≡ None
-    → (name : List ℕ) → HasKey name ms → is_one_of keys name ≡ true
+    → (name : List ℕ) → HasKey name ms → is_known_key keys name ≡ true

@@ -16,7 +16,7 @@ use Rattle.line_reading.specs.declared.fault.Code.TheVariants as code
 use Rattle.line_reading.specs.declared.fault.Fault.{Fault}
 use Rattle.line_reading.specs.declared.fault.Key.TheVariants as key
 use Rattle.line_reading.specs.declared.ids.MissingId.{MissingId}
-use Rattle.line_reading.specs.Fields.{◌>>=◌, at_key, beside, required, text_at, optional_text_at, optional_mode_at, number_at, optional_number_at, id_at, optional_id_at, domain_at, optional_domain_at, uuid_at, optional_uuid_at, new_uuid_at, selectors_at, optional_selectors_at, optional_match_at, optional_domains_at, no_others}
+use Rattle.line_reading.specs.Fields.{◌>>=◌, at_key, with_ids, required, text_at, optional_text_at, optional_mode_at, number_at, optional_number_at, id_at, optional_id_at, domain_at, optional_domain_at, uuid_at, optional_uuid_at, new_uuid_at, selectors_at, optional_selectors_at, optional_match_at, optional_domains_at, no_others}
 
 -- ---- entries
 
@@ -181,7 +181,7 @@ undrawn_in name d ms =
     at_key code.Field key.Op)))))))))))))
 
 abbrev pub named_op : MissingId → ChaCha → List ℕ → Data → Members → Result (Op × ChaCha) Fault
-named_op missing ids name d ms = if bytes_eq name (codes "create") then create_in missing ids d ms else beside ids (undrawn_in name d ms)
+named_op missing ids name d ms = if bytes_eq name (codes "create") then create_in missing ids d ms else with_ids ids (undrawn_in name d ms)
 
 unfoldable pub op_in : MissingId → ChaCha → Data → Result (Op × ChaCha) Fault
 op_in missing ids d = do

@@ -6,7 +6,7 @@
 
 ghost use Rattle.std.specs.Prelude.{◌≡◌};
 ghost use Rattle.serde_json.specs.View.{items_view, members_view, view};
-ghost use Rattle.line_reading.specs.Batches.{batch_alone_in, batch_in, batch_of, items_at, listed_in, missing_beside};
+ghost use Rattle.line_reading.specs.Batches.{batch_alone_in, batch_in, batch_of, items_at, listed_in, missing_with_token};
 ghost use Rattle.line_reading.specs.FieldsPrivate.{Gives};
 
 use crate::fault::{Code, Fault, Key};
@@ -82,8 +82,8 @@ pub(super) fn batch_of(
 }
 
 /// Returns whether a create without an id draws one or is refused, in a batch with this token, if any.
-fn missing_beside(token: &Option<Uuid>) -> MissingId
-    ensures { result ≡ missing_beside token.now }
+fn missing_with_token(token: &Option<Uuid>) -> MissingId
+    ensures { result ≡ missing_with_token token.now }
 {
     match token {
         None => MissingId::Drawn,
@@ -106,7 +106,7 @@ pub(crate) fn batch_in(
           token = listed.now.token;
         })) }
 {
-    let missing = missing_beside(&listed.token);
+    let missing = missing_with_token(&listed.token);
     let ops = ops_in(alloc, missing, ids, listed.items)?;
     batch_of(alloc, domain, ops, listed.after, listed.token)
 }

@@ -8,7 +8,7 @@ ghost use Rattle.serde_json.specs.Find.{get};
 ghost use Rattle.serde_json.specs.View.{members_view, view};
 ghost use Rattle.spiffe_name.specs.declared.refusals.Failure.TheVariants.{Refused};
 ghost use Rattle.line_reading.specs.Codes.{key_name};
-ghost use Rattle.line_reading.specs.Fields.{HasNoOther, IsLeastOther, given_at, is_one_of, no_others};
+ghost use Rattle.line_reading.specs.Fields.{HasNoOther, IsLeastOther, given_at, is_known_key, no_others};
 ghost use Rattle.line_reading.specs.FieldsPrivate.{Gives};
 
 mod lists;
@@ -68,8 +68,8 @@ fn given_at(object: &Value, key: Key) -> Option<&Value>
 }
 
 /// Returns true if one of the keys has this name.
-fn is_one_of(keys: &[Key], name: &str) -> bool
-    ensures { result ≡ is_one_of keys.now name.now }
+fn is_known_key(keys: &[Key], name: &str) -> bool
+    ensures { result ≡ is_known_key keys.now name.now }
 {
     keys.iter().any(|key| key.name() == name)
 }
@@ -79,7 +79,7 @@ pub(crate) fn no_others(members: &Map<String, Value>, keys: &[Key]) -> Result<()
     ensures { Gives (λ _. tt) result (no_others keys.now (members_view members.now.entries)) }
 {
     for (name, _) in members {
-        if !is_one_of(keys, name) {
+        if !is_known_key(keys, name) {
             return Err(Failure::Refused(Fault {
                 code: Code::Field,
                 field: Some(Field::Unknown(Text::of(name.clone()?))),

@@ -150,13 +150,13 @@ pub fn read_record(
     number: u64,
 ) -> Result<Record, LineRefusal>
     ensures spelled { MatchResult result
-        (λ told. spelled_record domain.now line.now ≡ Ok (recorded told))
+        (λ least_of_others. spelled_record domain.now line.now ≡ Ok (recorded least_of_others))
         (λ refusal. (refusal.line ≡ number) × Fails refusal.failure (spelled_record domain.now line.now)) }
     ensures memory { IfErr result (λ refusal. IsNoMemory refusal.failure → NeedsMemory line.now) }
-    ensures domain { IfOk result (λ told. told.batch.domain ≡ domain.now) }
+    ensures domain { IfOk result (λ least_of_others. least_of_others.batch.domain ≡ domain.now) }
 {
     match spelled_record(alloc, domain, line) {
-        Ok(told) => Ok(told),
+        Ok(least_of_others) => Ok(least_of_others),
         Err(failure) => Err(LineRefusal {
             line: number,
             failure,

@@ -9,8 +9,8 @@ use Rattle.std.proofs.Math.Seq.{get_or-append_seam}
 use Rattle.entry_book.specs.Rows.{Bytes}
 use Rattle.entry_book.specs.Order.{Ascending, first, is_before, with_row}
 use Rattle.entry_book.proofs.Sets.{All-within, before-irrefl, before-trans, before-total, text_is, within_right}
-use Rattle.plain_book.specs.Blocks.{joined, IsBlock, begins_behind, IsBlockPlace, IsCut}
-use Rattle.plain_book.proofs.Places.{all_pass, none_pass, not_before}
+use Rattle.plain_book.specs.Blocks.{joined, IsBlock, begins_behind, IsBlockRank, IsCut}
+use Rattle.plain_book.proofs.Ranks.{all_pass, none_pass, not_before}
 
 -- ---- lists
 
@@ -119,7 +119,7 @@ module _ {X : Type 0} where
       length_parts [] block behind = omega arith
       length_parts (b ∷ bs) block behind = let r = length_parts bs block behind in omega arith
 
-      pub cut_some : (blocks before : List (List X)) (block : List X) (behind : List (List X)) (n : ℕ) → IsBlockPlace key k blocks n → blocks ≡ before ++ block ∷ behind → length before ≡ n - 1 → Ascending key (joined blocks) → AllByRecursion IsBlock blocks → IsCut key k blocks before block behind
+      pub cut_some : (blocks before : List (List X)) (block : List X) (behind : List (List X)) (n : ℕ) → IsBlockRank key k blocks n → blocks ≡ before ++ block ∷ behind → length before ≡ n - 1 → Ascending key (joined blocks) → AllByRecursion IsBlock blocks → IsCut key k blocks before block behind
       cut_some blocks before block behind n p e l a f =
           let whole : joined blocks ≡ joined before ++ (block ++ joined behind) = ap joined e ∙ joined-append before (block ∷ behind) in
           let rows : Ascending key (joined before ++ (block ++ joined behind)) = subst (Ascending key) whole a in
@@ -144,7 +144,7 @@ module _ {X : Type 0} where
             size = others.0.1;
           }
 
-      pub cut_none : (blocks before : List (List X)) (behind : List (List X)) (n : ℕ) → IsBlockPlace key k blocks n → blocks ≡ before ++ behind → length before ≡ n - 1 → length behind ≡ 0 → IsCut key k blocks before [] behind
+      pub cut_none : (blocks before : List (List X)) (behind : List (List X)) (n : ℕ) → IsBlockRank key k blocks n → blocks ≡ before ++ behind → length before ≡ n - 1 → length behind ≡ 0 → IsCut key k blocks before [] behind
       cut_none blocks before behind n p e l z =
           let inside = p.inside in
           let size : length blocks ≡ length before + length behind = ap length e ∙ length-append before behind in

@@ -9,10 +9,10 @@ use Rattle.entry_book.specs.Writes.{after}
 use Rattle.entry_book.specs.Runs.{RunResult, run}
 use Rattle.entry_book.specs.Limits.{limit_passed}
 use Rattle.entry_book.specs.Batches.{Batch, IsMadeFor, is_query, past_place}
-use Rattle.entry_book.specs.History.{Verdict, refuses, answers, adds, repeats, adds_within, batch_writes, book_for, verdict_when, verdict, verdict_of, reply_with, reply_to, books_with, books_after, kept_for, place_of, IsHistory, PlainState, reply_on, state_with, state_after, Stands}
+use Rattle.entry_book.specs.History.{Verdict, refuses, answers, adds, repeats, adds_within, batch_writes, book_for, verdict_when, verdict, verdict_of, reply_with, reply_to, books_with, books_after, kept_for, place_of, IsHistory, PlainState, reply_on, state_with, state_after, RepresentsBooks}
 use Rattle.entry_book.specs.Lawful.{Lawful}
 use Rattle.plain_book.specs.Keeps.{IsSound}
-use Rattle.entry_book.proofs.Histories.{batch_keeps, history_goes_on, place_within}
+use Rattle.entry_book.proofs.Histories.{batch_keeps, history_extends, place_within}
 use Rattle.entry_book.proofs.OfVerdict.{of_verdict}
 use Rattle.plain_book.proofs.KeptBooks.{kept_lawful, kept_more, place_is, same_book}
 
@@ -25,16 +25,16 @@ IfAdds P (adds replies c) = P c
 IfAdds P (repeats n replies) = ⊤
 
 abbrev pub IsNext : Bytes → ℕ → Book → Type 0
-IsNext own n c = Lawful own (64 * (n + 1)) c × (n < 2 ^ 48)
+IsNext own_domain n c = Lawful own_domain (64 * (n + 1)) c × (n < 2 ^ 48)
 
-next_within : (own : Bytes) (n : ℕ) (c : Book) (replies : List OpReply) (o : Option Limit) → limit_passed n c ≡ o → Lawful own (64 * (n + 1)) c → IfAdds (IsNext own n) (adds_within o replies c)
-next_within own n c replies (Some limit) e h = tt
-next_within own n c replies None e h = (h, place_within n c e)
+next_within : (own_domain : Bytes) (n : ℕ) (c : Book) (replies : List OpReply) (o : Option Limit) → limit_passed n c ≡ o → Lawful own_domain (64 * (n + 1)) c → IfAdds (IsNext own_domain n) (adds_within o replies c)
+next_within own_domain n c replies (Some limit) e h = tt
+next_within own_domain n c replies None e h = (h, place_within n c e)
 
-next_when : (own : Bytes) (query : Bool) (batch : Batch) (n : ℕ) (b : Book) (r : RunResult) → IfOk r (λ t. Lawful own (64 * (n + 1)) (after (batch_writes batch (n + 1) t) b)) → IfAdds (IsNext own n) (verdict_when query batch n b r)
-next_when own query batch n b (Err s) h = tt
-next_when own true batch n b (Ok t) h = tt
-next_when own false batch n b (Ok t) h = next_within own n (after (batch_writes batch (n + 1) t) b) t.replies (limit_passed n (after (batch_writes batch (n + 1) t) b)) refl h
+next_when : (own_domain : Bytes) (query : Bool) (batch : Batch) (n : ℕ) (b : Book) (r : RunResult) → IfOk r (λ t. Lawful own_domain (64 * (n + 1)) (after (batch_writes batch (n + 1) t) b)) → IfAdds (IsNext own_domain n) (verdict_when query batch n b r)
+next_when own_domain query batch n b (Err s) h = tt
+next_when own_domain true batch n b (Ok t) h = tt
+next_when own_domain false batch n b (Ok t) h = next_within own_domain n (after (batch_writes batch (n + 1) t) b) t.replies (limit_passed n (after (batch_writes batch (n + 1) t) b)) refl h
 
 next_of : (state : PlainState) (batch : Batch) → IsMadeFor state.domain batch → IsSound state → IfAdds (IsNext state.domain state.place) (verdict_of batch state)
 next_of state batch m s =
@@ -46,34 +46,34 @@ adds_next state batch replies c q m s e = subst (IfAdds (IsNext state.domain sta
 
 -- ---- replies and books agree with each list of books that the state represents
 
-same_verdict : (state : PlainState) (books : List Book) (batch : Batch) → Stands state books → verdict batch (place_of books) (book_for (past_place batch.ops) books) ≡ verdict_of batch state
+same_verdict : (state : PlainState) (books : List Book) (batch : Batch) → RepresentsBooks state books → verdict batch (place_of books) (book_for (past_place batch.ops) books) ≡ verdict_of batch state
 same_verdict state books batch s =
     ap (λ n. verdict batch n (book_for (past_place batch.ops) books)) (place_is state books s)
     ∙ ap (verdict batch state.place) (same_book state books s (past_place batch.ops))
 
-pub replies_agree : (state : PlainState) (books : List Book) (batch : Batch) → Stands state books → reply_on batch state ≡ reply_to batch books
+pub replies_agree : (state : PlainState) (books : List Book) (batch : Batch) → RepresentsBooks state books → reply_on batch state ≡ reply_to batch books
 replies_agree state books batch s =
     sym (ap (λ n. reply_with n (verdict batch (place_of books) (book_for (past_place batch.ops) books))) (place_is state books s)
     ∙ ap (reply_with state.place) (same_verdict state books batch s))
 
-stands_with : (state : PlainState) (books : List Book) (v : Verdict) → Stands state books → IsHistory state.domain (books_with books v) → Stands (state_with state v) (books_with books v)
-stands_with state books (refuses r) s h = s
-stands_with state books (answers replies) s h = s
-stands_with state books (adds replies c) s h =
+represents_with : (state : PlainState) (books : List Book) (v : Verdict) → RepresentsBooks state books → IsHistory state.domain (books_with books v) → RepresentsBooks (state_with state v) (books_with books v)
+represents_with state books (refuses r) s h = s
+represents_with state books (answers replies) s h = s
+represents_with state books (adds replies c) s h =
     let n = length-append books (c ∷ []) in
     let k = s.count in
     record { count = omega arith; kept = kept_more state books s c; history = h }
-stands_with state books (repeats n replies) s h = s
+represents_with state books (repeats n replies) s h = s
 
-pub books_agree : (state : PlainState) (books : List Book) (batch : Batch) → Stands state books → IsMadeFor state.domain batch → Stands (state_after batch state) (books_after batch books)
+pub books_agree : (state : PlainState) (books : List Book) (batch : Batch) → RepresentsBooks state books → IsMadeFor state.domain batch → RepresentsBooks (state_after batch state) (books_after batch books)
 books_agree state books batch s m =
-    subst (λ v. Stands (state_with state v) (books_after batch books)) (same_verdict state books batch s)
-    (stands_with state books (verdict batch (place_of books) (book_for (past_place batch.ops) books)) s (history_goes_on state.domain batch books s.history m))
+    subst (λ v. RepresentsBooks (state_with state v) (books_after batch books)) (same_verdict state books batch s)
+    (represents_with state books (verdict batch (place_of books) (book_for (past_place batch.ops) books)) s (history_extends state.domain batch books s.history m))
 
 -- ---- the same, for a given verdict
 
-pub reply_when : (state : PlainState) (books : List Book) (batch : Batch) (v : Verdict) (n : ℕ) → n ≡ state.place → v ≡ verdict_of batch state → Stands state books → reply_with n v ≡ reply_to batch books
+pub reply_when : (state : PlainState) (books : List Book) (batch : Batch) (v : Verdict) (n : ℕ) → n ≡ state.place → v ≡ verdict_of batch state → RepresentsBooks state books → reply_with n v ≡ reply_to batch books
 reply_when state books batch v n q e s = ap (λ m. reply_with m v) q ∙ (ap (reply_with state.place) e ∙ replies_agree state books batch s)
 
-pub books_when : (state : PlainState) (books : List Book) (batch : Batch) (v : Verdict) → v ≡ verdict_of batch state → batch.domain ≡ state.domain → IsMadeFor batch.domain batch → Stands state books → Stands (state_with state v) (books_after batch books)
-books_when state books batch v e q m s = subst (λ x. Stands (state_with state x) (books_after batch books)) (sym e) (books_agree state books batch s (subst (λ d. IsMadeFor d batch) q m))
+pub books_when : (state : PlainState) (books : List Book) (batch : Batch) (v : Verdict) → v ≡ verdict_of batch state → batch.domain ≡ state.domain → IsMadeFor batch.domain batch → RepresentsBooks state books → RepresentsBooks (state_with state v) (books_after batch books)
+books_when state books batch v e q m s = subst (λ x. RepresentsBooks (state_with state x) (books_after batch books)) (sym e) (books_agree state books batch s (subst (λ d. IsMadeFor d batch) q m))

@@ -6,7 +6,7 @@ use Rattle.std.proofs.lemmas.Bool.Decides.{nat_tests}
 use Rattle.std.proofs.lemmas.List.{drop-append-le, take-append-drop}
 use Rattle.entry_book.specs.Rows.{Bytes}
 use Rattle.entry_book.specs.Book.{Book, empty_book}
-use Rattle.entry_book.specs.History.{PlainState, Stands, among_kept, book_for, kept_books, kept_for, last_book, last_of, place_of}
+use Rattle.entry_book.specs.History.{PlainState, RepresentsBooks, among_kept, book_for, kept_books, kept_for, last_book, last_of, place_of}
 use Rattle.entry_book.specs.Lawful.{Lawful}
 use Rattle.plain_book.specs.Keeps.{IsSound}
 use Rattle.entry_book.proofs.Histories.{last-snoc}
@@ -48,9 +48,9 @@ all_last : {X : Type 0} (P : X → Type 0) (xs : List X) (x : X) → AllByRecurs
 all_last P [] x h = h.0
 all_last P (y ∷ ys) x h = all_last P ys x h.1
 
-all_wider : (own : Bytes) (m n : ℕ) (bs : List Book) → m ≤ n → AllByRecursion (Lawful own m) bs → AllByRecursion (Lawful own n) bs
-all_wider own m n [] l h = tt
-all_wider own m n (b ∷ bs) l h = (wider n l h.0, all_wider own m n bs l h.1)
+all_wider : (own_domain : Bytes) (m n : ℕ) (bs : List Book) → m ≤ n → AllByRecursion (Lawful own_domain m) bs → AllByRecursion (Lawful own_domain n) bs
+all_wider own_domain m n [] l h = tt
+all_wider own_domain m n (b ∷ bs) l h = (wider n l h.0, all_wider own_domain m n bs l h.1)
 
 under : {X : Type 0} (a b : ℕ) (x y : X) → a < b → cond (nat_lt a b) x y ≡ x
 under a b x y l = grind (arith, nat_tests, l)
@@ -93,8 +93,8 @@ kept_lawful state None b s e = let q : state.newest ≡ b = cc in subst (Lawful 
 kept_lawful state (Some n) b s e = among_lawful state b (nat_lt (n + length state.older) state.place) (n + length state.older - state.place) s e
 
 -- lawful with room for a batch
-pub read_lawful : (own : Bytes) (state : PlainState) (asked : Option ℕ) (b : Book) → own ≡ state.domain → IsSound state → Some b ≡ kept_for asked state → Lawful own (2 ^ 62) b
-read_lawful own state asked b q s e =
+pub read_lawful : (own_domain : Bytes) (state : PlainState) (asked : Option ℕ) (b : Book) → own_domain ≡ state.domain → IsSound state → Some b ≡ kept_for asked state → Lawful own_domain (2 ^ 62) b
+read_lawful own_domain state asked b q s e =
     let room = s.room in
     subst (λ d. Lawful d (2 ^ 62) b) (sym q) (wider (2 ^ 62) (omega arith) (kept_lawful state asked b s (sym e)))
 
@@ -112,7 +112,7 @@ sound_more state c s h l =
 
 -- ---- place and books agree with each list of books that the state represents
 
-module _ (state : PlainState) (books : List Book) (s : Stands state books) where
+module _ (state : PlainState) (books : List Book) (s : RepresentsBooks state books) where
   pub place_is : place_of books ≡ state.place
   place_is = let k = s.count in omega arith
 

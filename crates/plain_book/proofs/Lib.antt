@@ -6,6 +6,6 @@ pub mod Kept
 pub mod KeptBooks
 pub mod Listed
 pub mod Parents
-pub mod Places
+pub mod Ranks
 pub mod Reached
 pub mod Running

@@ -9,10 +9,10 @@ use Rattle.entry_book.specs.Book.{in_group}
 use Rattle.entry_book.proofs.Filters.{kept, filter-with_row}
 use Rattle.entry_book.proofs.InOrder.{ascending-with_row}
 use Rattle.entry_book.proofs.Keys.{from_with_row, new_with_row, no_row, row_alone, same_key, within_with_row, without_none}
-use Rattle.entry_book.proofs.Once.{rows_beside}
+use Rattle.entry_book.proofs.Once.{rows_elsewhere}
 use Rattle.entry_book.proofs.Sets.{ascending_filter, from_within_filter, same_sets, text_is, text_same}
 use Rattle.plain_book.specs.Siblings.{ChangesAt, IsByParent, entries_of, parent_key, siblings_at}
-use Rattle.plain_book.proofs.Places.{none_within}
+use Rattle.plain_book.proofs.Ranks.{none_within}
 
 -- ---- the row of a parent
 
@@ -51,14 +51,14 @@ put_siblings all s a =
     record {
       order = order;
       here = ap (λ l. entries_of (first l)) (row_alone parent_key s.parent (with_row parent_key s.parent (Some s) all) s order (new_with_row parent_key s.parent s all) refl);
-      others = λ p n. ap (λ l. entries_of (first l)) (rows_beside parent_key s.parent p (Some s) all (λ e. n (sym e)) refl a);
+      others = λ p n. ap (λ l. entries_of (first l)) (rows_elsewhere parent_key s.parent p (Some s) all (λ e. n (sym e)) refl a);
     }
 
 no_siblings : (all : List Siblings) (k : Bytes) → Ascending parent_key all → ChangesAt k [] all (with_row parent_key k None all)
 no_siblings all k a = record {
   order = ascending-with_row parent_key k None all a tt;
   here = ap (λ l. entries_of (first l)) (none_within (λ s. bytes_eq s.parent k) (with_row parent_key k None all) (λ s w t. ⊎_elim (λ v. absurd v) (λ r. r.1 (text_is s.parent k t)) (from_with_row parent_key k None all s w)));
-  others = λ p n. ap (λ l. entries_of (first l)) (rows_beside parent_key k p None all (λ e. n (sym e)) tt a);
+  others = λ p n. ap (λ l. entries_of (first l)) (rows_elsewhere parent_key k p None all (λ e. n (sym e)) tt a);
 }
 
 pub siblings_put : (all new : List Siblings) (s : Siblings) (p : Bytes) (es : List Entry) → Ascending parent_key all → s.parent ≡ p → s.entries ≡ es → new ≡ with_row parent_key s.parent (Some s) all → ChangesAt p es all new

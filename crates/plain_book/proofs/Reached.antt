@@ -10,7 +10,7 @@ use Rattle.entry_book.proofs.Sets.{length_filter_le, within_filter, from_within_
 use Rattle.entry_book.proofs.Chains.{more, less, start, bounded}
 use Rattle.plain_book.specs.Found.{is_missing, with_all}
 use Rattle.plain_book.proofs.FoundEntries.{all_found, counted, new_found, same_filter}
-use Rattle.plain_book.proofs.Places.{none_within}
+use Rattle.plain_book.proofs.Ranks.{none_within}
 
 -- the entry starts a chain, or its parent is one of these identities
 abbrev pub reached : Bytes → Agent → List Bytes → Entry → Bool
@@ -30,21 +30,21 @@ pub record Walked (s : Bytes) (a : Agent) (es : List Entry) (is : List Bytes) (w
 
 module _ (s : Bytes) (a : Agent) (es : List Entry) where
   -- the agent's children, except the aliases that it holds
-  abbrev pub own_children : Entry → Bool
-  own_children e = not (holds s a e) && bytes_eq e.parent a.id
+  abbrev pub agent_children : Entry → Bool
+  agent_children e = not (holds s a e) && bytes_eq e.parent a.id
 
-  pub at_start : Walked s a es [] (filter (holds s a) es ++ filter own_children es)
+  pub at_start : Walked s a es [] (filter (holds s a) es ++ filter agent_children es)
   at_start = record {
     known = λ i w. absurd w;
     inside = λ c w. ⊎_elim
         (λ l. let r = from_within_filter (holds s a) es c l in (r.0, or_left (holds s a c) _ r.1))
-        (λ r. let k = from_within_filter own_children es c r in (k.0, or_right (holds s a c) _ (and_parts _ _ k.1).1))
-        (from_within_append (filter (holds s a) es) (filter own_children es) c w);
+        (λ r. let k = from_within_filter agent_children es c r in (k.0, or_right (holds s a c) _ (and_parts _ _ k.1).1))
+        (from_within_append (filter (holds s a) es) (filter agent_children es) c w);
     closed = λ c w t. inl (⊎_elim
-        (λ h. within_left (filter (holds s a) es) (filter own_children es) c (within_filter (holds s a) es c w h))
+        (λ h. within_left (filter (holds s a) es) (filter agent_children es) c (within_filter (holds s a) es c w h))
         (λ p. ⊎_elim
-        (λ h. within_left (filter (holds s a) es) (filter own_children es) c (within_filter (holds s a) es c w h))
-        (λ f. within_right (filter (holds s a) es) (filter own_children es) c (within_filter own_children es c w (and_from _ _ (not_from_false _ f) p)))
+        (λ h. within_left (filter (holds s a) es) (filter agent_children es) c (within_filter (holds s a) es c w h))
+        (λ f. within_right (filter (holds s a) es) (filter agent_children es) c (within_filter agent_children es c w (and_from _ _ (not_from_false _ f) p)))
         (cases_Bool (holds s a c)))
         (or_cases (holds s a c) _ t));
   }
@@ -125,7 +125,7 @@ module _ (s : Bytes) (a : Agent) (es : List Entry) (order : Ascending entry_key 
       let missing = new_found (λ x. false) (holds s a) es order in
       let all_new : before ≡ filter (holds s a) es =
       b ∙ (ap (filter (is_missing none)) e ∙ (ap (λ l. filter (is_missing l) (filter (holds s a) es)) (n ∙ sym (none_within (λ x. false) es (λ x w t. false≢true t))) ∙ missing)) in
-      let others : filter (is_missing first) own ≡ filter (own_children s a es) es =
+      let others : filter (is_missing first) own ≡ filter (agent_children s a es) es =
       ap (filter (is_missing first)) o ∙ (ap (λ l. filter (is_missing l) (filter (λ e. bytes_eq e.parent a.id) es)) f ∙ new_found (holds s a) (λ e. bytes_eq e.parent a.id) es order) in
       subst (Walked s a es []) (sym (w ∙ (ap (λ l. l ++ filter (is_missing first) own) all_new ∙ ap (λ l. filter (holds s a) es ++ l) others))) (at_start s a es)
 

@@ -34,9 +34,9 @@ same_answer a b = a ≡ b
 ok_is : {X E : Type 0} (x y : X) → same_answer {X = X} {E = E} (Ok x) (Ok y) → x ≡ y
 ok_is x y e = cc
 
-accepted_is : (own : Bytes) (m : ℕ) (o : OpResult) (reply : OpReply) (b c : Book) → IfOk o (λ d. Lawful own m (after d.writes b)) → Ok (reply, c) ≡ performed o b → Lawful own m c
-accepted_is own m (Ok d) reply b c h e = let q = ok_is (reply, c) (d.reply, after d.writes b) e in subst (Lawful own m) (sym (ap (λ t. t.1) q)) h
-accepted_is own m (Err r) reply b c h e = cc
+accepted_is : (own_domain : Bytes) (m : ℕ) (o : OpResult) (reply : OpReply) (b c : Book) → IfOk o (λ d. Lawful own_domain m (after d.writes b)) → Ok (reply, c) ≡ performed o b → Lawful own_domain m c
+accepted_is own_domain m (Ok d) reply b c h e = let q = ok_is (reply, c) (d.reply, after d.writes b) e in subst (Lawful own_domain m) (sym (ap (λ t. t.1) q)) h
+accepted_is own_domain m (Err r) reply b c h e = cc
 
 -- the book after an accepted operation is lawful
 pub keeps_at : (batch : Batch) (m n : ℕ) (op : Op) (reply : OpReply) (b c : Book) → IsMadeFor batch.domain batch → Lawful batch.domain (m + n) b → n < length batch.ops → op ≡ get_or batch.ops n op → Ok (reply, c) ≡ performed (op_of batch.domain op b) b → Lawful batch.domain (m + (n + 1)) c
@@ -62,8 +62,8 @@ then_more n replies b c (Ok d) f reply g h e =
     ap (λ x. resumed n replies b (onto d x)) (h d) ∙ (onto_more n replies b d (g (after d.writes b)) ∙ (ap (λ x. resumed (n + 1) (replies ++ x ∷ []) (after d.writes b) (g (after d.writes b))) r ∙ ap (λ x. resumed (n + 1) (replies ++ reply ∷ []) x (g x)) k))
 then_more n replies b c (Err r) f reply g h e = cc
 
-pub goes_on : (domain : Bytes) (ops : List Op) (n : ℕ) (op : Op) (replies : List OpReply) (reply : OpReply) (b c : Book) → n < length ops → op ≡ get_or ops n op → Ok (reply, c) ≡ performed (op_of domain op b) b → resumed n replies b (run domain (drop n ops) b) ≡ resumed (n + 1) (replies ++ reply ∷ []) c (run domain (drop (n + 1) ops) c)
-goes_on domain ops n op replies reply b c l e h =
+pub continues : (domain : Bytes) (ops : List Op) (n : ℕ) (op : Op) (replies : List OpReply) (reply : OpReply) (b c : Book) → n < length ops → op ≡ get_or ops n op → Ok (reply, c) ≡ performed (op_of domain op b) b → resumed n replies b (run domain (drop n ops) b) ≡ resumed (n + 1) (replies ++ reply ∷ []) c (run domain (drop (n + 1) ops) c)
+continues domain ops n op replies reply b c l e h =
     at_drop_more (λ l. resumed n replies b (run domain l b)) ops n op l
     ∙ (ap (λ x. resumed n replies b (run domain (x ∷ drop (n + 1) ops) b)) (sym e)
     ∙ then_more n replies b c (op_of domain op b) (λ d. run domain (drop (n + 1) ops) (after d.writes b)) reply (λ x. run domain (drop (n + 1) ops) x) (λ d. refl) h)

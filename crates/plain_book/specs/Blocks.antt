@@ -25,7 +25,7 @@ begins_behind key k (x ∷ xs) = is_before k (key x)
 
 -- The index n is at most the number of blocks. The block before it, if there is one, doesn't begin after the key. The block at it,
 -- if there is one, does.
-pub record IsBlockPlace {X : Type 0} (key : X → Bytes) (k : Bytes) (blocks : List (List X)) (n : ℕ) : Type 0 where
+pub record IsBlockRank {X : Type 0} (key : X → Bytes) (k : Bytes) (blocks : List (List X)) (n : ℕ) : Type 0 where
   pub inside : n ≤ length blocks
   pub before : 0 < n → HoldsAt (λ block. begins_behind key k block ≡ false) blocks (n - 1)
   pub behind : n < length blocks → HoldsAt (λ block. begins_behind key k block ≡ true) blocks n

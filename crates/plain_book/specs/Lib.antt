@@ -3,5 +3,5 @@ pub mod Found
 pub mod Keeps
 pub mod Laws
 pub mod Performed
-pub mod Places
+pub mod Ranks
 pub mod Siblings

@@ -28,11 +28,11 @@ abbrev pub ran : Book → RunResult → BatchRun
 ran b (Ok t) = Accepted t.replies (after t.writes b)
 ran b (Err s) = RefusedAt s.op s.reason
 
-abbrev pub told : CodeVerdict → Verdict
-told (Refuses r) = refuses r
-told (Answers replies) = answers replies
-told (Adds replies b) = adds replies b
-told (Repeats n replies) = repeats n replies
+abbrev pub verdict_model : CodeVerdict → Verdict
+verdict_model (Refuses r) = refuses r
+verdict_model (Answers replies) = answers replies
+verdict_model (Adds replies b) = adds replies b
+verdict_model (Repeats n replies) = repeats n replies
 
 -- the verdict on a batch whose operations are accepted, with these replies and this book after them; the flag is true for a query
 abbrev pub verdict_accepted : Bool → Batch → ℕ → List OpReply → Book → Verdict

@@ -3,7 +3,7 @@
 ghost use Rattle.std.specs.Prelude.{◌≡◌, ◌≤◌, ◌<◌, ◌++◌, ◌∷◌, [], OnOk, IfOk, length};
 ghost use Rattle.std.specs.List.{AllByRecursion};
 ghost use Rattle.entry_book.specs.Order.{Ascending, is_before};
-ghost use Rattle.plain_book.specs.Blocks.{IsBlock, IsBlockPlace, IsCut, begins_behind, joined};
+ghost use Rattle.plain_book.specs.Blocks.{IsBlock, IsBlockRank, IsCut, begins_behind, joined};
 
 use crate::row::BookRow;
 use entry_book::{Sequence, Shared};
@@ -34,8 +34,8 @@ fn begins_behind<T: BookRow>(block: &[T], key: &[u8]) -> bool
 }
 
 /// Returns the number of blocks that don't begin after the key, by binary search.
-fn block_place<T: BookRow>(blocks: &[Block<T>], key: &[u8]) -> usize
-    ensures { IsBlockPlace T.key key.now blocks.now result }
+fn block_rank<T: BookRow>(blocks: &[Block<T>], key: &[u8]) -> usize
+    ensures { IsBlockRank T.key key.now blocks.now result }
 {
     let mut from = 0;
     let mut until = blocks.len();
@@ -65,8 +65,8 @@ pub(crate) fn cut_at<'a, T: BookRow>(blocks: &'a [Block<T>], key: &[u8]) -> Cut<
     requires filled { AllByRecursion IsBlock blocks.now }
     ensures { IsCut T.key key.now blocks.now result.before.now result.rows.now result.behind.now }
 {
-    let place = block_place(blocks, key).saturating_sub(1);
-    let (before, from) = blocks.split_at(place);
+    let rank = block_rank(blocks, key).saturating_sub(1);
+    let (before, from) = blocks.split_at(rank);
     match from.split_first() {
         Some((block, behind)) => Cut {
             before,

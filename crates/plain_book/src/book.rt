@@ -11,7 +11,7 @@ use crate::rows::Rows;
 use crate::users::{first_user, named_bundles, users_among};
 use crate::worklist::authorised_of;
 use entry_book::{
-    Agent, Bundle, DomainSet, Entry, KeptBatch, NewEntry, PageQuery, Sequence, Shared, beside,
+    Agent, Bundle, DomainSet, Entry, KeptBatch, NewEntry, PageQuery, Sequence, Shared, pair_with,
 };
 use spiffe_name::{SpiffeId, TrustDomain};
 use std::alloc::{AllocError, Global};
@@ -167,12 +167,12 @@ impl Book {
     pub(crate) fn authorised(
         &self,
         alloc: Global,
-        own: &TrustDomain,
+        own_domain: &TrustDomain,
         agent: &Agent,
     ) -> Result<Sequence<Entry>, AllocError>
-        ensures { IfOk result (λ found. found ≡ authorised (server_text own.now) agent.now self.now) }
+        ensures { IfOk result (λ found. found ≡ authorised (server_text own_domain.now) agent.now self.now) }
     {
-        let found = authorised_of(alloc, own, agent, &self.entries)?;
+        let found = authorised_of(alloc, own_domain, agent, &self.entries)?;
         Ok(Sequence::of(found))
     }
 
@@ -216,7 +216,7 @@ impl Book {
         requires ascending { Ascending entry_key entries }
         ensures { IfOk result (λ book. book ≡ record self.now { entries = entries }) }
     {
-        let (entries, found) = beside(entries, self.clone())?;
+        let (entries, found) = pair_with(entries, self.clone())?;
         let Book {
             entries: before,
             agents,
@@ -236,7 +236,7 @@ impl Book {
         requires ascending { Ascending agent_key agents }
         ensures { IfOk result (λ book. book ≡ record self.now { agents = agents }) }
     {
-        let (agents, found) = beside(agents, self.clone())?;
+        let (agents, found) = pair_with(agents, self.clone())?;
         let Book {
             entries,
             agents: before,
@@ -256,7 +256,7 @@ impl Book {
         requires ascending { Ascending bundle_key bundles }
         ensures { IfOk result (λ book. book ≡ record self.now { bundles = bundles }) }
     {
-        let (bundles, found) = beside(bundles, self.clone())?;
+        let (bundles, found) = pair_with(bundles, self.clone())?;
         let Book {
             entries,
             agents,
@@ -276,7 +276,7 @@ impl Book {
         requires ascending { Ascending token_key tokens }
         ensures { IfOk result (λ book. book ≡ record self.now { tokens = tokens }) }
     {
-        let (tokens, found) = beside(tokens, self.clone())?;
+        let (tokens, found) = pair_with(tokens, self.clone())?;
         let Book {
             entries,
             agents,

@@ -7,7 +7,7 @@ ghost use Rattle.plain_book.specs.Siblings.{ChangesAt, parent_key, siblings_at};
 
 use crate::rows::Rows;
 use crate::siblings::Siblings;
-use entry_book::{Entry, Shared, beside};
+use entry_book::{Entry, Shared, pair_with};
 use spiffe_name::SpiffeId;
 use std::alloc::{AllocError, Global};
 
@@ -25,7 +25,7 @@ fn with_siblings(
     if entries.len() == 0 {
         return all.without(alloc, parent.get().as_str().as_bytes());
     }
-    let (entries, parent) = beside(entries, parent.clone())?;
+    let (entries, parent) = pair_with(entries, parent.clone())?;
     all.with(alloc, Siblings { parent, entries })
 }
 

@@ -10,7 +10,7 @@ use crate::by_parent::{with_sibling, without_sibling};
 use crate::find::first_similar;
 use crate::rows::Rows;
 use crate::siblings::Siblings;
-use entry_book::{Entry, NewEntry, beside};
+use entry_book::{Entry, NewEntry, pair_with};
 use spiffe_name::SpiffeId;
 use std::alloc::{AllocError, Global};
 use std::marker::Model;
@@ -119,7 +119,7 @@ impl Entries {
         ensures order { IfOk result (λ new. Ascending entry_key new) }
     {
         let parents = self.by_parent_with(alloc, &entry)?;
-        let (by_parent, by_id) = beside(parents, self.by_id.with(alloc, entry))?;
+        let (by_parent, by_id) = pair_with(parents, self.by_id.with(alloc, entry))?;
         Ok(Entries { by_id, by_parent })
     }
 
@@ -130,7 +130,7 @@ impl Entries {
     {
         let parents = self.by_parent_without(alloc, id)?;
         let rest = self.by_id.without(alloc, id.as_bytes().as_slice());
-        let (by_parent, by_id) = beside(parents, rest)?;
+        let (by_parent, by_id) = pair_with(parents, rest)?;
         Ok(Entries { by_id, by_parent })
     }
 

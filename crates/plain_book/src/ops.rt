@@ -46,13 +46,13 @@ use update::update;
 /// refused. The outer error is out of memory.
 pub(crate) fn perform(
     alloc: Global,
-    own: &TrustDomain,
+    own_domain: &TrustDomain,
     op: &Op,
     book: &Book,
 ) -> Result<Result<(OpReply, Book), OpRefusal>, AllocError>
     requires counts { CanGrow book.now }
     ensures { IfOk result
-        (λ answer. answer ≡ performed (op_of own.now op.now book.now) book.now) }
+        (λ answer. answer ≡ performed (op_of own_domain.now op.now book.now) book.now) }
 {
     match op {
         Op::Create(new) => create(alloc, new, book),
@@ -63,8 +63,8 @@ pub(crate) fn perform(
         Op::ShowBundle(domain) => show_bundle(domain.get(), book),
         Op::Children(parent) => children(alloc, parent.get(), book),
         Op::Page(query) => page(alloc, query.get(), book),
-        Op::Authorised(agent) => authorised(alloc, own, agent.get(), book),
-        Op::Trust(agent) => trust(alloc, own, agent.get(), book),
+        Op::Authorised(agent) => authorised(alloc, own_domain, agent.get(), book),
+        Op::Trust(agent) => trust(alloc, own_domain, agent.get(), book),
         Op::Prune(moment) => prune(alloc, *moment, book),
         Op::SetAgent(agent) => set_agent(alloc, agent, book),
         Op::DropAgent(id) => drop_agent(alloc, id.get(), book),

@@ -5,7 +5,7 @@ ghost use Rattle.std.specs.Prelude.{◌≡◌};
 use crate::book::Book;
 use crate::older::{among_kept, push_older};
 use crate::verdict::{Verdict, verdict_on};
-use entry_book::{Batch, OpRefusal, Outcome, Refusal, Reply};
+use entry_book::{Batch, OpRefusal, ReplyOutcome, Refusal, Reply};
 use spiffe_name::TrustDomain;
 use std::alloc::{AllocError, Global};
 use std::marker::Model;
@@ -47,13 +47,13 @@ impl Model for PlainBook {
 impl PlainBook {
     ghost use Rattle.std.specs.Prelude.{◌≡◌, ◌≤◌, ◌*◌, ◌^◌, IfOk, OnErr, OnOk, List, length};
     ghost use Rattle.entry_book.specs.Book.{Book as BookRows};
-    ghost use Rattle.entry_book.specs.History.{Stands, books_after, first_books, reply_on, reply_to, state_after};
+    ghost use Rattle.entry_book.specs.History.{RepresentsBooks, books_after, first_books, reply_on, reply_to, state_after};
     ghost use Rattle.entry_book.specs.Lawful.{Lawful};
 
     /// Returns an empty book of a trust domain's server, at place 0. The error is out of memory.
     pub fn new(alloc: Global, domain: TrustDomain) -> Result<PlainBook, AllocError>
         ensures domain { IfOk result (λ book. book.domain ≡ domain) }
-        ensures stands { IfOk result (λ book. Stands book first_books) }
+        ensures represents { IfOk result (λ book. RepresentsBooks book first_books) }
     {
         Ok(PlainBook {
             alloc,
@@ -71,32 +71,32 @@ impl PlainBook {
         requires made_for { batch.now.domain ≡ self.old.domain }
         ensures answered { IfOk result (λ reply. reply ≡ reply_on batch.now self.old) }
         ensures kept { OnOk result (self.new ≡ state_after batch.now self.old) }
-        ensures reply { (books : List BookRows) → Stands self.old books
+        ensures reply { (books : List BookRows) → RepresentsBooks self.old books
             → IfOk result (λ reply. reply ≡ reply_to batch.now books) }
-        ensures books { (books : List BookRows) → Stands self.old books
-            → OnOk result (Stands self.new (books_after batch.now books)) }
+        ensures books { (books : List BookRows) → RepresentsBooks self.old books
+            → OnOk result (RepresentsBooks self.new (books_after batch.now books)) }
         ensures domain { self.new.domain ≡ self.old.domain }
         ensures err { OnErr result (self.new ≡ self.old) }
     {
         match self.verdict(batch)? {
             Verdict::Refuses(refusal) => Ok(Reply {
                 place: self.place,
-                outcome: Outcome::Refused(refusal),
+                outcome: ReplyOutcome::Refused(refusal),
             }),
             Verdict::Answers(replies) => Ok(Reply {
                 place: self.place,
-                outcome: Outcome::Answered(replies),
+                outcome: ReplyOutcome::Answered(replies),
             }),
             Verdict::Adds(replies, book) => {
                 self.add(book)?;
                 Ok(Reply {
                     place: self.place,
-                    outcome: Outcome::Committed(replies),
+                    outcome: ReplyOutcome::Committed(replies),
                 })
             }
             Verdict::Repeats(place, replies) => Ok(Reply {
                 place,
-                outcome: Outcome::Repeated(replies),
+                outcome: ReplyOutcome::Repeated(replies),
             }),
         }
     }
@@ -126,12 +126,12 @@ impl PlainBook {
     ghost use Rattle.entry_book.specs.Batches.{IsMadeFor};
     ghost use Rattle.entry_book.specs.History.{kept_books, kept_for, last_of, verdict_of};
     ghost use Rattle.entry_book.specs.Lawful.{Lawful};
-    ghost use Rattle.plain_book.specs.Performed.{told};
+    ghost use Rattle.plain_book.specs.Performed.{verdict_model};
 
     /// Returns the outcome of a batch. The error is out of memory.
     fn verdict(&self, batch: &Batch) -> Result<Verdict, AllocError>
         requires made_for { batch.now.domain ≡ self.now.domain }
-        ensures comes_to { IfOk result (λ verdict. told verdict ≡ verdict_of batch.now self.now) }
+        ensures verdict_is { IfOk result (λ verdict. verdict_model verdict ≡ verdict_of batch.now self.now) }
         ensures made { IsMadeFor batch.now.domain batch.now }
     {
         let asked = batch.past_place();

@@ -5,7 +5,7 @@ ghost use Rattle.std.specs.Cmp.Lexicographic.{slice_cmp};
 ghost use Rattle.std.specs.Option.{option_copied};
 ghost use Rattle.std.specs.Ordering.{nat_cmp};
 ghost use Rattle.entry_book.specs.Order.{Ascending, first, is_before, with_row};
-ghost use Rattle.plain_book.specs.Places.{IsPlace};
+ghost use Rattle.plain_book.specs.Ranks.{IsRank};
 
 use entry_book::{Agent, Bundle, Entry, KeptBatch, Shared};
 use std::alloc::{AllocError, Global};
@@ -20,7 +20,7 @@ pub(crate) trait BookRow: Drop {
         ensures { result.now ≡ key self.now };
 
     /// Returns a copy that shares the row's data by reference counts. The error is out of memory.
-    fn again(&self) -> Result<Self, AllocError>
+    fn duplicate(&self) -> Result<Self, AllocError>
         ensures { IfOk result (λ copy. copy ≡ self.now) };
 }
 
@@ -31,7 +31,7 @@ impl BookRow for Entry {
         self.id().as_bytes().as_slice()
     }
 
-    fn again(&self) -> Result<Self, AllocError> {
+    fn duplicate(&self) -> Result<Self, AllocError> {
         self.clone()
     }
 }
@@ -43,7 +43,7 @@ impl BookRow for Agent {
         self.id.get().as_str().as_bytes()
     }
 
-    fn again(&self) -> Result<Self, AllocError> {
+    fn duplicate(&self) -> Result<Self, AllocError> {
         self.clone()
     }
 }
@@ -55,7 +55,7 @@ impl BookRow for Bundle {
         self.domain.get().as_str().as_bytes()
     }
 
-    fn again(&self) -> Result<Self, AllocError> {
+    fn duplicate(&self) -> Result<Self, AllocError> {
         self.clone()
     }
 }
@@ -67,7 +67,7 @@ impl BookRow for Shared<KeptBatch> {
         self.get().token.as_bytes().as_slice()
     }
 
-    fn again(&self) -> Result<Self, AllocError> {
+    fn duplicate(&self) -> Result<Self, AllocError> {
         self.clone()
     }
 }
@@ -80,9 +80,9 @@ fn compared<T: BookRow>(row: &T, key: &[u8]) -> Ordering
 }
 
 /// Returns the index of the row with the key, or where it would be inserted, by binary search.
-fn place_of<T: BookRow>(rows: &[T], key: &[u8]) -> Result<usize, usize>
+fn rank_of<T: BookRow>(rows: &[T], key: &[u8]) -> Result<usize, usize>
     requires order { Ascending T.key rows.now }
-    ensures { IsPlace T.key rows.now key.now result }
+    ensures { IsRank T.key rows.now key.now result }
 {
     rows.binary_search_by(|row| compared(row, key))
 }
@@ -92,8 +92,8 @@ pub(crate) fn row_of<'a, T: BookRow>(rows: &'a [T], key: &[u8]) -> Option<&'a T>
     requires order { Ascending T.key rows.now }
     ensures { option_copied result ≡ first (filter (λ row. bytes_eq (T.key row) key.now) rows.now) }
 {
-    match place_of(rows, key) {
-        Ok(place) => Some(&rows[place]),
+    match rank_of(rows, key) {
+        Ok(rank) => Some(&rows[rank]),
         Err(_) => None,
     }
 }
@@ -104,9 +104,9 @@ fn around<'a, T: BookRow>(rows: &'a [T], key: &[u8]) -> (&'a [T], &'a [T])
     ensures before { result.0.now ≡ filter (λ row. is_before (T.key row) key.now) rows.now }
     ensures behind { result.1.now ≡ filter (λ row. is_before key.now (T.key row)) rows.now }
 {
-    match place_of(rows, key) {
-        Ok(place) => (&rows[..place], &rows[place + 1..]),
-        Err(place) => (&rows[..place], &rows[place..]),
+    match rank_of(rows, key) {
+        Ok(rank) => (&rows[..rank], &rows[rank + 1..]),
+        Err(rank) => (&rows[..rank], &rows[rank..]),
     }
 }
 
@@ -115,7 +115,7 @@ pub(crate) fn push_all<T: BookRow>(rows: &[T], out: &mut Vec<T>) -> Result<(), A
     ensures { OnOk result (out.new.items ≡ out.old.items ++ rows.now) }
 {
     for row in rows {
-        out.push(row.again()?)?;
+        out.push(row.duplicate()?)?;
     }
     Ok(())
 }
@@ -156,13 +156,13 @@ pub(crate) fn put_row<T: BookRow>(rows: &mut Vec<T>, row: T) -> Result<(), Alloc
     ensures rows { OnOk result (rows.new.items ≡ with_row T.key (T.key row) (Some row) rows.old.items) }
     ensures order { OnOk result (Ascending T.key rows.new.items) }
 {
-    match place_of(rows.as_slice(), row.key()) {
-        Ok(place) => {
-            rows[place] = row;
+    match rank_of(rows.as_slice(), row.key()) {
+        Ok(rank) => {
+            rows[rank] = row;
             Ok(())
         }
-        Err(place) => {
-            rows.insert(place, row)?;
+        Err(rank) => {
+            rows.insert(rank, row)?;
             Ok(())
         }
     }

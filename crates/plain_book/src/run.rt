@@ -7,7 +7,7 @@ ghost use Rattle.plain_book.specs.Performed.{ran};
 
 use crate::book::Book;
 use crate::ops::perform;
-use entry_book::{Batch, OpRefusal, OpReply, Sequence, beside};
+use entry_book::{Batch, OpRefusal, OpReply, Sequence, pair_with};
 use std::alloc::{AllocError, Global};
 
 /// The outcome of running the operations of a batch.
@@ -31,14 +31,14 @@ pub(crate) fn run_ops(alloc: Global, batch: &Batch, book: &Book) -> Result<Batch
     for (index, op) in batch.ops().iter().enumerate() {
         let answer = perform(alloc, batch.domain(), op, &current);
         drop(current);
-        let (told, answer) = beside(replies, answer)?;
+        let (replied, answer) = pair_with(replies, answer)?;
         match answer {
             Err(refusal) => {
-                drop(told);
+                drop(replied);
                 return Ok(BatchRun::RefusedAt(index, refusal));
             }
             Ok((reply, after)) => {
-                let (next, more) = beside(after, with_item(told, reply))?;
+                let (next, more) = pair_with(after, with_item(replied, reply))?;
                 current = next;
                 replies = more;
             }

@@ -22,7 +22,7 @@ impl BookRow for Siblings {
         self.parent.get().as_str().as_bytes()
     }
 
-    fn again(&self) -> Result<Self, AllocError> {
+    fn duplicate(&self) -> Result<Self, AllocError> {
         Ok(Siblings {
             parent: self.parent.clone()?,
             entries: self.entries.clone()?,

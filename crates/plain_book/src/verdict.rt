@@ -8,11 +8,11 @@ ghost use Rattle.entry_book.specs.Lawful.{Lawful};
 ghost use Rattle.entry_book.specs.Limits.{limit_passed};
 ghost use Rattle.entry_book.specs.SameOps.{ops_eq};
 ghost use Rattle.entry_book.specs.Writes.{after};
-ghost use Rattle.plain_book.specs.Performed.{told, verdict_accepted};
+ghost use Rattle.plain_book.specs.Performed.{verdict_model, verdict_accepted};
 
 use crate::book::Book;
 use crate::run::{BatchRun, run_ops};
-use entry_book::{Batch, KeptBatch, OpReply, Refusal, Sequence, Shared, beside};
+use entry_book::{Batch, KeptBatch, OpReply, Refusal, Sequence, Shared, pair_with};
 use std::alloc::{AllocError, Global};
 use uuid::Uuid;
 
@@ -38,7 +38,7 @@ pub(crate) fn verdict_on(
 ) -> Result<Verdict, AllocError>
     requires room { place ≤ 2 ^ 48 }
     requires lawful { Lawful batch.now.domain (2 ^ 62) book.now }
-    ensures { IfOk result (λ verdict. told verdict ≡ verdict_on batch.now place (Some book.now)) }
+    ensures { IfOk result (λ verdict. verdict_model verdict ≡ verdict_on batch.now place (Some book.now)) }
 {
     match kept_under(batch.token(), book) {
         Some(kept) => verdict_again(batch, kept),
@@ -60,7 +60,7 @@ fn kept_under(token: Option<Uuid>, book: &Book) -> Option<&KeptBatch>
 /// refused.
 fn verdict_again(batch: &Batch, kept: &KeptBatch) -> Result<Verdict, AllocError>
     ensures { IfOk result
-        (λ verdict. told verdict ≡ verdict_again (ops_eq kept.now.ops batch.now.ops) kept.now) }
+        (λ verdict. verdict_model verdict ≡ verdict_again (ops_eq kept.now.ops batch.now.ops) kept.now) }
 {
     if kept.has_ops(batch.ops()) {
         Ok(Verdict::Repeats(kept.place, kept.replies.clone()?))
@@ -73,7 +73,7 @@ fn verdict_again(batch: &Batch, kept: &KeptBatch) -> Result<Verdict, AllocError>
 fn verdict_run(alloc: Global, batch: &Batch, place: u64, book: &Book) -> Result<Verdict, AllocError>
     requires room { place ≤ 2 ^ 48 }
     requires lawful { Lawful batch.now.domain (2 ^ 62) book.now }
-    ensures { IfOk result (λ verdict. told verdict ≡ verdict_run batch.now place book.now) }
+    ensures { IfOk result (λ verdict. verdict_model verdict ≡ verdict_run batch.now place book.now) }
 {
     match run_ops(alloc, batch, book)? {
         BatchRun::RefusedAt(index, reason) => { Ok(Verdict::Refuses(Refusal::OfOp(index, reason))) }
@@ -91,7 +91,7 @@ fn verdict_accepted(
 ) -> Result<Verdict, AllocError>
     requires room { place ≤ 2 ^ 48 }
     ensures { IfOk result
-        (λ verdict. told verdict ≡ verdict_accepted (is_query batch.now.ops) batch.now place replies book) }
+        (λ verdict. verdict_model verdict ≡ verdict_accepted (is_query batch.now.ops) batch.now place replies book) }
 {
     let replies = Shared::of(alloc, replies)?;
     if batch.is_query() {
@@ -116,7 +116,7 @@ fn with_batch(
     let Some(token) = batch.token() else {
         return Ok(book);
     };
-    let (book, kept) = beside(book, kept_batch(alloc, batch, token, place, replies))?;
+    let (book, kept) = pair_with(book, kept_batch(alloc, batch, token, place, replies))?;
     let after = book.with_token(alloc, kept);
     drop(book);
     after
@@ -137,7 +137,7 @@ fn kept_batch(
       replies = replies.now;
     }) }
 {
-    let (ops, replies) = beside(batch.shared_ops().clone()?, replies.clone())?;
+    let (ops, replies) = pair_with(batch.shared_ops().clone()?, replies.clone())?;
     let kept = KeptBatch {
         token,
         ops,
@@ -149,7 +149,7 @@ fn kept_batch(
 
 /// Returns the outcome of a batch with changes: refused if the book exceeds a limit, otherwise committed.
 fn adds_within(place: u64, replies: Shared<Sequence<OpReply>>, book: Book) -> Verdict
-    ensures { told result ≡ adds_within (limit_passed place book) replies book }
+    ensures { verdict_model result ≡ adds_within (limit_passed place book) replies book }
 {
     match book.limit_passed(place) {
         Some(limit) => Verdict::Refuses(Refusal::Full(limit)),

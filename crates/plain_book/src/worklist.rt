@@ -23,22 +23,22 @@ use std::alloc::{AllocError, Global};
 /// Returns the entries in which a chain for this agent ends, in order. The error, here and below, is out of memory.
 pub(crate) fn authorised_of(
     alloc: Global,
-    own: &TrustDomain,
+    own_domain: &TrustDomain,
     agent: &Agent,
     entries: &Entries,
 ) -> Result<Vec<Entry>, AllocError>
     ensures { IfOk result (λ found. found.items
-        ≡ filter (ends_within (server_text own.now) agent.now entries.now (length entries.now)) entries.now) }
+        ≡ filter (ends_within (server_text own_domain.now) agent.now entries.now (length entries.now)) entries.now) }
 {
-    let server = SpiffeId::server_of(alloc, own)?;
+    let server = SpiffeId::server_of(alloc, own_domain)?;
     let aliases = entries.children(alloc, &server)?;
     let starts = held(alloc, agent, aliases.as_slice())?;
     let own_id = agent.id.get();
-    let own_children = entries.children(alloc, own_id)?;
+    let agent_children = entries.children(alloc, own_id)?;
     let mut found = Vec::new(alloc);
     let mut pending = Vec::new(alloc);
     reach(starts.as_slice(), &mut found, &mut pending)?;
-    reach(own_children.as_slice(), &mut found, &mut pending)?;
+    reach(agent_children.as_slice(), &mut found, &mut pending)?;
     while let Some(parent) = pending.pop() {
         let identity = parent.identity().get();
         let children = entries.children(alloc, identity)?;

@@ -2,13 +2,13 @@
 //! follow from how the entries were made.
 
 use crate::draws::nth;
-use crate::playing::{answers, first_book, plays_on, told};
+use crate::playing::{answers, first_book, plays_on, as_text};
 use crate::wanted::{is_number, is_text};
 use plain_book::PlainBook;
 use std::alloc::Global;
 use std::process::Abort;
 use std::test::Fail;
-use test_batches::placed;
+use test_batches::kind_at_place;
 use test_support::where_done;
 
 /// The number of entries: for each of 4 parents one of each of 9 identities and of 16 sets of selectors. Their numbers begin at
@@ -164,14 +164,14 @@ fn fill(
     place: u64,
 ) -> Result<(), Fail> {
     let mut text = String::new(alloc);
-    let mut want = placed(alloc, "committed", place)?;
+    let mut expected = kind_at_place(alloc, "committed", place)?;
     for _ in 0..64 {
         add_create(alloc, &mut text, *number)?;
-        want.push_str("; entry")?;
-        add_entry(alloc, &mut want, &Stage::Made, *number)?;
+        expected.push_str("; entry")?;
+        add_entry(alloc, &mut expected, &Stage::Made, *number)?;
         *number = number.wrapping_add(187) % COUNT;
     }
-    answers(rt, alloc, book, text.as_str(), want.as_str())
+    answers(rt, alloc, book, text.as_str(), expected.as_str())
 }
 
 /// Commits all these rows.
@@ -256,7 +256,7 @@ fn add_entries(
 
 /// The expected reply to the queries.
 fn answer_at(alloc: Global, stage: &Stage, place: u64) -> Result<String, Fail> {
-    let mut text = placed(alloc, "answered", place)?;
+    let mut text = kind_at_place(alloc, "answered", place)?;
     for question in QUESTIONS.lines() {
         match question.split_once(" ") {
             Some(("trust", agent)) => add_bundles(alloc, &mut text, stage, agent)?,
@@ -276,10 +276,10 @@ fn place_at(stage: &Stage) -> u64 {
 }
 
 /// Asserts the replies to the queries at this stage.
-fn tells(rt: &impl Abort, alloc: Global, book: &mut PlainBook, stage: &Stage) -> Result<(), Fail> {
-    let got = told(alloc, book, QUESTIONS)?;
-    let want = answer_at(alloc, stage, place_at(stage))?;
-    is_text(rt, got.as_str(), want.as_str(), change_to(stage));
+fn checks(rt: &impl Abort, alloc: Global, book: &mut PlainBook, stage: &Stage) -> Result<(), Fail> {
+    let got = as_text(alloc, book, QUESTIONS)?;
+    let expected = answer_at(alloc, stage, place_at(stage))?;
+    is_text(rt, got.as_str(), expected.as_str(), change_to(stage));
     let count = got.split('.').count() as u64;
     is_number(rt, count.wrapping_sub(1), total_at(stage), "entries in all");
     Ok(())
@@ -335,9 +335,9 @@ fn changes(
     book: &mut PlainBook,
     stage: &Stage,
 ) -> Result<(), Fail> {
-    let want = change_text(alloc, stage)?;
-    answers(rt, alloc, book, change_to(stage), want.as_str())?;
-    tells(rt, alloc, book, stage)
+    let expected = change_text(alloc, stage)?;
+    answers(rt, alloc, book, change_to(stage), expected.as_str())?;
+    checks(rt, alloc, book, stage)
 }
 
 /// Asserts the same for a new large book.
@@ -349,11 +349,11 @@ fn becomes(rt: &impl Abort, alloc: Global, stage: &Stage) -> Result<(), Fail> {
 }
 
 #[test]
-fn agents_of_a_large_book_are_told_the_ends_of_chains(rt: HostRuntime) -> Result<(), Fail> {
+fn agents_of_a_large_book_get_the_ends_of_chains(rt: HostRuntime) -> Result<(), Fail> {
     let mut book = large_book(&rt, rt.alloc())?;
-    let told = tells(&rt, rt.alloc(), &mut book, &Stage::Made);
+    let as_text = checks(&rt, rt.alloc(), &mut book, &Stage::Made);
     drop(book);
-    told
+    as_text
 }
 
 #[test]

@@ -9,7 +9,7 @@ use spiffe_name::{Selector, SelectorSet, SpiffeId, TrustDomain};
 use std::alloc::Global;
 use std::test::Fail;
 use test_batches::{number, number_behind, trust_domain, word, words};
-use test_support::{add, add_copy, beside, where_done};
+use test_support::{add, add_copy, pair_with, where_done};
 use uuid::Uuid;
 
 /// The number in a word, or none for `-`.
@@ -55,21 +55,21 @@ fn no_hint(alloc: Global) -> Result<Shared<Text>, Fail> {
 /// The parent and the identity of an entry.
 fn ids(alloc: Global, words: &[&str]) -> Result<(Shared<SpiffeId>, Shared<SpiffeId>), Fail> {
     let parent = id(alloc, word(words, 2))?;
-    beside(parent, id(alloc, word(words, 3)))
+    pair_with(parent, id(alloc, word(words, 3)))
 }
 
 /// The selectors and the domains of an entry.
 fn sets(alloc: Global, words: &[&str]) -> Result<(Shared<SelectorSet>, DomainSet), Fail> {
     let selectors = selectors(alloc, word(words, 4))?;
-    beside(selectors, domains(alloc, words))
+    pair_with(selectors, domains(alloc, words))
 }
 
 /// An entry with no hint, from its number, parent, identity, selectors, expiry and domains, and from its lifetimes.
 fn entry(alloc: Global, words: &[&str], more: &[&str]) -> Result<Shared<NewEntry>, Fail> {
     let (number, expiry) = (uuid(words, 1)?, number(words, 5)?);
     let (x509_svid_ttl, jwt_svid_ttl) = lifetimes(more)?;
-    let named = beside(ids(alloc, words)?, sets(alloc, words))?;
-    let (named, hint) = beside(named, no_hint(alloc))?;
+    let named = pair_with(ids(alloc, words)?, sets(alloc, words))?;
+    let (named, hint) = pair_with(named, no_hint(alloc))?;
     let ((parent, identity), (selectors, domains)) = named;
     let new = NewEntry {
         id: number,

@@ -2,7 +2,7 @@
 //! search knows the entries by the words that created them.
 
 use crate::draws::drawn;
-use crate::playing::{first_book, plays_on, told};
+use crate::playing::{first_book, plays_on, as_text};
 use crate::wanted::{holds, is_text};
 use plain_book::PlainBook;
 use std::alloc::Global;
@@ -36,7 +36,7 @@ fn filled(alloc: Global, book: &mut PlainBook, state: &mut u64) -> Result<Vec<St
     for number in 1..14_u64 {
         let drawn = drawn(alloc, state, GRAMMAR, "<entry>")?;
         let row = format!(in alloc; "create {number} {drawn}")?;
-        if told(alloc, book, row.as_str())?.starts_with("committed") {
+        if as_text(alloc, book, row.as_str())?.starts_with("committed") {
             rows.push(row)?;
         }
     }
@@ -153,14 +153,14 @@ fn wanted_pages(alloc: Global, found: &[&str], size: u64, head: &str) -> Result<
 }
 
 /// The book's page of this size and filter that begins after an entry.
-fn told_page(
+fn page_text(
     alloc: Global,
     book: &mut PlainBook,
     (size, filter): (u64, &str),
     from: &str,
 ) -> Result<String, Fail> {
     let text = format!(in alloc; "page {size} - {from} with {filter}")?;
-    told(alloc, book, text.as_str())
+    as_text(alloc, book, text.as_str())
 }
 
 fn add_line(text: &mut String, line: &str) -> Result<(), Fail> {
@@ -180,13 +180,13 @@ fn next_page(
     let Some((_, from)) = page.split_once(" next ") else {
         return Ok(None);
     };
-    let next = told_page(alloc, book, (size, filter), from)?;
+    let next = page_text(alloc, book, (size, filter), from)?;
     add_line(pages, next.as_str())?;
     Ok(Some(next))
 }
 
 /// All pages of the book, from the first one on; none has more than thirteen entries.
-fn told_pages(
+fn pages_text(
     alloc: Global,
     book: &mut PlainBook,
     size: u64,
@@ -215,9 +215,9 @@ fn are_pages_found(
     let place = rows.len().wrapping_add(1);
     let head = format!(in alloc; "answered at {place}; page")?;
     let found = found(alloc, rows, filter)?;
-    let want = wanted_pages(alloc, found.as_slice(), size, head.as_str())?;
-    let got = told_pages(alloc, book, size, filter)?;
-    is_text(rt, got.as_str(), want.as_str(), filter);
+    let expected = wanted_pages(alloc, found.as_slice(), size, head.as_str())?;
+    let got = pages_text(alloc, book, size, filter)?;
+    is_text(rt, got.as_str(), expected.as_str(), filter);
     Ok(())
 }
 

@@ -4,13 +4,13 @@ ghost use Rattle.std.specs.Prelude.{◌≡◌};
 
 use crate::making::batch;
 use crate::wanted::is_text;
-use entry_book::{Batch, Op, OpReply, Outcome, Reply};
+use entry_book::{Batch, Op, OpReply, ReplyOutcome, Reply};
 use plain_book::PlainBook;
 use std::alloc::Global;
 use std::process::Abort;
 use std::test::Fail;
-use test_batches::{placed, reply_text, trust_domain};
-use test_support::{beside, where_done};
+use test_batches::{kind_at_place, reply_text, trust_domain};
+use test_support::{pair_with, where_done};
 
 pub fn first_book(alloc: Global) -> Result<PlainBook, Fail> {
     Ok(PlainBook::new(alloc, trust_domain(alloc, "ex.org")?)?)
@@ -54,16 +54,16 @@ impl Answer {
         self.batch.shared_ops().get().as_slice()
     }
 
-    pub fn outcome(&self) -> &Outcome {
+    pub fn outcome(&self) -> &ReplyOutcome {
         &self.reply.outcome
     }
 
     /// The replies to the operations; none if the batch is refused.
     pub fn replies(&self) -> &[OpReply] {
         match &self.reply.outcome {
-            Outcome::Committed(replies) | Outcome::Answered(replies) | Outcome::Repeated(replies) =>
+            ReplyOutcome::Committed(replies) | ReplyOutcome::Answered(replies) | ReplyOutcome::Repeated(replies) =>
                 replies.get().as_slice(),
-            Outcome::Refused(_) => &[],
+            ReplyOutcome::Refused(_) => &[],
         }
     }
 
@@ -75,7 +75,7 @@ impl Answer {
     /// Returns an error unless the batch is read-only and was answered.
     fn is_answered(&self) -> Result<(), Fail> {
         match &self.reply.outcome {
-            Outcome::Answered(_) => Ok(()),
+            ReplyOutcome::Answered(_) => Ok(()),
             _ => Err(Fail::from("a question isn't answered")),
         }
     }
@@ -85,7 +85,7 @@ impl Answer {
 pub fn answer_to(alloc: Global, book: &mut PlainBook, text: &str) -> Result<Answer, Fail> {
     let batch = batch(alloc, text)?;
     let reply = reply_to(book, &batch);
-    let (batch, reply) = beside(batch, reply)?;
+    let (batch, reply) = pair_with(batch, reply)?;
     Ok(Answer { batch, reply })
 }
 
@@ -97,11 +97,11 @@ pub fn asked(alloc: Global, book: &mut PlainBook, text: &str) -> Result<Answer, 
 }
 
 /// The book's reply to the batch of a text, as text.
-pub fn told(alloc: Global, book: &mut PlainBook, text: &str) -> Result<String, Fail> {
+pub fn as_text(alloc: Global, book: &mut PlainBook, text: &str) -> Result<String, Fail> {
     let answer = answer_to(alloc, book, text)?;
-    let told = answer.text(alloc);
+    let as_text = answer.text(alloc);
     drop(answer);
-    told
+    as_text
 }
 
 /// Asserts the book's reply to the batch of a text.
@@ -110,10 +110,10 @@ pub fn answers(
     alloc: Global,
     book: &mut PlainBook,
     text: &str,
-    want: &str,
+    expected: &str,
 ) -> Result<(), Fail> {
-    let got = told(alloc, book, text)?;
-    is_text(rt, got.as_str(), want, text);
+    let got = as_text(alloc, book, text)?;
+    is_text(rt, got.as_str(), expected, text);
     Ok(())
 }
 
@@ -121,16 +121,16 @@ pub fn answers(
 fn goes_to(rt: &impl Abort, alloc: Global, book: &mut PlainBook, place: &str) -> Result<(), Fail> {
     for found in place_of(book)..place.parse::<u64>()? {
         let next = found.wrapping_add(1);
-        let want = format!(in alloc; "committed at {next}; pruned")?;
-        answers(rt, alloc, book, "prune 0", want.as_str())?;
+        let expected = format!(in alloc; "committed at {next}; pruned")?;
+        answers(rt, alloc, book, "prune 0", expected.as_str())?;
     }
     Ok(())
 }
 
 /// Asserts the book's trust domain and place.
-fn is_at(rt: &impl Abort, alloc: Global, book: &PlainBook, want: &str) -> Result<(), Fail> {
-    let got = placed(alloc, book.domain().as_str(), book.place())?;
-    is_text(rt, got.as_str(), want, "the domain and the place");
+fn is_at(rt: &impl Abort, alloc: Global, book: &PlainBook, expected: &str) -> Result<(), Fail> {
+    let got = kind_at_place(alloc, book.domain().as_str(), book.place())?;
+    is_text(rt, got.as_str(), expected, "the domain and the place");
     Ok(())
 }
 
@@ -140,12 +140,12 @@ fn plays_answer(
     alloc: Global,
     book: &mut PlainBook,
     text: &str,
-    want: &str,
+    expected: &str,
 ) -> Result<(), Fail> {
     if text == "BOOK" {
-        return is_at(rt, alloc, book, want);
+        return is_at(rt, alloc, book, expected);
     }
-    answers(rt, alloc, book, text, want)
+    answers(rt, alloc, book, text, expected)
 }
 
 fn plays_line(
@@ -158,7 +158,7 @@ fn plays_line(
         return goes_to(rt, alloc, book, place);
     }
     match line.split_once(" => ") {
-        Some((text, want)) => plays_answer(rt, alloc, book, text, want),
+        Some((text, expected)) => plays_answer(rt, alloc, book, text, expected),
         None => Err(Fail::from("no such line")),
     }
 }

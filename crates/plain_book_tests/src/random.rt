@@ -3,17 +3,17 @@
 
 use crate::playing::{Answer, answer_to, asked, first_book};
 use crate::requests::{
-    Past, Request, is_past_page, is_told_before, keep, past_of, random_request, text_of,
+    Past, Request, is_past_page, is_stale_text, keep, past_of, random_request, text_of,
 };
 use crate::rows::{BookRows, are_children_listed, are_of, is_lawful, rows_of};
 use crate::search::{bit, does_name, ends, has_cycle, is_alias, listed, number_of};
 use crate::wanted::holds;
-use entry_book::{Agent, Bundle, DropMode, Entry, NewEntry, Op, OpReply, Outcome, PageQuery};
+use entry_book::{Agent, Bundle, DropMode, Entry, NewEntry, Op, OpReply, ReplyOutcome, PageQuery};
 use plain_book::PlainBook;
 use std::alloc::Global;
 use std::process::Abort;
 use std::test::Fail;
-use test_support::{beside, where_done};
+use test_support::{pair_with, where_done};
 use uuid::Uuid;
 
 /// What must occur.
@@ -84,13 +84,13 @@ fn note_change(came: &mut String, op: &Op, reply: &OpReply) -> Result<(), Fail> 
 }
 
 /// Notes the outcome of a request, whose reply is also given as text.
-fn note_all(came: &mut String, request: &Request, answer: &Answer, told: &str) -> Result<(), Fail> {
-    if let Some((head, _)) = told.split_once(" at ") {
+fn note_all(came: &mut String, request: &Request, answer: &Answer, as_text: &str) -> Result<(), Fail> {
+    if let Some((head, _)) = as_text.split_once(" at ") {
         note(came, head, true)?;
     }
     match answer.outcome() {
-        Outcome::Committed(_) => note_changes(came, answer.ops(), answer.replies()),
-        Outcome::Answered(_) => note(came, "a page of an earlier book", is_past_page(request)),
+        ReplyOutcome::Committed(_) => note_changes(came, answer.ops(), answer.replies()),
+        ReplyOutcome::Answered(_) => note(came, "a page of an earlier book", is_past_page(request)),
         _ => Ok(()),
     }
 }
@@ -211,7 +211,7 @@ fn is_made(op: &Op, reply: &OpReply) -> bool {
 
 /// Returns true if the replies are right. The queries in a repeated batch were answered from an earlier book, and are skipped.
 fn are_right(answer: &Answer, rows: &BookRows, past: &Past) -> bool {
-    let is_repeated = matches!(answer.outcome(), Outcome::Repeated(_));
+    let is_repeated = matches!(answer.outcome(), ReplyOutcome::Repeated(_));
     for (op, reply) in answer.ops().iter().zip(answer.replies()) {
         if !is_made(op, reply) || !(is_repeated || is_found(op, reply, rows, past)) {
             return false;
@@ -239,7 +239,7 @@ fn questions(alloc: Global, agent: &Agent) -> Result<String, Fail> {
 }
 
 /// Returns true if these are the entries, and the bundles that they name.
-fn are_told_so(replies: &[OpReply], rows: &BookRows, ends: u64) -> bool {
+fn have_text(replies: &[OpReply], rows: &BookRows, ends: u64) -> bool {
     match replies {
         [OpReply::Entries(entries), OpReply::Bundles(bundles)] => {
             are_of(entries.as_slice(), ends) && is_trust(bundles.as_slice(), rows, ends)
@@ -257,7 +257,7 @@ fn is_trusting(replies: &[OpReply]) -> bool {
 }
 
 /// Returns true if the agent gets the entries in which a chain for it ends, and the bundles that they name.
-fn is_told(
+fn is_as_text(
     alloc: Global,
     book: &mut PlainBook,
     rows: &BookRows,
@@ -267,12 +267,12 @@ fn is_told(
     let ends = ends(rows, agent);
     note_chains(came, rows, ends)?;
     let questions = questions(alloc, agent)?;
-    let told = asked(alloc, book, questions.as_str())?;
-    let is_trusting = is_trusting(told.replies());
-    let is_told_so = are_told_so(told.replies(), rows, ends);
-    drop(told);
+    let as_text = asked(alloc, book, questions.as_str())?;
+    let is_trusting = is_trusting(as_text.replies());
+    let has_text = have_text(as_text.replies(), rows, ends);
+    drop(as_text);
     note(came, "a bundle told", is_trusting)?;
-    Ok(is_told_so)
+    Ok(has_text)
 }
 
 /// Asserts that the resulting book is lawful, and that its agents get what a search finds.
@@ -287,8 +287,8 @@ fn judge(
     let are_listed = are_children_listed(alloc, book, rows)?;
     holds(rt, are_listed, "the children of each parent");
     for agent in &rows.agents {
-        let is_told = is_told(alloc, book, rows, agent, came)?;
-        holds(rt, is_told, "what each agent is told");
+        let is_as_text = is_as_text(alloc, book, rows, agent, came)?;
+        holds(rt, is_as_text, "what each agent is told");
     }
     Ok(())
 }
@@ -298,12 +298,12 @@ fn judged_rows(
     rt: &impl Abort,
     alloc: Global,
     book: &mut PlainBook,
-    (answer, told): (&Answer, &str),
+    (answer, as_text): (&Answer, &str),
     past: &Past,
     came: &mut String,
 ) -> Result<BookRows, Fail> {
     let rows = rows_of(alloc, book)?;
-    holds(rt, are_right(answer, &rows, past), told);
+    holds(rt, are_right(answer, &rows, past), as_text);
     let judged = judge(rt, alloc, book, &rows, came);
     where_done(judged, rows)
 }
@@ -318,12 +318,12 @@ fn judged(
     past: &Past,
     came: &mut String,
 ) -> Result<(String, BookRows), Fail> {
-    let told = answer.text(alloc)?;
-    note_all(came, request, answer, told.as_str())?;
-    let is_told = is_told_before(alloc, request, past, place, told.as_str())?;
-    holds(rt, is_told, told.as_str());
-    let rows = judged_rows(rt, alloc, book, (answer, told.as_str()), past, came);
-    beside(told, rows)
+    let as_text = answer.text(alloc)?;
+    note_all(came, request, answer, as_text.as_str())?;
+    let is_as_text = is_stale_text(alloc, request, past, place, as_text.as_str())?;
+    holds(rt, is_as_text, as_text.as_str());
+    let rows = judged_rows(rt, alloc, book, (answer, as_text.as_str()), past, came);
+    pair_with(as_text, rows)
 }
 
 /// Runs a request, and checks its reply, as in `judged`.
@@ -354,8 +354,8 @@ fn round(
 ) -> Result<(), Fail> {
     let request = random_request(alloc, state, past, book.place())?;
     let ran = run(rt, alloc, book, &request, past, came);
-    let (request, (told, rows)) = beside(request, ran)?;
-    keep(past, request, told, rows)
+    let (request, (as_text, rows)) = pair_with(request, ran)?;
+    keep(past, request, as_text, rows)
 }
 
 /// Runs random requests, one after another.
@@ -390,7 +390,7 @@ fn all_came(rt: &impl Abort, came: &str) {
 }
 
 #[test]
-fn random_requests_keep_the_book_lawful_and_are_told_what_a_search_finds(
+fn random_requests_keep_the_book_lawful_and_get_what_a_search_finds(
     rt: HostRuntime,
 ) -> Result<(), Fail> {
     let mut book = first_book(rt.alloc())?;

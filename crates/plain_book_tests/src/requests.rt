@@ -63,7 +63,7 @@ pub struct Request {
 struct Kept {
     token: u64,
     ops: String,
-    told: String,
+    as_text: String,
 }
 
 /// The rows of each book so far, by its number, and the batches that were committed with a token.
@@ -163,22 +163,22 @@ pub fn random_request(
 }
 
 /// Stores the request under its token, if it has one, with the reply that it got.
-fn keep_answer(past: &mut Past, request: Request, told: String) -> Result<(), Fail> {
+fn keep_answer(past: &mut Past, request: Request, as_text: String) -> Result<(), Fail> {
     let Request { token, ops, .. } = request;
     if let Some(token) = token {
-        return add(&mut past.kept, Kept { token, ops, told });
+        return add(&mut past.kept, Kept { token, ops, as_text });
     }
     Ok(())
 }
 
 /// Stores the rows after the request and its reply, if it was committed now.
-pub fn keep(past: &mut Past, request: Request, told: String, rows: BookRows) -> Result<(), Fail> {
-    if !told.as_str().starts_with("committed") {
+pub fn keep(past: &mut Past, request: Request, as_text: String, rows: BookRows) -> Result<(), Fail> {
+    if !as_text.as_str().starts_with("committed") {
         drop(rows);
         return Ok(());
     }
     add(&mut past.books, rows)?;
-    keep_answer(past, request, told)
+    keep_answer(past, request, as_text)
 }
 
 /// The batch that was committed with the request's token.
@@ -201,7 +201,7 @@ fn is_gone(at: Option<u64>, place: u64) -> bool {
 }
 
 /// The reply that follows at this place before the operations are checked; none if they are checked.
-fn told_before(
+fn text_before(
     alloc: Global,
     request: &Request,
     past: &Past,
@@ -215,8 +215,8 @@ fn told_before(
     }
     match kept_for(past, request) {
         Some(kept) if kept.ops == request.ops => {
-            let told = kept.told.replace(alloc, "committed", "repeated")?;
-            Ok(Some(told))
+            let as_text = kept.as_text.replace(alloc, "committed", "repeated")?;
+            Ok(Some(as_text))
         }
         Some(_) => Ok(Some(format!(in alloc; "refused O9 at {place}")?)),
         None => Ok(None),
@@ -224,23 +224,23 @@ fn told_before(
 }
 
 /// Returns true if this can be the reply to a request whose operations are checked.
-fn is_told_after(told: &str) -> bool {
-    !told.starts_with("refused W1")
-        && !told.starts_with("refused O8")
-        && !told.starts_with("refused O9")
-        && !told.starts_with("repeated")
+fn is_text_after(as_text: &str) -> bool {
+    !as_text.starts_with("refused W1")
+        && !as_text.starts_with("refused O8")
+        && !as_text.starts_with("refused O9")
+        && !as_text.starts_with("repeated")
 }
 
 /// Returns true if the reply agrees with what follows from the place, the token and the available books, for any operations.
-pub fn is_told_before(
+pub fn is_stale_text(
     alloc: Global,
     request: &Request,
     past: &Past,
     place: u64,
-    told: &str,
+    as_text: &str,
 ) -> Result<bool, Fail> {
-    match told_before(alloc, request, past, place)? {
-        Some(want) => Ok(told == want.as_str()),
-        None => Ok(is_told_after(told)),
+    match text_before(alloc, request, past, place)? {
+        Some(expected) => Ok(as_text == expected.as_str()),
+        None => Ok(is_text_after(as_text)),
     }
 }

@@ -17,8 +17,8 @@ use Rattle.entry_book.specs.declared.limit.Limit.TheVariants as limit
 use Rattle.spiffe_name.specs.declared.refusals.Failure.{Failure}
 use Rattle.spiffe_name.specs.declared.refusals.Failure.TheVariants.{NoMemory, Refused}
 use Rattle.entry_book.specs.declared.reply.OpRefusal.TheVariants as refused
-use Rattle.entry_book.specs.declared.reply.Outcome.{Outcome}
-use Rattle.entry_book.specs.declared.reply.Outcome.TheVariants as outcome
+use Rattle.entry_book.specs.declared.reply.ReplyOutcome.{ReplyOutcome}
+use Rattle.entry_book.specs.declared.reply.ReplyOutcome.TheVariants as outcome
 use Rattle.entry_book.specs.declared.reply.Refusal.{Refusal}
 use Rattle.entry_book.specs.declared.reply.Refusal.TheVariants.{Full, NotYet, OfOp, TokenReused}
 use Rattle.entry_book.specs.declared.reply.Reply.{Reply}
@@ -241,7 +241,7 @@ refused_json-is call place (Full limit.Agents) = refused_json-pieces call place 
 refused_json-is call place (Full limit.Bundles) = refused_json-pieces call place (Full limit.Bundles) ∙ simp (append_assoc, text_json-is) refl
 refused_json-is call place (Full limit.Tokens) = refused_json-pieces call place (Full limit.Tokens) ∙ simp (append_assoc, text_json-is) refl
 
-outcome_json-is : (call place : ℕ) (o : Outcome) → outcome_json call place o ≡ compact_text (outcome_data call place o)
+outcome_json-is : (call place : ℕ) (o : ReplyOutcome) → outcome_json call place o ≡ compact_text (outcome_data call place o)
 outcome_json-is call place (outcome.Committed rs) = done_json-is call place rs (codes "committed")
 outcome_json-is call place (outcome.Answered rs) = done_json-is call place rs (codes "answered")
 outcome_json-is call place (outcome.Repeated rs) = done_json-is call place rs (codes "repeated")
@@ -332,7 +332,7 @@ op_reply-no_float (replied.Dropped deleted dissociated) = simp ids-no_float refl
 replies-no_float : (rs : List OpReply) → has_float (list_data op_reply_data rs) ≡ false
 replies-no_float rs = list-no_float op_reply_data op_reply-no_float rs
 
-outcome-no_float : (call place : ℕ) (o : Outcome) → has_float (outcome_data call place o) ≡ false
+outcome-no_float : (call place : ℕ) (o : ReplyOutcome) → has_float (outcome_data call place o) ≡ false
 outcome-no_float call place (outcome.Committed rs) = simp replies-no_float refl
 outcome-no_float call place (outcome.Answered rs) = simp replies-no_float refl
 outcome-no_float call place (outcome.Repeated rs) = simp replies-no_float refl

@@ -11,8 +11,8 @@ pub mod ReadBack
 pub mod ReadBackOps
 pub mod ReadBackRecords
 pub mod LineTokens
-pub mod Neat
-pub mod NeatValues
+pub mod FloatFree
+pub mod FloatFreeValues
 pub mod Typed
 pub mod OneLine
 pub mod Spelled

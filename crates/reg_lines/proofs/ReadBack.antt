@@ -19,7 +19,7 @@ use Rattle.entry_book.specs.declared.page.MatchMode.TheVariants.{Exact, Any, Sup
 use Rattle.entry_book.specs.declared.page.SelectorMatch.{SelectorMatch}
 use Rattle.line_reading.specs.declared.fault.Key.{Key}
 use Rattle.line_reading.specs.Codes.{key_name}
-use Rattle.line_reading.specs.Fields.{optional, unless_null, text_at, text_in, optional_text_at, mode_in, optional_mode_at, match_in, optional_match_at, number_in, number_at, optional_number_at, id_at, id_in, optional_id_at, domain_at, domain_in, optional_domain_at, uuid_in, uuid_at, optional_uuid_at, selector_in, selectors_in, selectors_at, selector_set_in, optional_selectors_at, domains_in, domain_set_in, optional_domains_at, is_one_of, least_other, lesser}
+use Rattle.line_reading.specs.Fields.{optional, unless_null, text_at, text_in, optional_text_at, mode_in, optional_mode_at, match_in, optional_match_at, number_in, number_at, optional_number_at, id_at, id_in, optional_id_at, domain_at, domain_in, optional_domain_at, uuid_in, uuid_at, optional_uuid_at, selector_in, selectors_in, selectors_at, selector_set_in, optional_selectors_at, domains_in, domain_set_in, optional_domains_at, is_known_key, least_other, lesser}
 use Rattle.reg_lines.specs.RecordLines.{match_text, mode_text}
 use Rattle.reg_lines.specs.RecordValues.{asked_data, match_data}
 use Rattle.reg_lines.specs.ReadBack.{AreDomains, AreSelectors, IsDomainText, IsIdText, IsSelector, IsUuid}
@@ -73,31 +73,31 @@ due-map k f (Some x) ms = refl
 
 -- ---- its keys are all known
 
-known-rest : (keys : List Key) (l : List ℕ) (e : Data) (ms : Members) (b : Bool) → is_one_of keys l ≡ b → least_other keys (member l e ms) ≡ None → (is_one_of keys l ≡ true) × (least_other keys ms ≡ None)
+known-rest : (keys : List Key) (l : List ℕ) (e : Data) (ms : Members) (b : Bool) → is_known_key keys l ≡ b → least_other keys (member l e ms) ≡ None → (is_known_key keys l ≡ true) × (least_other keys ms ≡ None)
 known-rest keys l e ms true is h = (is, sym (ap (λ b. cond b (least_other keys ms) (Some (lesser l (least_other keys ms)))) is) ∙ h)
 known-rest keys l e ms false is h = absurd (true≢false (ap is_some (sym (ap (λ b. cond b (least_other keys ms) (Some (lesser l (least_other keys ms)))) is) ∙ h)))
 
-known-more : (keys : List Key) (l : List ℕ) (e : Data) (ms : Members) → is_one_of keys l ≡ true → least_other keys ms ≡ None → least_other keys (member l e ms) ≡ None
+known-more : (keys : List Key) (l : List ℕ) (e : Data) (ms : Members) → is_known_key keys l ≡ true → least_other keys ms ≡ None → least_other keys (member l e ms) ≡ None
 known-more keys l e ms is h = ap (λ b. cond b (least_other keys ms) (Some (lesser l (least_other keys ms)))) is ∙ h
 
-known-put_at : (o : Ordering) (keys : List Key) (k l : List ℕ) (d e : Data) (ms : Members) → is_one_of keys k ≡ true → is_one_of keys l ≡ true → least_other keys ms ≡ None → least_other keys (put k d ms) ≡ None
+known-put_at : (o : Ordering) (keys : List Key) (k l : List ℕ) (d e : Data) (ms : Members) → is_known_key keys k ≡ true → is_known_key keys l ≡ true → least_other keys ms ≡ None → least_other keys (put k d ms) ≡ None
     → least_other keys (match_ordering o (member k d (member l e ms)) (member l d ms) (member l e (put k d ms))) ≡ None
 known-put_at Less keys k l d e ms a b h later = known-more keys k d (member l e ms) a (known-more keys l e ms b h)
 known-put_at Equal keys k l d e ms a b h later = known-more keys l d ms b h
 known-put_at Greater keys k l d e ms a b h later = known-more keys l e (put k d ms) b later
 
-known-put : (keys : List Key) (k : List ℕ) (d : Data) (ms : Members) → is_one_of keys k ≡ true → least_other keys ms ≡ None → least_other keys (put k d ms) ≡ None
+known-put : (keys : List Key) (k : List ℕ) (d : Data) (ms : Members) → is_known_key keys k ≡ true → least_other keys ms ≡ None → least_other keys (put k d ms) ≡ None
 known-put keys k d no_members a h = known-more keys k d no_members a h
 known-put keys k d (member l e ms) a h =
-    let p = known-rest keys l e ms (is_one_of keys l) refl h in
+    let p = known-rest keys l e ms (is_known_key keys l) refl h in
     known-put_at (slice_cmp nat_cmp k l) keys k l d e ms a p.0 p.1 (known-put keys k d ms a p.1)
 
-known-due : (keys : List Key) (k : List ℕ) (o : Option Data) (ms : Members) → is_one_of keys k ≡ true → least_other keys ms ≡ None → least_other keys (if_due k (λ d. d) o ms) ≡ None
+known-due : (keys : List Key) (k : List ℕ) (o : Option Data) (ms : Members) → is_known_key keys k ≡ true → least_other keys ms ≡ None → least_other keys (if_due k (λ d. d) o ms) ≡ None
 known-due keys k None ms a h = h
 known-due keys k (Some d) ms a h = known-put keys k d ms a h
 
 abbrev AreKnown : List Key → List Due → Type 0
-AreKnown keys xs = AllByRecursion (λ x. is_one_of keys x.0 ≡ true) xs
+AreKnown keys xs = AllByRecursion (λ x. is_known_key keys x.0 ≡ true) xs
 
 pub known : (keys : List Key) (xs : List Due) → AreKnown keys xs → least_other keys (members_due xs) ≡ None
 known keys [] h = refl

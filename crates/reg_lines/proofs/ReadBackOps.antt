@@ -19,7 +19,7 @@ use Rattle.line_reading.specs.declared.fault.Key.TheVariants as key
 use Rattle.line_reading.specs.declared.ids.MissingId.{MissingId}
 use Rattle.line_reading.specs.declared.ids.MissingId.TheVariants as missing
 use Rattle.line_reading.specs.Codes.{key_name}
-use Rattle.line_reading.specs.Fields.{◌>>=◌, beside, uuid_in, text_in, uuid_or_drawn_at, new_uuid_at, is_one_of, least_other, no_others}
+use Rattle.line_reading.specs.Fields.{◌>>=◌, with_ids, uuid_in, text_in, uuid_or_drawn_at, new_uuid_at, is_known_key, least_other, no_others}
 use Rattle.line_reading.specs.Operations.{agent_in, authorised_in, children_in, create_in, delete_in, drop_agent_in, drop_bundle_in, entry_in, filter_in, named_op, op_in, page_in, prune_in, selector_match, set_agent_in, set_bundle_in, show_agent_in, show_bundle_in, show_in, trust_in, update_in}
 use Rattle.reg_lines.specs.RecordLines.{mode_text}
 use Rattle.reg_lines.specs.RecordValues.{asked_data, entry_op_data, match_data, op_data, page_op_data}
@@ -32,16 +32,16 @@ both_true : (a b : Bool) → (a && b) ≡ true → (a ≡ true) × (b ≡ true)
 both_true true b e = (refl, e)
 both_true false b e = absurd (false≢true e)
 
-all_known : (keys : List Key) (xs : List Due) → list_all (λ x. is_one_of keys x.0) xs ≡ true → AllByRecursion (λ x. is_one_of keys x.0 ≡ true) xs
+all_known : (keys : List Key) (xs : List Due) → list_all (λ x. is_known_key keys x.0) xs ≡ true → AllByRecursion (λ x. is_known_key keys x.0 ≡ true) xs
 all_known keys [] e = tt
 all_known keys (x ∷ xs) e =
-    let p = both_true (is_one_of keys x.0) _ e in
+    let p = both_true (is_known_key keys x.0) _ e in
     (p.0, all_known keys xs p.1)
 
 no_others-known : (keys : List Key) (ms : Members) → least_other keys ms ≡ None → no_others keys ms ≡ Ok tt
 no_others-known keys ms e = rw e refl
 
-pub only : (keys : List Key) (xs : List Due) → list_all (λ x. is_one_of keys x.0) xs ≡ true → no_others keys (members_due xs) ≡ Ok tt
+pub only : (keys : List Key) (xs : List Due) → list_all (λ x. is_known_key keys x.0) xs ≡ true → no_others keys (members_due xs) ≡ Ok tt
 only keys xs e = no_others-known keys (members_due xs) (known keys xs (all_known keys xs e))
 
 -- one more key
@@ -56,8 +56,8 @@ named : (missing : MissingId) (ids : ChaCha) (ms : Members) (word : List ℕ) (r
 unfolding op_in
 named missing ids ms word r e h = rw (text-back key.Op (object ms) word e) h
 
-undrawn : (ids : ChaCha) (r : Result Op Fault) (o : Op) → r ≡ Ok o → beside ids r ≡ Ok (o, ids)
-undrawn ids r o e = ap (beside ids) e
+undrawn : (ids : ChaCha) (r : Result Op Fault) (o : Op) → r ≡ Ok o → with_ids ids r ≡ Ok (o, ids)
+undrawn ids r o e = ap (with_ids ids) e
 
 -- ---- entries
 

@@ -8,8 +8,8 @@ use Rattle.serde_json.specs.View.{items_of}
 use Rattle.rand_chacha.specs.ChaCha.{ChaCha}
 use Rattle.entry_book.specs.Batches.{Batch, batch_refusal}
 use Rattle.entry_book.specs.declared.op.Op.{Op}
-use Rattle.entry_book.specs.declared.reply.Outcome.{Outcome}
-use Rattle.entry_book.specs.declared.reply.Outcome.TheVariants as outcome
+use Rattle.entry_book.specs.declared.reply.ReplyOutcome.{ReplyOutcome}
+use Rattle.entry_book.specs.declared.reply.ReplyOutcome.TheVariants as outcome
 use Rattle.entry_book.specs.declared.reply.Reply.{Reply}
 use Rattle.line_reading.specs.declared.fault.Key.{Key}
 use Rattle.line_reading.specs.declared.fault.Key.TheVariants as key
@@ -85,7 +85,7 @@ object-back : (k : Key) (d value : Data) (ms : Members) → get (key_name k) d �
 unfolding object_at
 object-back k d value ms e o = rw e (rw o refl)
 
-outcome-object : (call place : ℕ) (o : Outcome) → (ms : Members) × (as_object (outcome_data call place o) ≡ Some ms)
+outcome-object : (call place : ℕ) (o : ReplyOutcome) → (ms : Members) × (as_object (outcome_data call place o) ≡ Some ms)
 outcome-object call place (outcome.Committed rs) = (_, refl)
 outcome-object call place (outcome.Answered rs) = (_, refl)
 outcome-object call place (outcome.Repeated rs) = (_, refl)
@@ -115,12 +115,12 @@ pub record-back : RecordsReadBack
 record-back batch call invoked replied reply w t f =
     let xs : List Due = record_due batch call invoked replied reply in
     let d : Data = object (members_due xs) in
-    let told = outcome-object call reply.place reply.outcome in
+    let reported = outcome-object call reply.place reply.outcome in
     record_in-back batch.domain d (batch_data batch) (reply_data call reply) (members_due xs) _ batch call invoked replied
     (found (codes "batch") xs) refl
     (number-back key.Call d call (found (codes "call") xs))
     (number-back key.Invoked d invoked (found (codes "invoked") xs))
     (number_or_null-back key.Replied d replied (found (codes "replied") xs))
-    (object-back key.Reply d (reply_data call reply) told.0 (found (codes "reply") xs) told.1)
+    (object-back key.Reply d (reply_data call reply) reported.0 (found (codes "reply") xs) reported.1)
     (only record_keys xs refl)
     (batch-back batch w t f)

@@ -14,7 +14,7 @@ use Rattle.entry_book.specs.declared.op.Op.{Op}
 use Rattle.entry_book.specs.declared.reply.Reply.{Reply}
 use Rattle.line_reading.specs.declared.fault.Key.{Key}
 use Rattle.line_reading.specs.declared.fault.Key.TheVariants as key
-use Rattle.line_reading.specs.Batches.{batch_in, listed_in, missing_beside}
+use Rattle.line_reading.specs.Batches.{batch_in, listed_in, missing_with_token}
 use Rattle.line_reading.specs.Codes.{key_name}
 use Rattle.reg_lines.specs.ReadBack.{IsWrittenOp}
 use Rattle.line_reading.specs.Fields.{◌>>=◌, no_others, optional_number_at, tries_at}
@@ -23,11 +23,11 @@ use Rattle.reg_lines.specs.RecordValues.{batch_data, op_data, record_data}
 use Rattle.line_reading.specs.Records.{record_in, spelled_record}
 use Rattle.line_reading.specs.Requests.{framed, line_limit, object_in, request_in, spelled, value_in}
 use Rattle.reg_lines.proofs.Typed.{typed-put}
-use Rattle.reg_lines.specs.Spelled.{BatchesAreSpelled, OpsAreSpelled, batch_of_one, Fits, IsTyped, IsWrittenBatch, IsWrittenCall, RecordsAreSpelled}
+use Rattle.reg_lines.specs.Spelled.{BatchesAreSpelled, OpsAreSpelled, batch_of_one, FitsInLine, IsTyped, IsWrittenBatch, IsWrittenCall, RecordsAreSpelled}
 use Rattle.reg_lines.specs.Values.{list_data, option_data, reply_data, whole}
 use Rattle.reg_lines.proofs.CompactRecords.{batch_json-is, record_json-is}
-use Rattle.reg_lines.proofs.Neat.{IsNeat, line-utf8, read-line}
-use Rattle.reg_lines.proofs.NeatValues.{batch-neat, record-neat}
+use Rattle.reg_lines.proofs.FloatFree.{IsFloatFree, line-utf8, read-line}
+use Rattle.reg_lines.proofs.FloatFreeValues.{batch-float_free, record-float_free}
 use Rattle.reg_lines.proofs.ReadBack.{Due, found, members_due, or_none}
 use Rattle.reg_lines.proofs.ReadBackOps.{only}
 use Rattle.reg_lines.proofs.ReadBackRecords.{batch-due, batch_due, listed-back, ops-back, record-back}
@@ -52,17 +52,17 @@ ends xs = ap (λ n. nat_lt 0 (length (xs ++ 10 ∷ [])) && (slice_index (xs ++ 1
 stripped : (xs : List ℕ) → strip_last 10 (xs ++ 10 ∷ []) ≡ xs
 stripped xs = ap (λ b. cond b (take (length (xs ++ 10 ∷ []) - 1) (xs ++ 10 ∷ [])) (xs ++ 10 ∷ [])) (ends xs) ∙ ap (λ n. take n (xs ++ 10 ∷ [])) (one_less xs) ∙ front xs
 
-not_over : (xs : List ℕ) → Fits xs → nat_lt line_limit (length xs) ≡ false
+not_over : (xs : List ℕ) → FitsInLine xs → nat_lt line_limit (length xs) ≡ false
 not_over xs h = le-ltb line_limit (length xs) h
 
-framed-text : (xs : List ℕ) → Fits xs → framed (xs ++ 10 ∷ []) ≡ Ok tt
+framed-text : (xs : List ℕ) → FitsInLine xs → framed (xs ++ 10 ∷ []) ≡ Ok tt
 unfolding framed
 framed-text xs h = rw (stripped xs) (rw (not_over xs h) (rw (ends xs) refl))
 
 -- ---- the value of a line
 
-value-text : (n : ℕ) (d : Data) → IsNeat n d → n ≤ max_depth → IsTyped d → value_in (compact_text d ++ 10 ∷ []) ≡ Ok d
-value-text n d neat shallow typed = value_in-text _ _ (line-utf8 n d neat typed) (read-line n d shallow neat typed)
+value-text : (n : ℕ) (d : Data) → IsFloatFree n d → n ≤ max_depth → IsTyped d → value_in (compact_text d ++ 10 ∷ []) ≡ Ok d
+value-text n d float_free shallow typed = value_in-text _ _ (line-utf8 n d float_free typed) (read-line n d shallow float_free typed)
 
 -- ---- a batch
 
@@ -76,7 +76,7 @@ tried-once d e = rw e refl
 batch_in-back : (batch : Batch) (ids : ChaCha) → AllByRecursion IsWrittenOp batch.ops → batch_refusal batch.domain batch.ops batch.token ≡ None
     → batch_in batch.domain ids (record { items = items_of (map op_data batch.ops); after = batch.after; token = batch.token }) ≡ Ok (batch, ids)
 unfolding batch_in
-batch_in-back batch ids w f = rw (ops-back 0 (missing_beside batch.token) ids batch.ops w) (rw f refl)
+batch_in-back batch ids w f = rw (ops-back 0 (missing_with_token batch.token) ids batch.ops w) (rw f refl)
 
 request-back : (d : Data) (ms : Members) (batch : Batch) (ids : ChaCha)
     → listed_in d ≡ Ok (record { items = items_of (map op_data batch.ops); after = batch.after; token = batch.token }) → tries_at key.Tries d ≡ Ok 1 → no_others request_keys ms ≡ Ok tt
@@ -104,7 +104,7 @@ spelled-text domain ids line d f v = rw f (rw v refl)
 pub batch-spelled : BatchesAreSpelled
 batch-spelled batch ids w fits =
     spelled-text batch.domain ids (batch_json batch ++ 10 ∷ []) (batch_data batch) (framed-text (batch_json batch) fits)
-    (ap (λ s. value_in (s ++ 10 ∷ [])) (batch_json-is batch) ∙ value-text 4 (batch_data batch) (batch-neat batch) (omega arith) w.typed)
+    (ap (λ s. value_in (s ++ 10 ∷ [])) (batch_json-is batch) ∙ value-text 4 (batch_data batch) (batch-float_free batch) (omega arith) w.typed)
     ∙ value-back batch ids w
 
 -- ---- a record
@@ -134,7 +134,7 @@ record-spelled batch call invoked replied reply w c fits =
     let d : Data = record_data batch call invoked replied reply in
     let typed : IsTyped d = record-typed batch call invoked replied reply w.typed c in
     record-text batch.domain (record_json batch call invoked replied reply ++ 10 ∷ []) d (framed-text (record_json batch call invoked replied reply) fits)
-    (ap (λ s. value_in (s ++ 10 ∷ [])) (record_json-is batch call invoked replied reply) ∙ value-text 7 d (record-neat batch call invoked replied reply) (omega arith) typed)
+    (ap (λ s. value_in (s ++ 10 ∷ [])) (record_json-is batch call invoked replied reply) ∙ value-text 7 d (record-float_free batch call invoked replied reply) (omega arith) typed)
     ∙ record-back batch call invoked replied reply w.ops w.token w.no_fault
 
 -- ---- an operation alone

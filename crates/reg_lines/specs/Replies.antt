@@ -10,8 +10,8 @@ use Rattle.entry_book.specs.declared.reply.OpRefusal.{OpRefusal}
 use Rattle.entry_book.specs.declared.reply.OpRefusal.TheVariants as refused
 use Rattle.entry_book.specs.declared.reply.OpReply.{OpReply}
 use Rattle.entry_book.specs.declared.reply.OpReply.TheVariants as replied
-use Rattle.entry_book.specs.declared.reply.Outcome.{Outcome}
-use Rattle.entry_book.specs.declared.reply.Outcome.TheVariants as outcome
+use Rattle.entry_book.specs.declared.reply.ReplyOutcome.{ReplyOutcome}
+use Rattle.entry_book.specs.declared.reply.ReplyOutcome.TheVariants as outcome
 use Rattle.entry_book.specs.declared.reply.Refusal.{Refusal}
 use Rattle.entry_book.specs.declared.reply.Refusal.TheVariants.{Full, NotYet, OfOp, TokenReused}
 use Rattle.entry_book.specs.declared.reply.Reply.{Reply}
@@ -146,7 +146,7 @@ refused_json call place r =
     ++ codes ",\"place\":" ++ decimal place
     ++ codes ",\"result\":\"refused\"}"
 
-abbrev pub outcome_json : ℕ → ℕ → Outcome → List ℕ
+abbrev pub outcome_json : ℕ → ℕ → ReplyOutcome → List ℕ
 outcome_json call place (outcome.Committed replies) = done_json call place replies (codes "committed")
 outcome_json call place (outcome.Answered replies) = done_json call place replies (codes "answered")
 outcome_json call place (outcome.Repeated replies) = done_json call place replies (codes "repeated")

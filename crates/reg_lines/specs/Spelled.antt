@@ -54,14 +54,14 @@ pub record IsWrittenCall (call invoked : ℕ) (replied : Option ℕ) (reply : Re
   pub answer : IsTyped (reply_data call reply)
 
 -- the text fits into a line
-abbrev pub Fits : List ℕ → Type 0
-Fits text = length text ≤ line_limit
+abbrev pub FitsInLine : List ℕ → Type 0
+FitsInLine text = length text ≤ line_limit
 
 -- ---- the theorems
 
 -- The text of a batch parses to a request for it, with one try; no id is drawn.
 abbrev pub BatchesAreSpelled : Type 0
-BatchesAreSpelled = (batch : Batch) (ids : ChaCha) → IsWrittenBatch batch → Fits (batch_json batch)
+BatchesAreSpelled = (batch : Batch) (ids : ChaCha) → IsWrittenBatch batch → FitsInLine (batch_json batch)
     → spelled batch.domain ids (batch_json batch ++ codes "\n") ≡ Ok (record { batch = batch; tries = 1 }, ids)
 
 -- the batch of one operation, which may run at any place
@@ -70,11 +70,11 @@ batch_of_one domain o = record { domain = domain; ops = o ∷ []; after = 0; tok
 
 -- So for each operation without a fault some line parses to a request for it alone.
 abbrev pub OpsAreSpelled : Type 0
-OpsAreSpelled = (domain : List ℕ) (o : Op) (ids : ChaCha) → IsWrittenOp o → IsTyped (op_data o) → op_fault domain o ≡ None → Fits (batch_json (batch_of_one domain o))
+OpsAreSpelled = (domain : List ℕ) (o : Op) (ids : ChaCha) → IsWrittenOp o → IsTyped (op_data o) → op_fault domain o ≡ None → FitsInLine (batch_json (batch_of_one domain o))
     → (line : List ℕ) × (spelled domain ids line ≡ Ok (record { batch = batch_of_one domain o; tries = 1 }, ids))
 
 -- The text of a record parses to its batch, its numbers and the JSON value of its reply.
 abbrev pub RecordsAreSpelled : Type 0
 RecordsAreSpelled = (batch : Batch) (call invoked : ℕ) (replied : Option ℕ) (reply : Reply) → IsWrittenBatch batch → IsWrittenCall call invoked replied reply
-    → Fits (record_json batch call invoked replied reply)
+    → FitsInLine (record_json batch call invoked replied reply)
     → spelled_record batch.domain (record_json batch call invoked replied reply ++ codes "\n") ≡ Ok (record { batch = batch; call = call; invoked = invoked; replied = replied; reply = reply_data call reply })

@@ -15,8 +15,8 @@ use Rattle.entry_book.specs.declared.reply.OpRefusal.{OpRefusal}
 use Rattle.entry_book.specs.declared.reply.OpRefusal.TheVariants as refused
 use Rattle.entry_book.specs.declared.reply.OpReply.{OpReply}
 use Rattle.entry_book.specs.declared.reply.OpReply.TheVariants as replied
-use Rattle.entry_book.specs.declared.reply.Outcome.{Outcome}
-use Rattle.entry_book.specs.declared.reply.Outcome.TheVariants as outcome
+use Rattle.entry_book.specs.declared.reply.ReplyOutcome.{ReplyOutcome}
+use Rattle.entry_book.specs.declared.reply.ReplyOutcome.TheVariants as outcome
 use Rattle.entry_book.specs.declared.reply.Refusal.{Refusal}
 use Rattle.entry_book.specs.declared.reply.Refusal.TheVariants.{Full, NotYet, OfOp, TokenReused}
 use Rattle.entry_book.specs.declared.reply.Reply.{Reply}
@@ -135,7 +135,7 @@ refused_data call place r = object (
     put (codes "result") (string (codes "refused"))
     no_members))))))
 
-abbrev pub outcome_data : ℕ → ℕ → Outcome → Data
+abbrev pub outcome_data : ℕ → ℕ → ReplyOutcome → Data
 outcome_data call place (outcome.Committed replies) = done_data call place replies (codes "committed")
 outcome_data call place (outcome.Answered replies) = done_data call place replies (codes "answered")
 outcome_data call place (outcome.Repeated replies) = done_data call place replies (codes "repeated")

@@ -6,7 +6,7 @@
 //! - [`PrintJson`] is a value with one compact JSON text, which it puts piece by piece on an [`Output`] without taking
 //!   memory; [`print_text`], [`print_number`], [`print_list`] and [`print_line`] help.
 //! - A [`LineRefusal`] is printed as a line. So are a reply with its call number, a [`CallReply`] or, with borrowed rows, a
-//!   [`LentCallReply`], and the answer to a call, an [`AnsweredCall`]. [`printed_law`] says which JSON values these lines
+//!   [`BorrowedCallReply`], and the answer to a call, an [`AnsweredCall`]. [`printed_law`] says which JSON values these lines
 //!   are.
 //! - A [`SeatRefused`] is printed as a line, too: a seat of a shared registry doesn't answer a request, because of a
 //!   [`SeatRefusal`]; [`printed_seats_law`] says which values these lines are.
@@ -32,7 +32,7 @@ mod printing;
 pub use laws::{one_line_law, read_back_law, spelled_law};
 pub use line_reading::{read_event, read_record, read_request};
 pub use printing::{
-    AnsweredCall, CallOrder, CallRecord, CallReply, EventRefused, LentCallReply, PrintJson,
+    AnsweredCall, CallOrder, CallRecord, CallReply, EventRefused, BorrowedCallReply, PrintJson,
     SeatRefusal, SeatRefused, print_line, print_list, print_number, print_text, printed_events_law,
     printed_law, printed_records_law, printed_seats_law,
 };

@@ -2,14 +2,14 @@
 //!
 //! - `print_json`: a value that has one JSON text, which it puts piece by piece; `text`: a text as a JSON string.
 //! - `names`, `book_rows`: the rows of a book; `marks`: the entries of a read set.
-//! - `replies`, `lent_replies`, `events`, `refusal`, `seats`: the lines of the output.
+//! - `replies`, `borrowed_replies`, `events`, `refusal`, `seats`: the lines of the output.
 //! - `batches`, `records`: the batch of a call, as its record has it.
 //! - `values`: which JSON values these lines are.
 
 pub(crate) mod batches;
 pub(crate) mod book_rows;
 pub(crate) mod events;
-pub(crate) mod lent_replies;
+pub(crate) mod borrowed_replies;
 pub(crate) mod marks;
 pub(crate) mod names;
 pub(crate) mod print_json;
@@ -21,7 +21,7 @@ pub(crate) mod text;
 pub(crate) mod values;
 
 pub use events::{CallOrder, EventRefused};
-pub use lent_replies::LentCallReply;
+pub use borrowed_replies::BorrowedCallReply;
 pub use print_json::{PrintJson, print_line, print_list, print_number};
 pub use records::CallRecord;
 pub use replies::{AnsweredCall, CallReply};

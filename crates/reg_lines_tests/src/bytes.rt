@@ -8,28 +8,28 @@ use line_devices::{CountedDevice, Input, KEPT_BYTES, Line, Output};
 use std::alloc::{AllocError, Global};
 use std::process::Abort;
 use std::test::Fail;
-use test_devices::{Giver, Pace, Taker, Trouble};
+use test_devices::{FakeReader, Chunking, FakeWriter, Faults};
 
 const TEXT: &[u8] = b"one\n\ntwo\r\nthree\nlast";
 
 const NUMBERED: &[u8] = b"1:one\n2:\n3:two\r\n4:three\n5:last";
 
 /// A writer with room for this many bytes, so that it never allocates: its user couldn't distinguish that failure from one of the device.
-fn roomy_taker(
+fn roomy_writer(
     alloc: Global,
     room: usize,
-    pace: Pace,
-    trouble: Trouble,
-) -> Result<Taker, AllocError> {
-    let mut taker = Taker::new(alloc, pace, trouble);
-    taker.bytes.reserve(room)?;
-    Ok(taker)
+    chunking: Chunking,
+    faults: Faults,
+) -> Result<FakeWriter, AllocError> {
+    let mut fake_writer = FakeWriter::new(alloc, chunking, faults);
+    fake_writer.bytes.reserve(room)?;
+    Ok(fake_writer)
 }
 
 /// Returns true if the engine succeeds over these devices.
-fn ends_well(giver: &mut Giver<'_>, taker: &mut Taker, line: &mut Line, most: u32) -> bool {
-    let mut input = Input::new(CountedDevice::new(giver));
-    let mut output = Output::new(CountedDevice::new(taker));
+fn ends_well(fake_reader: &mut FakeReader<'_>, fake_writer: &mut FakeWriter, line: &mut Line, most: u32) -> bool {
+    let mut input = Input::new(CountedDevice::new(fake_reader));
+    let mut output = Output::new(CountedDevice::new(fake_writer));
     number_lines(&mut input, &mut output, line, u64::from(most)).is_ok()
 }
 
@@ -46,23 +46,23 @@ fn memory_never_fails(rt: HostRuntime) -> Result<(), Fail> {
 #[test]
 fn lines_after_the_last_one_are_left(rt: HostRuntime) -> Result<(), Fail> {
     let mut line = Line::new(rt.alloc())?;
-    let mut taker = roomy_taker(rt.alloc(), NUMBERED.len(), Pace::All, Trouble::NONE)?;
-    let mut giver = Giver::new(TEXT, Pace::Byte, Trouble::NONE);
+    let mut fake_writer = roomy_writer(rt.alloc(), NUMBERED.len(), Chunking::All, Faults::NONE)?;
+    let mut fake_reader = FakeReader::new(TEXT, Chunking::Byte, Faults::NONE);
     holds_at(
         &rt,
-        ends_well(&mut giver, &mut taker, &mut line, 2),
+        ends_well(&mut fake_reader, &mut fake_writer, &mut line, 2),
         "ends well",
         2,
     );
     holds_at(
         &rt,
-        taker.bytes.as_slice() == b"1:one\n2:\n".as_slice(),
+        fake_writer.bytes.as_slice() == b"1:one\n2:\n".as_slice(),
         "is written",
         2,
     );
     holds_at(
         &rt,
-        giver.rest == b"two\r\nthree\nlast".as_slice(),
+        fake_reader.rest == b"two\r\nthree\nlast".as_slice(),
         "is left",
         2,
     );
@@ -71,16 +71,16 @@ fn lines_after_the_last_one_are_left(rt: HostRuntime) -> Result<(), Fail> {
 
 /// Asserts that the lines are numbered although the call of this number is interrupted.
 fn is_numbered(rt: &impl Abort, alloc: Global, line: &mut Line, call: u64) -> Result<(), Fail> {
-    let trouble = Trouble::interrupted_at(call);
-    let mut taker = roomy_taker(alloc, NUMBERED.len(), Pace::Byte, trouble)?;
-    let mut giver = Giver::new(TEXT, Pace::Byte, Trouble::interrupted_at(call));
+    let faults = Faults::interrupted_at(call);
+    let mut fake_writer = roomy_writer(alloc, NUMBERED.len(), Chunking::Byte, faults)?;
+    let mut fake_reader = FakeReader::new(TEXT, Chunking::Byte, Faults::interrupted_at(call));
     holds_at(
         rt,
-        ends_well(&mut giver, &mut taker, line, 100),
+        ends_well(&mut fake_reader, &mut fake_writer, line, 100),
         "ends well",
         call,
     );
-    holds_at(rt, taker.bytes.as_slice() == NUMBERED, "is numbered", call);
+    holds_at(rt, fake_writer.bytes.as_slice() == NUMBERED, "is numbered", call);
     Ok(())
 }
 
@@ -97,8 +97,8 @@ fn an_interrupted_call_is_made_again(rt: HostRuntime) -> Result<(), Fail> {
 fn a_writer_that_takes_nothing_has_failed(rt: HostRuntime) -> Result<(), Fail> {
     let mut line = Line::new(rt.alloc())?;
     let mut full = [0u8; 5];
-    let mut giver = Giver::new(TEXT, Pace::All, Trouble::NONE);
-    let mut input = Input::new(CountedDevice::new(&mut giver));
+    let mut fake_reader = FakeReader::new(TEXT, Chunking::All, Faults::NONE);
+    let mut input = Input::new(CountedDevice::new(&mut fake_reader));
     let mut output = Output::new(CountedDevice::new(full.as_mut_slice()));
     let ended = number_lines(&mut input, &mut output, &mut line, 100);
     holds_at(&rt, matches!(ended, Err(Ended::Output)), "a full writer", 5);
@@ -129,13 +129,13 @@ fn kept(text: &[u8], line: &mut Line) -> Option<usize> {
 }
 
 /// Asserts the number of bytes that are kept of a line of the given number of letters.
-fn keeps(rt: &impl Abort, alloc: Global, len: usize, want: usize) -> Result<(), Fail>
+fn keeps(rt: &impl Abort, alloc: Global, len: usize, expected: usize) -> Result<(), Fail>
     requires { len < 2 ^ 32 }
 {
     let mut line = Line::new(alloc)?;
     let text = long_text(alloc, len)?;
     let kept = kept(&text, &mut line).ok_or("another second line")?;
-    holds_at(rt, kept == want, "kept of", len as u64);
+    holds_at(rt, kept == expected, "kept of", len as u64);
     Ok(())
 }
 
@@ -157,10 +157,10 @@ fn many_bytes(alloc: Global) -> Result<Vec<u8>, Fail> {
 }
 
 /// Returns true if the bytes can be put into the writer, in pieces of this length.
-fn puts(taker: &mut Taker, bytes: &[u8], len: usize) -> bool
+fn puts(fake_writer: &mut FakeWriter, bytes: &[u8], len: usize) -> bool
     requires { 0 < len }
 {
-    let mut output = Output::new(CountedDevice::new(taker));
+    let mut output = Output::new(CountedDevice::new(fake_writer));
     for piece in bytes.chunks(len) {
         output.put(piece);
     }
@@ -172,16 +172,16 @@ fn puts(taker: &mut Taker, bytes: &[u8], len: usize) -> bool
 fn comes_out(rt: &impl Abort, alloc: Global, bytes: &[u8], len: usize) -> Result<(), Fail>
     requires { 0 < len }
 {
-    let mut taker = roomy_taker(alloc, bytes.len(), Pace::All, Trouble::NONE)?;
+    let mut fake_writer = roomy_writer(alloc, bytes.len(), Chunking::All, Faults::NONE)?;
     holds_at(
         rt,
-        puts(&mut taker, bytes, len),
+        puts(&mut fake_writer, bytes, len),
         "put in pieces of",
         len as u64,
     );
     holds_at(
         rt,
-        taker.bytes.as_slice() == bytes,
+        fake_writer.bytes.as_slice() == bytes,
         "out in pieces of",
         len as u64,
     );
@@ -199,15 +199,15 @@ fn bytes_come_out_in_order_past_the_edge_of_the_buffer(rt: HostRuntime) -> Resul
 
 #[test]
 fn a_flush_is_a_call_of_the_device(rt: HostRuntime) -> Result<(), Fail> {
-    let mut taker = roomy_taker(rt.alloc(), 6, Pace::All, Trouble::NONE)?;
-    let mut output = Output::new(CountedDevice::new(&mut taker));
+    let mut fake_writer = roomy_writer(rt.alloc(), 6, Chunking::All, Faults::NONE)?;
+    let mut output = Output::new(CountedDevice::new(&mut fake_writer));
     output.put(b"one");
     output.flush();
     output.put(b"two");
     output.flush();
     drop(output);
     // a write and a flush for each
-    holds_at(&rt, taker.calls == 4, "calls", taker.calls);
-    holds_at(&rt, taker.flushes == 2, "flushes", taker.flushes);
+    holds_at(&rt, fake_writer.calls == 4, "calls", fake_writer.calls);
+    holds_at(&rt, fake_writer.flushes == 2, "flushes", fake_writer.flushes);
     Ok(())
 }

@@ -1,7 +1,7 @@
 //! A minimal engine that numbers the lines of an input, proved as each engine is.
 
 ghost use Rattle.std.specs.Prelude.{◌≡◌, ◌+◌, ◌<◌, ◌≤◌, ◌^◌, ◌⊎◌, ℕ, [], ◌++◌, codes, decimal, OnOk, IfOk, IfErr, IfSome, IsTrue};
-ghost use Rattle.line_devices.specs.Runs.{AppendsRun, AppendsRunFront, TakesLines, first_lines};
+ghost use Rattle.line_devices.specs.Runs.{AppendsRun, AppendsRunPrefix, TakesLines, first_lines};
 ghost use Rattle.reg_lines_tests.specs.Numbered.{numbered};
 ghost use Rattle.line_devices.specs.Stream.{IsOut, Puts};
 
@@ -55,7 +55,7 @@ pub(crate) fn number_lines<R: Source, W: Sink>(
         × TakesLines count bytes input.new.left
         × AppendsRun numbered 0 (first_lines count bytes) output.old.written output.new.written)) }
     ensures front { IfSome input.old.left (λ bytes.
-        AppendsRunFront numbered 0 (first_lines most bytes) output.old.written output.new.written) }
+        AppendsRunPrefix numbered 0 (first_lines most bytes) output.old.written output.new.written) }
 {
     for index in 0..most {
         flush_before_waiting(input, output);

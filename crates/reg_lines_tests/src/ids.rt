@@ -1,6 +1,6 @@
 //! Which lines draw an id, and which id do they get?
 
-use crate::tables::{Asked, tells_in_a_row, tells_with};
+use crate::tables::{ReadAs, reads_in_a_row, reads_with};
 use line_reading::{Ids, ids_law};
 use std::test::Fail;
 
@@ -31,7 +31,7 @@ const IN_A_ROW: &str = r#"
 
 #[test]
 fn only_creates_without_an_id_in_accepted_lines_draw_one(rt: HostRuntime) -> Result<(), Fail> {
-    tells_in_a_row(&rt, rt.alloc(), Asked::Request, IN_A_ROW)
+    reads_in_a_row(&rt, rt.alloc(), ReadAs::Request, IN_A_ROW)
 }
 
 /// A create without an id.
@@ -42,14 +42,14 @@ const CREATE: &str =
 fn another_seed_gives_other_ids(rt: HostRuntime) -> Result<(), Fail> {
     let mut seed = [0; 32];
     seed[31] = 1;
-    let want =
+    let expected =
         r#"1; create "4540f05a-9f1f-4296-9773-6e7b208e3c96" "spiffe://ex.org/a" "spiffe://ex.org/b" ["u:1"] "" [] 0"#;
-    tells_with(
+    reads_with(
         &rt,
         rt.alloc(),
-        Asked::Request,
+        ReadAs::Request,
         Ids::of_seed(seed),
-        (CREATE, want),
+        (CREATE, expected),
     )
 }
 
@@ -57,22 +57,22 @@ fn another_seed_gives_other_ids(rt: HostRuntime) -> Result<(), Fail> {
 #[test]
 fn another_stream_gives_other_ids(rt: HostRuntime) -> Result<(), Fail> {
     ids_law();
-    let want =
+    let expected =
         r#"1; create "76b8e0ad-a0f1-4d90-805d-6ae55386bd28" "spiffe://ex.org/a" "spiffe://ex.org/b" ["u:1"] "" [] 0"#;
-    tells_with(
+    reads_with(
         &rt,
         rt.alloc(),
-        Asked::Request,
+        ReadAs::Request,
         Ids::of_stream([0; 32], 0),
-        (CREATE, want),
+        (CREATE, expected),
     )?;
-    let want =
+    let expected =
         r#"1; create "ef3fdfd6-c615-48fb-b5cf-35bd3dd33b80" "spiffe://ex.org/a" "spiffe://ex.org/b" ["u:1"] "" [] 0"#;
-    tells_with(
+    reads_with(
         &rt,
         rt.alloc(),
-        Asked::Request,
+        ReadAs::Request,
         Ids::of_stream([0; 32], 1),
-        (CREATE, want),
+        (CREATE, expected),
     )
 }

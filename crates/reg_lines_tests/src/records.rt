@@ -2,7 +2,7 @@
 
 use crate::lines::line_of;
 use crate::printed::add;
-use crate::tables::{Asked, line_tells, new_book, reply_of, tells, tells_at, tells_in_a_row};
+use crate::tables::{ReadAs, reads_line, new_book, reply_of, reads_table, reads_at, reads_in_a_row};
 use crate::wanted::is_text;
 use call_answers::{CallAnswer, KnownCall};
 use entry_book::Batch;
@@ -33,17 +33,17 @@ const RECORDS: &str = r#"
 "#;
 
 /// Asserts that the record parses and prints as itself.
-fn tells_itself(rt: &impl Abort, alloc: Global, record: &str) -> Result<(), Fail> {
+fn reads_itself(rt: &impl Abort, alloc: Global, record: &str) -> Result<(), Fail> {
     let line = line_of(alloc, record)?;
-    line_tells(rt, alloc, Asked::Record, 1, &line, (record, record))
+    reads_line(rt, alloc, ReadAs::Record, 1, &line, (record, record))
 }
 
 #[test]
 fn a_record_is_printed_and_reads_as_itself(rt: HostRuntime) -> Result<(), Fail> {
-    tells_in_a_row(&rt, rt.alloc(), Asked::Call, RECORDS)?;
+    reads_in_a_row(&rt, rt.alloc(), ReadAs::Call, RECORDS)?;
     for case in RECORDS.lines() {
         if let Some((_, record)) = case.split_once(" => ") {
-            tells_itself(&rt, rt.alloc(), record)?;
+            reads_itself(&rt, rt.alloc(), record)?;
         }
     }
     Ok(())
@@ -97,7 +97,7 @@ fn a_call_has_a_record_once_it_has_a_reply(rt: HostRuntime) -> Result<(), Fail> 
     add_first_records(rt.alloc(), &mut text, &batch(rt.alloc(), "prune 7")?)?;
     let first = text.as_str().strip_suffix(", none, none").unwrap_or("");
     is_text(&rt, first, NOT_REPLIED, text.as_str());
-    tells_itself(&rt, rt.alloc(), NOT_REPLIED)
+    reads_itself(&rt, rt.alloc(), NOT_REPLIED)
 }
 
 /// Lines that aren't records, and the refusal of each.
@@ -136,8 +136,8 @@ const CUT: &str = r#"
 
 #[test]
 fn a_line_that_is_no_record_is_refused(rt: HostRuntime) -> Result<(), Fail> {
-    tells(&rt, rt.alloc(), Asked::Record, REFUSED)?;
-    tells_at(&rt, rt.alloc(), Asked::Record, 12, CUT)
+    reads_table(&rt, rt.alloc(), ReadAs::Record, REFUSED)?;
+    reads_at(&rt, rt.alloc(), ReadAs::Record, 12, CUT)
 }
 
 /// A record with its keys in another order, and without the optional keys of its batch.
@@ -147,5 +147,5 @@ const SHUFFLED: &str = r#"
 
 #[test]
 fn a_record_is_read_in_any_order_of_its_keys(rt: HostRuntime) -> Result<(), Fail> {
-    tells(&rt, rt.alloc(), Asked::Record, SHUFFLED)
+    reads_table(&rt, rt.alloc(), ReadAs::Record, SHUFFLED)
 }

@@ -1,7 +1,7 @@
 //! What is printed for the lines of a schedule?
 
 use crate::printed::add;
-use crate::tables::{Asked, reply_of, tells, tells_in_a_row};
+use crate::tables::{ReadAs, reply_of, reads_table, reads_in_a_row};
 use batch_work::Status;
 use call_answers::{CallAnswer, Done};
 use call_events::Event;
@@ -19,9 +19,9 @@ marks entry 1; group spiffe://ex.org/spire/agent/n1 spiffe://ex.org/web; childre
 "#;
 
 #[test]
-fn a_mark_is_told_in_words(rt: HostRuntime) -> Result<(), Fail> {
+fn a_mark_is_printed_in_words(rt: HostRuntime) -> Result<(), Fail> {
     printed_events_law();
-    tells(&rt, rt.alloc(), Asked::Value, MARKS)
+    reads_table(&rt, rt.alloc(), ReadAs::Value, MARKS)
 }
 
 const BEGINS: &str = r#"
@@ -33,8 +33,8 @@ begun 18446744073709551615 18446744073709551615 settled => {"call":1844674407370
 "#;
 
 #[test]
-fn a_begin_tells_its_place(rt: HostRuntime) -> Result<(), Fail> {
-    tells(&rt, rt.alloc(), Asked::Value, BEGINS)
+fn a_begin_reports_its_place(rt: HostRuntime) -> Result<(), Fail> {
+    reads_table(&rt, rt.alloc(), ReadAs::Value, BEGINS)
 }
 
 const STEPS: &str = r#"
@@ -44,8 +44,8 @@ stepped 5 settled expiring 0 => {"call":5,"read":"expiring 0","state":"settled"}
 "#;
 
 #[test]
-fn a_step_tells_what_it_read(rt: HostRuntime) -> Result<(), Fail> {
-    tells(&rt, rt.alloc(), Asked::Value, STEPS)
+fn a_step_reports_what_it_read(rt: HostRuntime) -> Result<(), Fail> {
+    reads_table(&rt, rt.alloc(), ReadAs::Value, STEPS)
 }
 
 const DECISIONS: &str = r#"
@@ -59,8 +59,8 @@ decided 6 7 tokens => {"call":6,"code":"W6","commit":"full","place":7}
 "#;
 
 #[test]
-fn a_commit_tells_what_it_came_to(rt: HostRuntime) -> Result<(), Fail> {
-    tells(&rt, rt.alloc(), Asked::Value, DECISIONS)
+fn a_commit_reports_its_outcome(rt: HostRuntime) -> Result<(), Fail> {
+    reads_table(&rt, rt.alloc(), ReadAs::Value, DECISIONS)
 }
 
 const CONFLICTS: &str = r#"
@@ -70,7 +70,7 @@ conflict 8 9 => {"call":8,"place":9,"result":"conflict"}
 
 #[test]
 fn a_conflict_is_a_reply_too(rt: HostRuntime) -> Result<(), Fail> {
-    tells(&rt, rt.alloc(), Asked::Value, CONFLICTS)
+    reads_table(&rt, rt.alloc(), ReadAs::Value, CONFLICTS)
 }
 
 const REFUSED: &str = r#"
@@ -82,8 +82,8 @@ refused-event 5 no-memory => {"code":"E5","line":5}
 "#;
 
 #[test]
-fn a_refused_event_is_told_of_its_line(rt: HostRuntime) -> Result<(), Fail> {
-    tells(&rt, rt.alloc(), Asked::Value, REFUSED)
+fn a_refused_event_reports_its_line(rt: HostRuntime) -> Result<(), Fail> {
+    reads_table(&rt, rt.alloc(), ReadAs::Value, REFUSED)
 }
 
 const ORDERS: &str = r#"
@@ -93,7 +93,7 @@ order 30 4 18446744073709551615 => {"order":[30,4,18446744073709551615]}
 
 #[test]
 fn an_order_lists_its_calls(rt: HostRuntime) -> Result<(), Fail> {
-    tells(&rt, rt.alloc(), Asked::Value, ORDERS)
+    reads_table(&rt, rt.alloc(), ReadAs::Value, ORDERS)
 }
 
 /// The book's reply to the batch that was invoked.
@@ -139,6 +139,6 @@ const SCHEDULE: &str = r#"
 
 #[test]
 fn a_small_schedule_is_read_and_printed(rt: HostRuntime) -> Result<(), Fail> {
-    tells_in_a_row(&rt, rt.alloc(), Asked::Scheduled, SCHEDULE)?;
-    tells(&rt, rt.alloc(), Asked::Value, "order 1 => {\"order\":[1]}")
+    reads_in_a_row(&rt, rt.alloc(), ReadAs::Scheduled, SCHEDULE)?;
+    reads_table(&rt, rt.alloc(), ReadAs::Value, "order 1 => {\"order\":[1]}")
 }

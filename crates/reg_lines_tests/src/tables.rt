@@ -20,7 +20,7 @@ use test_batches::trust_domain;
 
 /// What to check for a line.
 #[derive(Clone, Copy)]
-pub(crate) enum Asked {
+pub(crate) enum ReadAs {
     /// The request of the line.
     Request,
     /// The reply of a plain book to the request.
@@ -124,7 +124,7 @@ fn add_call(
 fn add_of_request(
     alloc: Global,
     text: &mut String,
-    asked: Asked,
+    asked: ReadAs,
     reading: &mut Reading,
     line: &[u8],
 ) -> Result<(), Fail> {
@@ -137,8 +137,8 @@ fn add_of_request(
     } = reading;
     match read_request(alloc, book.domain(), ids, line, *number) {
         Ok(request) => match asked {
-            Asked::Reply => add_reply(alloc, text, book, &request.batch, *call),
-            Asked::Call => add_call(alloc, text, book, &request.batch, *call),
+            ReadAs::Reply => add_reply(alloc, text, book, &request.batch, *call),
+            ReadAs::Call => add_call(alloc, text, book, &request.batch, *call),
             _ => add_request(alloc, text, &request),
         },
         Err(refusal) => add_refusal(alloc, text, &refusal),
@@ -149,7 +149,7 @@ fn add_of_request(
 fn add_of_event(
     alloc: Global,
     text: &mut String,
-    asked: Asked,
+    asked: ReadAs,
     reading: &mut Reading,
     line: &[u8],
 ) -> Result<(), Fail> {
@@ -162,7 +162,7 @@ fn add_of_event(
     } = reading;
     match read_event(alloc, book.domain(), ids, line, *number) {
         Ok(event) => match asked {
-            Asked::Scheduled => add_scheduled(alloc, text, book, handed_in, event),
+            ReadAs::Scheduled => add_scheduled(alloc, text, book, handed_in, event),
             _ => add_event(alloc, text, &event),
         },
         Err(refusal) => add_refusal(alloc, text, &refusal),
@@ -185,17 +185,17 @@ fn add_of_record(
 fn add_answer(
     alloc: Global,
     text: &mut String,
-    asked: Asked,
+    asked: ReadAs,
     reading: &mut Reading,
     line: &[u8],
 ) -> Result<(), Fail> {
     match asked {
-        Asked::Request | Asked::Reply | Asked::Call => {
+        ReadAs::Request | ReadAs::Reply | ReadAs::Call => {
             add_of_request(alloc, text, asked, reading, line)
         }
-        Asked::Event | Asked::Scheduled => add_of_event(alloc, text, asked, reading, line),
-        Asked::Record => add_of_record(alloc, text, reading, line),
-        Asked::Value => add_value(alloc, text, str::from_utf8(line)?),
+        ReadAs::Event | ReadAs::Scheduled => add_of_event(alloc, text, asked, reading, line),
+        ReadAs::Record => add_of_record(alloc, text, reading, line),
+        ReadAs::Value => add_value(alloc, text, str::from_utf8(line)?),
     }
 }
 
@@ -204,11 +204,11 @@ fn is_unfolded(
     rt: &impl Abort,
     alloc: Global,
     got: &str,
-    want: &str,
+    expected: &str,
     at: &str,
 ) -> Result<(), Fail> {
-    let want = unfolded(alloc, want)?;
-    is_text(rt, got, str::from_utf8(&want)?, at);
+    let expected = unfolded(alloc, expected)?;
+    is_text(rt, got, str::from_utf8(&expected)?, at);
     Ok(())
 }
 
@@ -216,21 +216,21 @@ fn is_unfolded(
 fn comes(
     rt: &impl Abort,
     alloc: Global,
-    asked: Asked,
+    asked: ReadAs,
     reading: &mut Reading,
     line: &[u8],
-    (text, want): (&str, &str),
+    (text, expected): (&str, &str),
 ) -> Result<(), Fail> {
     let mut got = String::new(alloc);
     add_answer(alloc, &mut got, asked, reading, line)?;
-    is_unfolded(rt, alloc, got.as_str(), want, text)
+    is_unfolded(rt, alloc, got.as_str(), expected, text)
 }
 
 /// The same with these ids, as the line of this number and the first call.
 fn comes_first(
     rt: &impl Abort,
     alloc: Global,
-    asked: Asked,
+    asked: ReadAs,
     (ids, number): (Ids, u64),
     line: &[u8],
     case: (&str, &str),
@@ -240,10 +240,10 @@ fn comes_first(
 }
 
 /// Asserts the result of this line, as the line of this number and the first call.
-pub(crate) fn line_tells(
+pub(crate) fn reads_line(
     rt: &impl Abort,
     alloc: Global,
-    asked: Asked,
+    asked: ReadAs,
     number: u64,
     line: &[u8],
     case: (&str, &str),
@@ -252,10 +252,10 @@ pub(crate) fn line_tells(
 }
 
 /// Asserts the result of the line of a text with these ids, as the first line.
-pub(crate) fn tells_with(
+pub(crate) fn reads_with(
     rt: &impl Abort,
     alloc: Global,
-    asked: Asked,
+    asked: ReadAs,
     ids: Ids,
     case: (&str, &str),
 ) -> Result<(), Fail> {
@@ -264,32 +264,32 @@ pub(crate) fn tells_with(
 }
 
 /// Asserts the result of each line of the table, as the line of this number and the first call, with the ids of the all-zero seed.
-pub(crate) fn tells_at(
+pub(crate) fn reads_at(
     rt: &impl Abort,
     alloc: Global,
-    asked: Asked,
+    asked: ReadAs,
     number: u64,
     table: &str,
 ) -> Result<(), Fail> {
     for case in table.lines() {
         if let Some(case) = case.split_once(" => ") {
             let line = line_of(alloc, case.0)?;
-            line_tells(rt, alloc, asked, number, &line, case)?;
+            reads_line(rt, alloc, asked, number, &line, case)?;
         }
     }
     Ok(())
 }
 
 /// Asserts the result of each line of the table, as the first line.
-pub(crate) fn tells(rt: &impl Abort, alloc: Global, asked: Asked, table: &str) -> Result<(), Fail> {
-    tells_at(rt, alloc, asked, 1, table)
+pub(crate) fn reads_table(rt: &impl Abort, alloc: Global, asked: ReadAs, table: &str) -> Result<(), Fail> {
+    reads_at(rt, alloc, asked, 1, table)
 }
 
 /// Asserts the result of a line of the table, and advances to the next one.
-fn tells_next(
+fn reads_next(
     rt: &impl Abort,
     alloc: Global,
-    asked: Asked,
+    asked: ReadAs,
     reading: &mut Reading,
     case: (&str, &str),
 ) -> Result<(), Fail> {
@@ -300,28 +300,28 @@ fn tells_next(
     Ok(())
 }
 
-fn tells_all(
+fn reads_all(
     rt: &impl Abort,
     alloc: Global,
-    asked: Asked,
+    asked: ReadAs,
     reading: &mut Reading,
     table: &str,
 ) -> Result<(), Fail> {
     for case in table.lines() {
         if let Some(case) = case.split_once(" => ") {
-            tells_next(rt, alloc, asked, reading, case)?;
+            reads_next(rt, alloc, asked, reading, case)?;
         }
     }
     Ok(())
 }
 
 /// Asserts the results of the lines of the table, one after another: lines and calls are counted from 1.
-pub(crate) fn tells_in_a_row(
+pub(crate) fn reads_in_a_row(
     rt: &impl Abort,
     alloc: Global,
-    asked: Asked,
+    asked: ReadAs,
     table: &str,
 ) -> Result<(), Fail> {
     let mut reading = Reading::new(alloc, first_ids(), 1)?;
-    tells_all(rt, alloc, asked, &mut reading, table)
+    reads_all(rt, alloc, asked, &mut reading, table)
 }

@@ -1,6 +1,6 @@
 //! What do the keys `after` and `token` of a line mean, and what do they require of its operations?
 
-use crate::tables::{Asked, tells, tells_in_a_row};
+use crate::tables::{ReadAs, reads_table, reads_in_a_row};
 use std::test::Fail;
 
 /// Lines, and the request of each.
@@ -67,7 +67,7 @@ const TABLE: &str = r#"
 
 #[test]
 fn the_least_place_and_the_token_are_read_in_their_turn(rt: HostRuntime) -> Result<(), Fail> {
-    tells(&rt, rt.alloc(), Asked::Request, TABLE)
+    reads_table(&rt, rt.alloc(), ReadAs::Request, TABLE)
 }
 
 /// Lines that are read one after another with the ids of the all-zero seed, and the request of each: the one with a token draws no id.
@@ -79,5 +79,5 @@ const IN_A_ROW: &str = r#"
 
 #[test]
 fn a_line_with_a_token_draws_no_id(rt: HostRuntime) -> Result<(), Fail> {
-    tells_in_a_row(&rt, rt.alloc(), Asked::Request, IN_A_ROW)
+    reads_in_a_row(&rt, rt.alloc(), ReadAs::Request, IN_A_ROW)
 }

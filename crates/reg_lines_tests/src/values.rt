@@ -4,7 +4,7 @@ use crate::printed::add;
 use batch_work::Status;
 use call_answers::{CallAnswer, Decision, Done};
 use call_events::EventRefusal;
-use entry_book::{DomainSet, Limit, OpRefusal, Outcome, Refusal, Reply, Shared};
+use entry_book::{DomainSet, Limit, OpRefusal, ReplyOutcome, Refusal, Reply, Shared};
 use line_reading::LineRefusal;
 use reg_lines::{AnsweredCall, CallOrder, CallReply, EventRefused, SeatRefusal, SeatRefused};
 use spiffe_name::{Failure, SpiffeId, TrustDomain};
@@ -144,7 +144,7 @@ fn add_refused(alloc: Global, text: &mut String, words: &[&str]) -> Result<(), F
     let call = number(words, 1)?;
     let reply = Reply {
         place: number(words, 2)?,
-        outcome: Outcome::Refused(refusal(alloc, words)?),
+        outcome: ReplyOutcome::Refused(refusal(alloc, words)?),
     };
     add(
         alloc,
@@ -239,11 +239,11 @@ fn add_marks(alloc: Global, text: &mut String, lines: &str) -> Result<(), Fail> 
 /// Appends what is printed for the value of a line. Semicolons separate nested lists, and marks.
 pub(crate) fn add_value(alloc: Global, text: &mut String, line: &str) -> Result<(), Fail> {
     let line = line.strip_suffix("\n").unwrap_or(line);
-    let (kind, told) = line.split_once(" ").unwrap_or((line, ""));
+    let (kind, as_text) = line.split_once(" ").unwrap_or((line, ""));
     match kind {
-        "text" => add(alloc, text, "", &String::from_str(alloc, told)?),
-        "lists" => add_lists(alloc, text, told.replace(alloc, "; ", "\n")?.as_str()),
-        "marks" => add_marks(alloc, text, told.replace(alloc, "; ", "\n")?.as_str()),
+        "text" => add(alloc, text, "", &String::from_str(alloc, as_text)?),
+        "lists" => add_lists(alloc, text, as_text.replace(alloc, "; ", "\n")?.as_str()),
+        "marks" => add_marks(alloc, text, as_text.replace(alloc, "; ", "\n")?.as_str()),
         _ => add_of_words(alloc, text, words(alloc, line)?.as_slice()),
     }
 }

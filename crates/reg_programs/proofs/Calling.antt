@@ -6,7 +6,7 @@ use Rattle.spiffe_name.specs.declared.refusals.Failure.{Failure}
 use Rattle.spiffe_name.specs.declared.refusals.Failure.TheVariants.{NoMemory, Refused}
 use Rattle.entry_book.specs.Rows.{Bytes}
 use Rattle.line_reading.specs.Fields.{Fails}
-use Rattle.line_devices.specs.Lines.{kept, IsLine}
+use Rattle.line_devices.specs.Lines.{stored_part, IsLine}
 use Rattle.reg_lines.specs.Refusals.{failure_json, refusal_json}
 use Rattle.line_reading.specs.Requests.{spelled}
 use Rattle.reg_lines.specs.SeatLines.{seat_refusal_json}
@@ -17,62 +17,62 @@ use Rattle.reg_lines.specs.declared.printing.seats.SeatRefusal.TheVariants.{Spen
 use Rattle.line_reading.specs.declared.request.Request.{Request}
 use Rattle.line_reading.proofs.Kept.{kept_spells}
 use mathlib.Core.List.{IsPrefix}
-use Rattle.shared_registry.specs.Seated.{Entered, MaySee, Seated, Stays}
+use Rattle.shared_registry.specs.Seated.{CaughtUp, MaySee, Seated, SawNothingNew}
 use Rattle.commit_head.specs.declared.item.Item.{Item}
 use Rattle.line_engines.specs.Answers.{as_line}
 use Rattle.line_engines.specs.Driver.{AnswersKept}
 use Rattle.reg_programs.specs.declared.session_engine.Taken.{Taken}
-use Rattle.reg_programs.specs.declared.session_engine.Taken.TheVariants.{Answered, Asked, NotAnswered, NotRead}
-use Rattle.reg_programs.specs.Sessions.{AnswersCall, AnswersRequest, Session, answered, asked, not_read, passed, refused, spent}
+use Rattle.reg_programs.specs.declared.session_engine.Taken.TheVariants.{Answered, Query, NotAnswered, NotRead}
+use Rattle.reg_programs.specs.Sessions.{AnswersCall, AnswersRequest, Session, answered, asked, not_read, session_skips, refused, spent}
 use Rattle.reg_programs.specs.SessionsPrivate.{HasText, IsPrinted, IsToAnswer, TakesRequestLine}
 
 -- ---- a seat that has seen what it found
 
-pub entered : (domain : Bytes) (s u t : Seated) → Stays domain s u → MaySee domain u → t ≡ record u { seen = u.found } → Entered domain s t
-entered domain s u t stays may is =
-    let along = stays.along in
-    let seen : IsPrefix s.seen u.found = subst (λ (l : List Item). IsPrefix l u.found) stays.same may.seen in
-    let told : IsPrefix s.told u.found = subst (λ (l : List Item). IsPrefix l u.found) along.told may.told in
-    subst (Entered domain s) (sym is) (record {
-      along = record {
-        number = along.number;
-        calls = along.calls;
-        fresh = along.fresh;
+pub entered : (domain : Bytes) (s u t : Seated) → SawNothingNew domain s u → MaySee domain u → t ≡ record u { seen = u.found } → CaughtUp domain s t
+entered domain s u t is_unchanged may is =
+    let after_call = is_unchanged.after_call in
+    let seen : IsPrefix s.seen u.found = subst (λ (l : List Item). IsPrefix l u.found) is_unchanged.same may.seen in
+    let learnt : IsPrefix s.learnt u.found = subst (λ (l : List Item). IsPrefix l u.found) after_call.learnt may.learnt in
+    subst (CaughtUp domain s) (sym is) (record {
+      after_call = record {
+        number = after_call.number;
+        calls = after_call.calls;
+        fresh = after_call.fresh;
         lawful = may.lawful;
         seen = seen;
-        told = along.told;
+        learnt = after_call.learnt;
         own = may.own;
       };
-      heard = told;
+      heard = learnt;
     })
 
 -- ---- a line that has its answer already
 
-pub to_answer : (domain : Bytes) (s : Seated) (taken : Taken) (told : List ℕ) → HasText taken told → IsToAnswer domain s taken
-to_answer domain s (Answered call answer) told h = tt
-to_answer domain s (Asked line batch) told h = absurd h
-to_answer domain s (NotAnswered r) told h = tt
-to_answer domain s (NotRead r) told h = tt
+pub to_answer : (domain : Bytes) (s : Seated) (taken : Taken) (learnt : List ℕ) → HasText taken learnt → IsToAnswer domain s taken
+to_answer domain s (Answered call answer) learnt h = tt
+to_answer domain s (Query line batch) learnt h = absurd h
+to_answer domain s (NotAnswered r) learnt h = tt
+to_answer domain s (NotRead r) learnt h = tt
 
 -- this answer is printed, and the seat stays as it is
-pub printed_as : (s t : Seated) (taken : Taken) (told text : List ℕ) → HasText taken told → IsPrinted s taken t text → (t ≡ s) × (text ≡ told)
-printed_as s t (Answered call answer) told text h p = (p.0, p.1 ∙ sym h)
-printed_as s t (Asked line batch) told text h p = absurd h
-printed_as s t (NotAnswered r) told text h p = (p.0, p.1 ∙ sym h)
-printed_as s t (NotRead r) told text h p = (p.0, p.1 ∙ sym h)
+pub printed_as : (s t : Seated) (taken : Taken) (learnt text : List ℕ) → HasText taken learnt → IsPrinted s taken t text → (t ≡ s) × (text ≡ learnt)
+printed_as s t (Answered call answer) learnt text h p = (p.0, p.1 ∙ sym h)
+printed_as s t (Query line batch) learnt text h p = absurd h
+printed_as s t (NotAnswered r) learnt text h p = (p.0, p.1 ∙ sym h)
+printed_as s t (NotRead r) learnt text h p = (p.0, p.1 ∙ sym h)
 
 -- ---- one line
 
 failed : (domain : Bytes) (now : Session) (line text : List ℕ) (ids : ChaCha) (failure : Failure Fault) → now.ids ≡ ids → Fails failure (spelled domain now.ids line) → text ≡ failure_json (now.lines + 1) failure → TakesRequestLine domain now line text now.seat ids
 failed domain now line text ids NoMemory i e t = record {
-  next = passed now;
+  next = session_skips now;
   answers = not_read refl (ap as_line t);
   seat_is = refl;
   ids_is = i;
   lines_is = refl;
 }
 failed domain now line text ids (Refused fault) i e t = record {
-  next = passed now;
+  next = session_skips now;
   answers = refused fault e refl (ap as_line t);
   seat_is = refl;
   ids_is = i;
@@ -102,8 +102,8 @@ call_answered domain now line text seat ids request e a = record {
 }
 
 -- what was printed is the answer that the line had, and the seat is unchanged
-pub printed : (domain : Bytes) (now : Session) (line told text : List ℕ) (seat t : Seated) (ids : ChaCha) → t ≡ seat → text ≡ told → TakesRequestLine domain now line told seat ids → TakesRequestLine domain now line text t ids
-printed domain now line told text seat t ids s e taken = subst (λ (u : Seated). TakesRequestLine domain now line text u ids) (sym s) (subst (λ (x : List ℕ). TakesRequestLine domain now line x seat ids) (sym e) taken)
+pub printed : (domain : Bytes) (now : Session) (line learnt text : List ℕ) (seat t : Seated) (ids : ChaCha) → t ≡ seat → text ≡ learnt → TakesRequestLine domain now line learnt seat ids → TakesRequestLine domain now line text t ids
+printed domain now line learnt text seat t ids s e taken = subst (λ (u : Seated). TakesRequestLine domain now line text u ids) (sym s) (subst (λ (x : List ℕ). TakesRequestLine domain now line x seat ids) (sym e) taken)
 
 -- ---- the line of which bytes are kept
 
@@ -115,7 +115,7 @@ same_state a b s i n =
     ap p s ∙ (ap q i ∙ ap r n)
 
 -- a reply to what is kept of a line is one to the line
-of_kept : (domain : Bytes) (now : Session) (line : List ℕ) (next : Session) (reply : List ℕ) → IsLine line → AnswersRequest domain now (kept line) next reply → AnswersRequest domain now line next reply
+of_kept : (domain : Bytes) (now : Session) (line : List ℕ) (next : Session) (reply : List ℕ) → IsLine line → AnswersRequest domain now (stored_part line) next reply → AnswersRequest domain now line next reply
 of_kept domain now line next reply is (refused fault e n r) = refused fault (sym (kept_spells domain now.ids line is) ∙ e) n r
 of_kept domain now line next reply is (not_read n r) = not_read n r
 of_kept domain now line next reply is (spent request ids e l n r) = spent request ids (sym (kept_spells domain now.ids line is) ∙ e) l n r
@@ -125,5 +125,5 @@ of_kept domain now line next reply is (answered request ids seat text e a n r) =
 pub taken : (domain : Bytes) (before after : Session) (bytes text : List ℕ) (old out : OutputState) → TakesRequestLine domain before bytes text after.seat after.ids → after.lines ≡ before.lines + 1 → Puts old out (as_line text) → (now : Session) → now ≡ before → AnswersKept (AnswersRequest domain) (λ _. false) (λ s. s ≡ after) now bytes old out true
 taken domain before after bytes text old out a l p now is =
     let P : Session → Type 0 = λ s. AnswersKept (AnswersRequest domain) (λ _. false) (λ s. s ≡ after) s bytes old out true in
-    let whole : (line : List ℕ) → IsLine line → bytes ≡ kept line → AnswersRequest domain before line a.next (as_line text) = λ line l k. of_kept domain before line a.next (as_line text) l (subst (λ x. AnswersRequest domain before x a.next (as_line text)) k a.answers) in
+    let whole : (line : List ℕ) → IsLine line → bytes ≡ stored_part line → AnswersRequest domain before line a.next (as_line text) = λ line l k. of_kept domain before line a.next (as_line text) l (subst (λ x. AnswersRequest domain before x a.next (as_line text)) k a.answers) in
     subst P (sym is) (a.next, as_line text, whole, p, same_state a.next after a.seat_is a.ids_is (a.lines_is ∙ sym l), refl)

@@ -2,9 +2,9 @@
 use Rattle.std.proofs.Common.{◌≡◌, ◌+◌, ℕ, List, [], ◌∷◌, refl, subst, sym, ◌∙◌, arith}
 use Rattle.entry_book.specs.Rows.{Bytes}
 use Rattle.line_reading.specs.declared.request.Request.{Request}
-use Rattle.shared_registry.specs.Seated.{Along, Seated}
+use Rattle.shared_registry.specs.Seated.{AfterCall, Seated}
 use Rattle.shared_registry.proofs.Prefixes.{prefix_self, prefix_trans}
-use Rattle.reg_programs.specs.Sessions.{AnswersCall, AnswersRequest, Grew, Session, SessionsGrow, answered, asked, no_reply, not_read, passed, refused, replied, spent, submitted}
+use Rattle.reg_programs.specs.Sessions.{AnswersCall, AnswersRequest, Grew, Session, SessionsGrow, answered, asked, no_reply, not_read, session_skips, refused, replied, spent, submitted}
 
 pub grew_same : (domain : Bytes) (s : Seated) → Grew domain s s
 grew_same domain s = record {
@@ -12,7 +12,7 @@ grew_same domain s = record {
   calls = omega arith;
   seen = prefix_self s.seen;
   lawful = λ l. l;
-  told = refl;
+  learnt = refl;
 }
 
 pub grew_on : (domain : Bytes) (s t u : Seated) → Grew domain s t → Grew domain t u → Grew domain s u
@@ -21,29 +21,29 @@ grew_on domain s t u a b = record {
   calls = let x = a.calls in let y = b.calls in omega arith;
   seen = prefix_trans s.seen t.seen u.seen a.seen b.seen;
   lawful = λ l. b.lawful (a.lawful l);
-  told = b.told ∙ a.told;
+  learnt = b.learnt ∙ a.learnt;
 }
 
-grew_along : (domain : Bytes) (s t : Seated) → Along domain s t → Grew domain s t
-grew_along domain s t a = record {
+grew_after_call : (domain : Bytes) (s t : Seated) → AfterCall domain s t → Grew domain s t
+grew_after_call domain s t a = record {
   number = a.number;
   calls = let x = a.calls in omega arith;
   seen = a.seen;
   lawful = λ l. a.lawful;
-  told = a.told;
+  learnt = a.learnt;
 }
 
 grew_by_call : (domain : Bytes) (s t : Seated) (request : Request) (line : ℕ) (text : List ℕ) → AnswersCall domain s request line t text → Grew domain s t
-grew_by_call domain s t request line text (replied q e o r) = grew_along domain s t e.along
-grew_by_call domain s t request line text (no_reply why q e o r) = grew_along domain s t e.along
-grew_by_call domain s t request line text (submitted outcome q a h i r) = grew_along domain s t a
+grew_by_call domain s t request line text (replied q e o r) = grew_after_call domain s t e.after_call
+grew_by_call domain s t request line text (no_reply why q e o r) = grew_after_call domain s t e.after_call
+grew_by_call domain s t request line text (submitted outcome q a h i r) = grew_after_call domain s t a
 
 grew_to : (domain : Bytes) (s : Seated) (made next : Session) → next ≡ made → Grew domain s made.seat → Grew domain s next.seat
 grew_to domain s made next e a = subst (λ (x : Session). Grew domain s x.seat) (sym e) a
 
 pub grew_by_line : (domain : Bytes) (now next : Session) (line reply : List ℕ) → AnswersRequest domain now line next reply → Grew domain now.seat next.seat
-grew_by_line domain now next line reply (refused fault e n r) = grew_to domain now.seat (passed now) next n (grew_same domain now.seat)
-grew_by_line domain now next line reply (not_read n r) = grew_to domain now.seat (passed now) next n (grew_same domain now.seat)
+grew_by_line domain now next line reply (refused fault e n r) = grew_to domain now.seat (session_skips now) next n (grew_same domain now.seat)
+grew_by_line domain now next line reply (not_read n r) = grew_to domain now.seat (session_skips now) next n (grew_same domain now.seat)
 grew_by_line domain now next line reply (spent request ids e l n r) = grew_to domain now.seat (asked now now.seat ids) next n (grew_same domain now.seat)
 grew_by_line domain now next line reply (answered request ids seat text e a n r) = grew_to domain now.seat (asked now seat ids) next n (grew_by_call domain now.seat seat request (now.lines + 1) text a)
 

@@ -10,52 +10,52 @@ use Rattle.reg_programs.specs.declared.serve_fault.ServeFault.{ServeFault}
 use Rattle.reg_programs.specs.declared.serve_fault.ServeFault.TheVariants as serve
 use Rattle.command_line.specs.declared.fault.LineFault.{LineFault}
 use Rattle.command_line.specs.declared.fault.LineFault.TheVariants as line
-use Rattle.line_engines.specs.declared.outcome.Outcome.{Outcome}
-use Rattle.line_engines.specs.declared.outcome.Outcome.TheVariants.{Denied, Done}
-use Rattle.reg_programs.specs.declared.told.Told.{Told}
-use Rattle.reg_programs.specs.declared.told.Told.TheVariants as told
+use Rattle.line_engines.specs.declared.outcome.RunEnd.{RunEnd}
+use Rattle.line_engines.specs.declared.outcome.RunEnd.TheVariants.{Denied, Done}
+use Rattle.reg_programs.specs.declared.exit_message.ExitMessage.{ExitMessage}
+use Rattle.reg_programs.specs.declared.exit_message.ExitMessage.TheVariants as exit_message
 
 -- a line of the program itself, with its line feed
 abbrev pub own_line : List ℕ → Option (List ℕ)
 own_line text = Some (codes "regd: " ++ (text ++ (10 ∷ [])))
 
 -- the text on standard error; the parser's own text, if it is known, is unchanged
-abbrev pub told_text : {E : Type 0} → (E → Option (List ℕ)) → Told E → Option (List ℕ)
-told_text text_of told.Nothing = Some []
-told_text text_of (told.Parser error) = text_of error
-told_text text_of told.Input = own_line (codes "input failed")
-told_text text_of told.Output = own_line (codes "output failed")
-told_text text_of told.NoMemory = own_line (codes "out of memory")
-told_text text_of told.Listen = own_line (codes "listen failed")
-told_text text_of told.Accept = own_line (codes "accept failed")
-told_text text_of told.NoSeat = own_line (codes "no seat")
-told_text text_of (told.Domain refusal) = own_line (codes "domain " ++ id_code refusal)
-told_text text_of told.Seed = own_line (codes "seed")
-told_text text_of told.Address = own_line (codes "listen")
-told_text text_of told.Number = own_line (codes "number")
-told_text text_of told.NotText = own_line (codes "a word isn't UTF-8")
+abbrev pub exit_message_text : {E : Type 0} → (E → Option (List ℕ)) → ExitMessage E → Option (List ℕ)
+exit_message_text text_of exit_message.Nothing = Some []
+exit_message_text text_of (exit_message.Parser error) = text_of error
+exit_message_text text_of exit_message.Input = own_line (codes "input failed")
+exit_message_text text_of exit_message.Output = own_line (codes "output failed")
+exit_message_text text_of exit_message.NoMemory = own_line (codes "out of memory")
+exit_message_text text_of exit_message.Listen = own_line (codes "listen failed")
+exit_message_text text_of exit_message.Accept = own_line (codes "accept failed")
+exit_message_text text_of exit_message.NoSeat = own_line (codes "no seat")
+exit_message_text text_of (exit_message.Domain refusal) = own_line (codes "domain " ++ id_code refusal)
+exit_message_text text_of exit_message.Seed = own_line (codes "seed")
+exit_message_text text_of exit_message.Address = own_line (codes "listen")
+exit_message_text text_of exit_message.Number = own_line (codes "number")
+exit_message_text text_of exit_message.NotText = own_line (codes "a word isn't UTF-8")
 
 -- the text for an invalid command line
-abbrev pub told_of_line : LineFault → Told Error
-told_of_line (line.Refused error) = told.Parser error
-told_of_line (line.Domain refusal) = told.Domain refusal
-told_of_line line.Seed = told.Seed
-told_of_line line.Address = told.Address
-told_of_line line.Number = told.Number
-told_of_line line.NotText = told.NotText
-told_of_line line.NoMemory = told.NoMemory
+abbrev pub exit_message_of_line : LineFault → ExitMessage Error
+exit_message_of_line (line.Refused error) = exit_message.Parser error
+exit_message_of_line (line.Domain refusal) = exit_message.Domain refusal
+exit_message_of_line line.Seed = exit_message.Seed
+exit_message_of_line line.Address = exit_message.Address
+exit_message_of_line line.Number = exit_message.Number
+exit_message_of_line line.NotText = exit_message.NotText
+exit_message_of_line line.NoMemory = exit_message.NoMemory
 
 -- the text for an end of a run
-abbrev pub told_of : Ended → Told Error
-told_of ended.Done = told.Nothing
-told_of ended.Denied = told.Nothing
-told_of (ended.Line fault) = told_of_line fault
-told_of ended.Input = told.Input
-told_of ended.Output = told.Output
-told_of ended.NoMemory = told.NoMemory
-told_of ended.Listen = told.Listen
-told_of ended.Accept = told.Accept
-told_of ended.NoSeat = told.NoSeat
+abbrev pub exit_message_of : Ended → ExitMessage Error
+exit_message_of ended.Done = exit_message.Nothing
+exit_message_of ended.Denied = exit_message.Nothing
+exit_message_of (ended.Line fault) = exit_message_of_line fault
+exit_message_of ended.Input = exit_message.Input
+exit_message_of ended.Output = exit_message.Output
+exit_message_of ended.NoMemory = exit_message.NoMemory
+exit_message_of ended.Listen = exit_message.Listen
+exit_message_of ended.Accept = exit_message.Accept
+exit_message_of ended.NoSeat = exit_message.NoSeat
 
 -- the exit status for an invalid command line; running out of memory is not a fault of the words
 abbrev pub status_of_line : LineFault → ℕ
@@ -63,14 +63,14 @@ status_of_line line.NoMemory = 1
 status_of_line _ = 2
 
 -- the exit status of an end
-abbrev pub status_of : Ended → ℕ
-status_of ended.Done = 0
-status_of ended.Denied = 3
-status_of (ended.Line fault) = status_of_line fault
-status_of _ = 1
+abbrev pub exit_status_of : Ended → ℕ
+exit_status_of ended.Done = 0
+exit_status_of ended.Denied = 3
+exit_status_of (ended.Line fault) = status_of_line fault
+exit_status_of _ = 1
 
 -- the end of a run that had its settings
-abbrev pub ended_by_run : Result Outcome RunFault → Ended
+abbrev pub ended_by_run : Result RunEnd RunFault → Ended
 ended_by_run (Ok Done) = ended.Done
 ended_by_run (Ok Denied) = ended.Denied
 ended_by_run (Err run.Input) = ended.Input
@@ -78,7 +78,7 @@ ended_by_run (Err run.Output) = ended.Output
 ended_by_run (Err run.NoMemory) = ended.NoMemory
 
 -- the end of a run, from the results of the command line and then of the run
-abbrev pub ended_of : Result (Result Outcome RunFault) LineFault → Ended
+abbrev pub ended_of : Result (Result RunEnd RunFault) LineFault → Ended
 ended_of (Ok answered) = ended_by_run answered
 ended_of (Err fault) = ended.Line fault
 

@@ -6,21 +6,21 @@ use Rattle.line_engines.specs.Audited.{RunsAudit}
 use Rattle.line_engines.specs.Recorded.{RunsRecord}
 use Rattle.line_engines.specs.Schedules.{RunsSchedule}
 use Rattle.line_engines.specs.declared.fault.RunFault.{RunFault}
-use Rattle.line_engines.specs.declared.outcome.Outcome.{Outcome}
-use Rattle.line_engines.specs.declared.outcome.Outcome.TheVariants.{Done}
+use Rattle.line_engines.specs.declared.outcome.RunEnd.{RunEnd}
+use Rattle.line_engines.specs.declared.outcome.RunEnd.TheVariants.{Done}
 use Rattle.command_line.specs.declared.program.Program.{Program}
 use Rattle.command_line.specs.declared.program.Program.TheVariants.{Audit, Plain, Record, Schedule, Serve}
 
 -- the outcome of a run that isn't an audit
-abbrev pub done_of : {T : Type 0} → Result T RunFault → Result Outcome RunFault
-done_of (Ok x) = Ok Done
-done_of (Err fault) = Err fault
+abbrev pub run_end_of_result : {T : Type 0} → Result T RunFault → Result RunEnd RunFault
+run_end_of_result (Ok x) = Ok Done
+run_end_of_result (Err fault) = Err fault
 
 -- The result of a run of this program over an input and an output. Only an audit has the outcome `Denied`.
-abbrev pub RunsAs : Program → List ℕ → List ℕ → InputState → InputState → OutputState → OutputState → Result Outcome RunFault → Type 0
-RunsAs Plain domain seed input rest output out result = (ran : Result Unit RunFault) × (result ≡ done_of ran) × RunsPlain domain seed input rest output out ran
-RunsAs Schedule domain seed input rest output out result = (ran : Result Unit RunFault) × (result ≡ done_of ran) × RunsSchedule domain seed input rest output out ran
-RunsAs Record domain seed input rest output out result = (ran : Result ℕ RunFault) × (result ≡ done_of ran) × RunsRecord domain seed input rest output out ran
+abbrev pub RunsAs : Program → List ℕ → List ℕ → InputState → InputState → OutputState → OutputState → Result RunEnd RunFault → Type 0
+RunsAs Plain domain seed input rest output out result = (ran : Result Unit RunFault) × (result ≡ run_end_of_result ran) × RunsPlain domain seed input rest output out ran
+RunsAs Schedule domain seed input rest output out result = (ran : Result Unit RunFault) × (result ≡ run_end_of_result ran) × RunsSchedule domain seed input rest output out ran
+RunsAs Record domain seed input rest output out result = (ran : Result ℕ RunFault) × (result ≡ run_end_of_result ran) × RunsRecord domain seed input rest output out ran
 RunsAs Audit domain seed input rest output out result = RunsAudit domain input rest output out result
 -- a server has no input and no output of lines
 RunsAs Serve domain seed input rest output out result = ⊥

@@ -13,10 +13,10 @@ use Rattle.line_devices.specs.Runs.{IsRun}
 use Rattle.reg_lines.specs.SeatLines.{seat_refusal_json}
 use Rattle.line_devices.specs.Stream.{InputState, OutputState}
 use Rattle.line_reading.specs.declared.fault.Fault.{Fault}
-use Rattle.reg_lines.specs.declared.printing.seats.SeatRefusal.TheVariants.{Spent, NoEntry as WasNotLetIn}
+use Rattle.reg_lines.specs.declared.printing.seats.SeatRefusal.TheVariants.{Spent, NoEntry as NotAdmitted}
 use Rattle.line_reading.specs.declared.request.Request.{Request}
 use Rattle.shared_registry.specs.Outcomes.{HasHeard, IsSubmitted}
-use Rattle.shared_registry.specs.Seated.{Along, Entered, Seated, Stays}
+use Rattle.shared_registry.specs.Seated.{AfterCall, CaughtUp, Seated, SawNothingNew}
 use Rattle.shared_registry.specs.declared.outcome.Outcome.{Outcome}
 use Rattle.shared_registry.specs.declared.outcome.Outcome.TheVariants.{Committed, Repeated, Refused, Conflict, NoMemory, NoEntry}
 use Rattle.shared_registry.specs.declared.seat.NoAnswer.{NoAnswer}
@@ -33,12 +33,12 @@ pub record Session : Type 0 where
   pub lines : ℕ
 
 -- before the first line
-abbrev pub start : Seated → ChaCha → Session
-start seat ids = record { seat = seat; ids = ids; lines = 0 }
+abbrev pub session_start : Seated → ChaCha → Session
+session_start seat ids = record { seat = seat; ids = ids; lines = 0 }
 
 -- after a line without a request
-abbrev pub passed : Session → Session
-passed now = record now { lines = now.lines + 1 }
+abbrev pub session_skips : Session → Session
+session_skips now = record now { lines = now.lines + 1 }
 
 -- after a line with a request that left this seat and these ids
 abbrev pub asked : Session → Seated → ChaCha → Session
@@ -48,24 +48,24 @@ asked now seat ids = record { seat = seat; ids = ids; lines = now.lines + 1 }
 
 abbrev pub no_answer_json : ℕ → NoAnswer → List ℕ
 no_answer_json line no.NoMemory = no_memory_json line
-no_answer_json line no.NoEntry = seat_refusal_json line WasNotLetIn
+no_answer_json line no.NoEntry = seat_refusal_json line NotAdmitted
 
-abbrev pub outcome_json : ℕ → ℕ → Outcome → List ℕ
-outcome_json call line (Committed reply) = reply_json call reply
-outcome_json call line (Repeated reply) = reply_json call reply
-outcome_json call line (Refused reply) = reply_json call reply
-outcome_json call line (Conflict n) = conflict_json call n
-outcome_json call line NoMemory = no_memory_json line
-outcome_json call line NoEntry = seat_refusal_json line WasNotLetIn
+abbrev pub submit_json : ℕ → ℕ → Outcome → List ℕ
+submit_json call line (Committed reply) = reply_json call reply
+submit_json call line (Repeated reply) = reply_json call reply
+submit_json call line (Refused reply) = reply_json call reply
+submit_json call line (Conflict n) = conflict_json call n
+submit_json call line NoMemory = no_memory_json line
+submit_json call line NoEntry = seat_refusal_json line NotAdmitted
 
 -- ---- a call of the seat, and its answer
 
 -- The printed answer to a request, and the seat after it. A query gets the reply of the plain book on the books of the journal that the
 -- seat has then seen. A batch of changes gets an outcome that the registry allows, with the number of tries of the request.
 pub data AnswersCall (domain : Bytes) (s : Seated) (request : Request) (line : ℕ) (t : Seated) (text : List ℕ) : Type 0 where
-  replied : is_query request.batch.ops ≡ true → Entered domain s t → t.own ≡ s.own → text ≡ reply_json t.calls (reply_to request.batch (books_of (batches_of t.seen))) → AnswersCall domain s request line t text
-  no_reply : (why : NoAnswer) → is_query request.batch.ops ≡ true → Stays domain s t → t.own ≡ s.own → text ≡ no_answer_json line why → AnswersCall domain s request line t text
-  submitted : (outcome : Outcome) → is_query request.batch.ops ≡ false → Along domain s t → HasHeard s t outcome → IsSubmitted s t request.batch request.tries outcome → text ≡ outcome_json t.calls line outcome → AnswersCall domain s request line t text
+  replied : is_query request.batch.ops ≡ true → CaughtUp domain s t → t.own ≡ s.own → text ≡ reply_json t.calls (reply_to request.batch (books_of (batches_of t.seen))) → AnswersCall domain s request line t text
+  no_reply : (why : NoAnswer) → is_query request.batch.ops ≡ true → SawNothingNew domain s t → t.own ≡ s.own → text ≡ no_answer_json line why → AnswersCall domain s request line t text
+  submitted : (outcome : Outcome) → is_query request.batch.ops ≡ false → AfterCall domain s t → HasHeard s t outcome → IsSubmitted s t request.batch request.tries outcome → text ≡ submit_json t.calls line outcome → AnswersCall domain s request line t text
 
 -- ---- a line, and its reply
 
@@ -73,8 +73,8 @@ pub data AnswersCall (domain : Bytes) (s : Seated) (request : Request) (line : �
 -- draws the ids of its creates, whatever its answer; a seat without a call number left makes none. If memory runs out while a line is
 -- read, the reply says so, and the line changes nothing.
 pub data AnswersRequest (domain : Bytes) (now : Session) (line : List ℕ) (next : Session) (reply : List ℕ) : Type 0 where
-  refused : (fault : Fault) → spelled domain now.ids line ≡ Err fault → next ≡ passed now → reply ≡ as_line (fault_json (now.lines + 1) fault) → AnswersRequest domain now line next reply
-  not_read : next ≡ passed now → reply ≡ as_line (no_memory_json (now.lines + 1)) → AnswersRequest domain now line next reply
+  refused : (fault : Fault) → spelled domain now.ids line ≡ Err fault → next ≡ session_skips now → reply ≡ as_line (fault_json (now.lines + 1) fault) → AnswersRequest domain now line next reply
+  not_read : next ≡ session_skips now → reply ≡ as_line (no_memory_json (now.lines + 1)) → AnswersRequest domain now line next reply
   spent : (request : Request) (ids : ChaCha) → spelled domain now.ids line ≡ Ok (request, ids) → 2 ^ 48 ≤ now.seat.calls → next ≡ asked now now.seat ids → reply ≡ as_line (seat_refusal_json (now.lines + 1) Spent) → AnswersRequest domain now line next reply
   answered : (request : Request) (ids : ChaCha) (seat : Seated) (text : List ℕ) → spelled domain now.ids line ≡ Ok (request, ids) → AnswersCall domain now.seat request (now.lines + 1) seat text → next ≡ asked now seat ids → reply ≡ as_line text → AnswersRequest domain now line next reply
 
@@ -86,7 +86,7 @@ LeavesSeat left last end = (end ≡ []) × (last.seat ≡ left)
 
 -- The result of a run of the engine over an input and an output: it is a run of lines, and if it succeeded, this is the seat at the end.
 abbrev pub RunsSession : {T : Type 0} → Bytes → Seated → ChaCha → InputState → InputState → OutputState → OutputState → Seated → Result T RunFault → Type 0
-RunsSession domain seat ids input rest output out left result = RunsOver (AnswersRequest domain) (LeavesSeat left) ⊥ (start seat ids) input rest output out result
+RunsSession domain seat ids input rest output out left result = RunsOver (AnswersRequest domain) (LeavesSeat left) ⊥ (session_start seat ids) input rest output out result
 
 -- ---- a theorem: what the seat of a session has seen only grows
 
@@ -97,7 +97,7 @@ pub record Grew (domain : Bytes) (s t : Seated) : Type 0 where
   pub calls : s.calls ≤ t.calls
   pub seen : IsPrefix s.seen t.seen
   pub lawful : IsLawfulJournal domain s.seen → IsLawfulJournal domain t.seen
-  pub told : t.told ≡ s.told
+  pub learnt : t.learnt ≡ s.learnt
 
 -- So, if the journal is lawful, a session is answered on the books of its prefixes: of what the seat has seen at the end.
 abbrev pub SessionsGrow : Type 0

@@ -11,17 +11,17 @@ use Rattle.reg_lines.specs.SeatLines.{seat_refusal_json}
 use Rattle.shared_registry.specs.Seated.{MaySee, Seated}
 use Rattle.line_engines.specs.Answers.{as_line}
 use Rattle.reg_programs.specs.declared.session_engine.Taken.{Taken}
-use Rattle.reg_programs.specs.declared.session_engine.Taken.TheVariants.{Answered, Asked, NotAnswered, NotRead}
-use Rattle.reg_programs.specs.Sessions.{Session, passed, AnswersRequest, not_read}
+use Rattle.reg_programs.specs.declared.session_engine.Taken.TheVariants.{Answered, Query, NotAnswered, NotRead}
+use Rattle.reg_programs.specs.Sessions.{Session, session_skips, AnswersRequest, not_read}
 
 -- Each line has a reply in every state: at least the one for out of memory.
 pub a_request_answer : (domain : Bytes) (now : Session) (line : List ℕ) → (next : Session) × (reply : List ℕ) × AnswersRequest domain now line next reply
-a_request_answer domain now line = (passed now, as_line (no_memory_json (now.lines + 1)), not_read refl refl)
+a_request_answer domain now line = (session_skips now, as_line (no_memory_json (now.lines + 1)), not_read refl refl)
 
 -- The line has its answer already, which is printed as this text. A query has none before the seat answers it.
 abbrev pub HasText : Taken → List ℕ → Type 0
 HasText (Answered call answer) text = text ≡ answer_json call answer
-HasText (Asked line batch) text = ⊥
+HasText (Query line batch) text = ⊥
 HasText (NotAnswered r) text = text ≡ seat_refusal_json r.line r.refusal
 HasText (NotRead r) text = text ≡ refusal_json r
 
@@ -30,7 +30,7 @@ abbrev pub IsToAnswer : Bytes → Seated → Taken → Type 0
 IsToAnswer domain seat (Answered call answer) = ⊤
 IsToAnswer domain seat (NotAnswered r) = ⊤
 IsToAnswer domain seat (NotRead r) = ⊤
-IsToAnswer domain seat (Asked line batch) = MaySee domain seat × (is_query batch.ops ≡ true) × (batch.domain ≡ domain)
+IsToAnswer domain seat (Query line batch) = MaySee domain seat × (is_query batch.ops ≡ true) × (batch.domain ≡ domain)
 
 -- the reply to a query on the journal that the seat found, with the number of its call
 abbrev pub found_json : Seated → Batch → List ℕ
@@ -42,7 +42,7 @@ abbrev pub IsPrinted : Seated → Taken → Seated → List ℕ → Type 0
 IsPrinted s (Answered call answer) t text = (t ≡ s) × HasText (Answered call answer) text
 IsPrinted s (NotAnswered r) t text = (t ≡ s) × HasText (NotAnswered r) text
 IsPrinted s (NotRead r) t text = (t ≡ s) × HasText (NotRead r) text
-IsPrinted s (Asked line batch) t text = ((t ≡ record s { seen = s.found }) × (text ≡ found_json s batch)) ⊎ ((t ≡ s) × (text ≡ no_memory_json line))
+IsPrinted s (Query line batch) t text = ((t ≡ record s { seen = s.found }) × (text ≡ found_json s batch)) ⊎ ((t ≡ s) × (text ≡ no_memory_json line))
 
 -- One line was answered: its reply has this text, and it left this seat and these ids.
 pub record TakesRequestLine (domain : Bytes) (now : Session) (line : List ℕ) (text : List ℕ) (seat : Seated) (ids : ChaCha) : Type 0 where

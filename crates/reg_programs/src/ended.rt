@@ -1,12 +1,12 @@
 //! How did a run end, and what does the caller learn of it?
 
 ghost use Rattle.std.specs.Prelude.{◌≡◌};
-ghost use Rattle.reg_programs.specs.Ends.{ended_of, ended_of_server, status_of, told_of, told_of_line};
+ghost use Rattle.reg_programs.specs.Ends.{ended_of, ended_of_server, exit_status_of, exit_message_of, exit_message_of_line};
 
 use crate::serve_fault::ServeFault;
-use crate::told::Told;
+use crate::exit_message::ExitMessage;
 use command_line::LineFault;
-use line_engines::{Outcome, RunFault};
+use line_engines::{RunEnd, RunFault};
 
 /// The end of a run.
 #[derive(Debug, Drop)]
@@ -33,12 +33,12 @@ pub enum Ended {
 
 impl Ended {
     /// Returns the end of a run, from the fault of the command line or else the result of the run.
-    pub fn of(answered: Result<Result<Outcome, RunFault>, LineFault>) -> Ended
+    pub fn of(answered: Result<Result<RunEnd, RunFault>, LineFault>) -> Ended
         ensures { result ≡ ended_of answered }
     {
         match answered {
-            Ok(Ok(Outcome::Done)) => Ended::Done,
-            Ok(Ok(Outcome::Denied)) => Ended::Denied,
+            Ok(Ok(RunEnd::Done)) => Ended::Done,
+            Ok(Ok(RunEnd::Denied)) => Ended::Denied,
             Ok(Err(RunFault::Input)) => Ended::Input,
             Ok(Err(RunFault::Output)) => Ended::Output,
             Ok(Err(RunFault::NoMemory)) => Ended::NoMemory,
@@ -61,40 +61,40 @@ impl Ended {
     }
 
     /// Returns the text for standard error.
-    pub fn told(self) -> Told<clap::Error>
-        ensures { result ≡ told_of self }
+    pub fn exit_message(self) -> ExitMessage<clap::Error>
+        ensures { result ≡ exit_message_of self }
     {
         match self {
-            Ended::Done | Ended::Denied => Told::Nothing,
-            Ended::Line(fault) => told_of_fault(fault),
-            Ended::Input => Told::Input,
-            Ended::Output => Told::Output,
-            Ended::NoMemory => Told::NoMemory,
-            Ended::Listen => Told::Listen,
-            Ended::Accept => Told::Accept,
-            Ended::NoSeat => Told::NoSeat,
+            Ended::Done | Ended::Denied => ExitMessage::Nothing,
+            Ended::Line(fault) => exit_message_of_fault(fault),
+            Ended::Input => ExitMessage::Input,
+            Ended::Output => ExitMessage::Output,
+            Ended::NoMemory => ExitMessage::NoMemory,
+            Ended::Listen => ExitMessage::Listen,
+            Ended::Accept => ExitMessage::Accept,
+            Ended::NoSeat => ExitMessage::NoSeat,
         }
     }
 }
 
 /// Returns the text for standard error after an invalid command line.
-fn told_of_fault(fault: LineFault) -> Told<clap::Error>
-    ensures { result ≡ told_of_line fault }
+fn exit_message_of_fault(fault: LineFault) -> ExitMessage<clap::Error>
+    ensures { result ≡ exit_message_of_line fault }
 {
     match fault {
-        LineFault::Refused(error) => Told::Parser(error),
-        LineFault::Domain(refusal) => Told::Domain(refusal),
-        LineFault::Seed => Told::Seed,
-        LineFault::Address => Told::Address,
-        LineFault::Number => Told::Number,
-        LineFault::NotText => Told::NotText,
-        LineFault::NoMemory => Told::NoMemory,
+        LineFault::Refused(error) => ExitMessage::Parser(error),
+        LineFault::Domain(refusal) => ExitMessage::Domain(refusal),
+        LineFault::Seed => ExitMessage::Seed,
+        LineFault::Address => ExitMessage::Address,
+        LineFault::Number => ExitMessage::Number,
+        LineFault::NotText => ExitMessage::NotText,
+        LineFault::NoMemory => ExitMessage::NoMemory,
     }
 }
 
 /// Returns the exit status: 0 if everything was done, 3 if an audit found a fault, 2 for an invalid command line, 1 for any other end.
 pub fn status(ended: &Ended) -> u8
-    ensures { result ≡ status_of ended.now }
+    ensures { result ≡ exit_status_of ended.now }
 {
     match ended {
         Ended::Done => 0,

@@ -10,7 +10,7 @@
 //!   the same at an existing listener, with what the workers share ([`ServerContext`]), their seats ([`seats_of`]) and a [`Queue`]
 //!   of connections for each ([`queues_of`]); a [`QueueState`] says which worker sleeps.
 //! - [`ServeFault`]: why a server ended before its last connection did.
-//! - [`Ended`]: how a run ended; [`status`]: its exit status; [`Told`]: what standard error gets.
+//! - [`Ended`]: how a run ended; [`status`]: its exit status; [`ExitMessage`]: what standard error gets.
 //!
 //! `docs/GLOSSARY.md` explains the terms.
 #![tactic(auto)]
@@ -23,7 +23,7 @@ mod queue;
 mod serve_fault;
 mod server;
 mod session_engine;
-mod told;
+mod exit_message;
 
 pub use command_line::Settings;
 pub use ended::{Ended, status};
@@ -33,4 +33,4 @@ pub use queue::{Queue, QueueState, queues_of};
 pub use serve_fault::ServeFault;
 pub use server::{Server, ServerContext, seats_of, serve, serve_connections};
 pub use session_engine::{session, sessions_law};
-pub use told::Told;
+pub use exit_message::ExitMessage;

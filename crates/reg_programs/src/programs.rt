@@ -1,11 +1,11 @@
 //! What does each program do?
 
 ghost use Rattle.std.specs.Prelude.{◌≡◌, [], None};
-ghost use Rattle.reg_programs.specs.Programs.{RunsAs, done_of};
+ghost use Rattle.reg_programs.specs.Programs.{RunsAs, run_end_of_result};
 
 use command_line::{Program, Settings};
 use line_devices::{Input, Output, Sink, Source};
-use line_engines::{Outcome, RunFault, audit, plain, record_schedule, schedule};
+use line_engines::{RunEnd, RunFault, audit, plain, record_schedule, schedule};
 use std::alloc::Global;
 
 /// Runs the program that the settings request, which is not a server, with their trust domain and seed: it answers each line of the
@@ -15,7 +15,7 @@ pub fn run_settings<S: Source, K: Sink>(
     settings: Settings,
     input: &mut Input<S>,
     output: &mut Output<K>,
-) -> Result<Outcome, RunFault>
+) -> Result<RunEnd, RunFault>
     requires lines { settings.server ≡ None }
     requires input { input.old.failures ≡ 0 }
     requires output { output.old.failures ≡ 0 }
@@ -35,11 +35,11 @@ pub fn run_settings<S: Source, K: Sink>(
 }
 
 /// Returns the outcome of a run that isn't an audit, whatever its value.
-fn done<T: Drop>(ran: Result<T, RunFault>) -> Result<Outcome, RunFault>
-    ensures { result ≡ done_of ran }
+fn done<T: Drop>(ran: Result<T, RunFault>) -> Result<RunEnd, RunFault>
+    ensures { result ≡ run_end_of_result ran }
 {
     match ran {
-        Ok(_) => Ok(Outcome::Done),
+        Ok(_) => Ok(RunEnd::Done),
         Err(fault) => Err(fault),
     }
 }

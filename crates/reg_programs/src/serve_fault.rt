@@ -26,9 +26,9 @@ pub enum ServeFault {
 }
 
 impl From<AllocError> for ServeFault {
-    ghost use Rattle.reg_programs.specs.declared.serve_fault.ServeFault.TheVariants.{NoMemory as WantOfMemory};
+    ghost use Rattle.reg_programs.specs.declared.serve_fault.ServeFault.TheVariants.{NoMemory as OutOfMemory};
 
-    ghost from_gives = { λ _ fault. fault ≡ WantOfMemory };
+    ghost from_gives = { λ _ fault. fault ≡ OutOfMemory };
 
     fn from(_: AllocError) -> ServeFault {
         ServeFault::NoMemory

@@ -8,7 +8,7 @@ use crate::serve_fault::ServeFault;
 use crate::session_engine::session;
 use command_line::ServerPlan;
 use line_devices::{CountedDevice, Input, Output};
-use shared_registry::{Naming, Opened, Registry, Seat};
+use shared_registry::{RegistryId, NewHistory, Registry, Seat};
 use spiffe_name::TrustDomain;
 use std::alloc::Global;
 use std::marker::Brand;
@@ -31,7 +31,7 @@ pub struct Server<'a> {
 
 /// What the workers of a server share: the registry, and how their sessions are run.
 #[derive(Drop)]
-pub struct ServerContext<'a, J: Naming, R> {
+pub struct ServerContext<'a, J: RegistryId, R> {
     pub rt: &'a R,
     pub alloc: Global,
     pub registry: &'a Registry<J>,
@@ -39,7 +39,7 @@ pub struct ServerContext<'a, J: Naming, R> {
     pub domain: &'a TrustDomain,
     /// The seed of the ids, as in [`Server`].
     pub seed: [u8; 32],
-    pub ghost own: { domain.now ≡ J.domain },
+    pub ghost own_domain: { domain.now ≡ J.domain },
 }
 
 /// Listens, prints the address of the listener, serves the planned number of connections through a shared registry with an empty book,
@@ -54,27 +54,27 @@ pub fn serve<
     requires { 0 < server.plan.workers }
 {
     let kept = server.domain.clone()?;
-    serve_opened::<Brand, _>(rt, alloc, Opened::new(), kept, server)
+    serve_history::<Brand, _>(rt, alloc, NewHistory::new(), kept, server)
 }
 
 /// Serves the connections through a registry of this history. `kept` is a copy of the trust domain, which the registry owns.
-fn serve_opened<
-    J: Naming + Send + Sync,
+fn serve_history<
+    J: RegistryId + Send + Sync,
     R: Threads + Wait + Clock + Print + Net<Listener = TcpListener, Stream = TcpStream> + Sync,
 >(
     rt: &R,
     alloc: Global,
-    opened: Opened,
+    new_history: NewHistory,
     kept: TrustDomain,
     server: Server<'_>,
 ) -> Result<(), ServeFault>
-    requires history { opened.seen.book ≡ J.history }
+    requires history { new_history.seen.book ≡ J.history }
     requires kept { kept ≡ J.domain }
     requires domain { server.domain.now ≡ J.domain }
     requires workers { 0 < server.plan.workers }
 {
     let Server { domain, seed, plan } = server;
-    let registry = Registry::<J>::new(alloc, opened, kept)?;
+    let registry = Registry::<J>::new(alloc, new_history, kept)?;
     let context = ServerContext {
         rt,
         alloc,
@@ -89,7 +89,7 @@ fn serve_opened<
 
 /// Serves the connections to the address of the plan.
 fn listen<
-    J: Naming + Send + Sync,
+    J: RegistryId + Send + Sync,
     R: Threads + Wait + Clock + Print + Net<Listener = TcpListener, Stream = TcpStream> + Sync,
 >(context: &ServerContext<'_, J, R>, plan: ServerPlan) -> Result<(), ServeFault>
     requires { 0 < plan.workers }
@@ -104,7 +104,7 @@ fn listen<
     let Ok(address) = listener.local_addr() else {
         return Err(ServeFault::Listen);
     };
-    if tell(rt, address).is_err() {
+    if announce(rt, address).is_err() {
         return Err(ServeFault::Output);
     }
     serve_connections(
@@ -117,7 +117,7 @@ fn listen<
 }
 
 /// Makes a seat for each of the workers.
-pub fn seats_of<J: Naming, R: Wait>(
+pub fn seats_of<J: RegistryId, R: Wait>(
     rt: &R,
     alloc: Global,
     registry: &Registry<J>,
@@ -138,7 +138,7 @@ pub fn seats_of<J: Naming, R: Wait>(
 }
 
 /// Prints the address of the listener, as a line.
-fn tell<R: Print>(rt: &R, address: SocketAddr) -> io::Result<()> {
+fn announce<R: Print>(rt: &R, address: SocketAddr) -> io::Result<()> {
     println!(rt; "{{\"listening\":\"{address}\"}}")
 }
 
@@ -147,7 +147,7 @@ fn tell<R: Print>(rt: &R, address: SocketAddr) -> io::Result<()> {
 /// can't be started, the error is [`ServeFault::NoMemory`], and no connection is accepted. The function waits for connections and
 /// for their bytes, and isn't guaranteed to return.
 pub fn serve_connections<
-    J: Naming + Send + Sync,
+    J: RegistryId + Send + Sync,
     R: Threads + Wait + Clock + Sync,
     L: OpenListener<Stream = TcpStream> + Drop,
 >(
@@ -185,7 +185,7 @@ pub fn serve_connections<
 }
 
 /// Runs one worker with its seat: it serves the connections of its queue, one after another.
-fn work<J: Naming, R: Wait>(context: &ServerContext<'_, J, R>, mut seat: Seat<J>, queue: &Queue) {
+fn work<J: RegistryId, R: Wait>(context: &ServerContext<'_, J, R>, mut seat: Seat<J>, queue: &Queue) {
     for _ in context.rt.forever() {
         let Some(connection) = queue.take(context.rt) else {
             break
@@ -195,7 +195,7 @@ fn work<J: Naming, R: Wait>(context: &ServerContext<'_, J, R>, mut seat: Seat<J>
 }
 
 /// Serves one connection, closes it in any case, and returns the seat.
-fn attend<J: Naming, R: Wait>(
+fn attend<J: RegistryId, R: Wait>(
     context: &ServerContext<'_, J, R>,
     seat: Seat<J>,
     connection: &Connection,

@@ -6,16 +6,16 @@ ghost use Rattle.reg_lines.specs.Refusals.{no_memory_json, refusal_json};
 ghost use Rattle.line_devices.specs.Stream.{Puts};
 ghost use Rattle.line_engines.specs.Answers.{as_line};
 ghost use Rattle.shared_registry.specs.Seated.{MaySee, Seated};
-ghost use Rattle.reg_programs.specs.Sessions.{AnswersCall, Grew, RunsSession, Session, SessionsGrow, no_answer_json, outcome_json};
+ghost use Rattle.reg_programs.specs.Sessions.{AnswersCall, Grew, RunsSession, Session, SessionsGrow, no_answer_json, submit_json};
 ghost use Rattle.reg_programs.specs.SessionsPrivate.{HasText, IsPrinted, IsToAnswer, TakesRequestLine, found_json};
 
 use call_answers::CallAnswer;
 use entry_book::Batch;
 use line_devices::{Input, Output, Sink, Source};
-use line_engines::{Answerer, RunFault, run_lines};
+use line_engines::{LineHandler, RunFault, run_lines};
 use line_reading::{Ids, LineRefusal, Request, read_request};
-use reg_lines::{AnsweredCall, LentCallReply, SeatRefusal, SeatRefused, print_line};
-use shared_registry::{Naming, NoAnswer, OpenGate, Outcome, Registry, Seat};
+use reg_lines::{AnsweredCall, BorrowedCallReply, SeatRefusal, SeatRefused, print_line};
+use shared_registry::{RegistryId, NoAnswer, OpenGate, Outcome, Registry, Seat};
 use spiffe_name::{Failure, TrustDomain};
 use std::alloc::{AllocError, Global};
 use std::marker::Model;
@@ -25,7 +25,7 @@ use std::sync::Wait;
 ///
 /// The replies are out before each read that may wait, and at the end. What the seat has seen has only grown, even if a device failed.
 /// The function waits for the input and for the registry's lock, and isn't guaranteed to return.
-pub fn session<J: Naming, R: Wait, S: Source, K: Sink>(
+pub fn session<J: RegistryId, R: Wait, S: Source, K: Sink>(
     rt: &R,
     alloc: Global,
     registry: &Registry<J>,
@@ -56,7 +56,7 @@ pub fn session<J: Naming, R: Wait, S: Source, K: Sink>(
 
 /// A seat that answers lines, the ids that it gives, and the number of lines that were read.
 #[derive(Drop)]
-struct SessionRun<'a, J: Naming, R: Wait> {
+struct SessionRun<'a, J: RegistryId, R: Wait> {
     rt: &'a R,
     registry: &'a Registry<J>,
     domain: &'a TrustDomain,
@@ -65,7 +65,7 @@ struct SessionRun<'a, J: Naming, R: Wait> {
     lines: u64,
 }
 
-impl<'a, J: Naming, R: Wait> Model for SessionRun<'a, J, R> {
+impl<'a, J: RegistryId, R: Wait> Model for SessionRun<'a, J, R> {
     ghost use Rattle.std.specs.Prelude.{◌≡◌};
     ghost use Rattle.reg_programs.specs.Sessions.{Session};
 
@@ -76,7 +76,7 @@ impl<'a, J: Naming, R: Wait> Model for SessionRun<'a, J, R> {
     ghost invariant = { λ r. r.domain.now ≡ J.domain };
 }
 
-impl<'a, J: Naming, R: Wait> SessionRun<'a, J, R> {
+impl<'a, J: RegistryId, R: Wait> SessionRun<'a, J, R> {
     ghost use Rattle.std.specs.Prelude.{◌≡◌};
 
     /// Returns the seat.
@@ -87,7 +87,7 @@ impl<'a, J: Naming, R: Wait> SessionRun<'a, J, R> {
     }
 }
 
-impl<'a, J: Naming, R: Wait> Answerer for SessionRun<'a, J, R> {
+impl<'a, J: RegistryId, R: Wait> LineHandler for SessionRun<'a, J, R> {
     ghost use Rattle.std.specs.Prelude.{◌≡◌, ⊤, [], false};
     ghost use Rattle.reg_programs.specs.Sessions.{AnswersRequest, Grew, Session};
     ghost use Rattle.reg_programs.specs.SessionsPrivate.{a_request_answer};
@@ -98,11 +98,11 @@ impl<'a, J: Naming, R: Wait> Answerer for SessionRun<'a, J, R> {
 
     ghost setting = { λ _. tt };
 
-    ghost stands = { λ r s. s ≡ r };
+    ghost represents = { λ r s. s ≡ r };
 
     ghost lines = { λ r. r.lines };
 
-    ghost keeps = { λ first r. Grew J.domain first.seat r.seat };
+    ghost preserves = { λ first r. Grew J.domain first.seat r.seat };
 
     ghost answers = { λ _. AnswersRequest J.domain };
 
@@ -110,7 +110,7 @@ impl<'a, J: Naming, R: Wait> Answerer for SessionRun<'a, J, R> {
 
     ghost closes = { λ _ _ end. end ≡ [] };
 
-    ghost wants = { ⊥ };
+    ghost may_lack_memory = { ⊥ };
 
     ghost some_answer = { λ _. a_request_answer J.domain };
 
@@ -142,7 +142,7 @@ pub(crate) enum Taken {
     /// The call of this number has this answer.
     Answered(u64, CallAnswer),
     /// The line of this number has this query, which the seat is to answer; it has already looked at the published state.
-    Asked(u64, Batch),
+    Query(u64, Batch),
     /// The seat has no answer.
     NotAnswered(SeatRefused),
     /// The line isn't a request, or an allocation failed.
@@ -150,7 +150,7 @@ pub(crate) enum Taken {
 }
 
 /// Prints the seat's reply to a query, with borrowed rows. Returns false and prints nothing if memory runs out.
-fn print_found<J: Naming, K: Sink>(seat: &Seat<J>, batch: &Batch, output: &mut Output<K>) -> bool
+fn print_found<J: RegistryId, K: Sink>(seat: &Seat<J>, batch: &Batch, output: &mut Output<K>) -> bool
     requires found { MaySee J.domain seat.now }
     requires query { is_query batch.now.ops ≡ true }
     requires domain { batch.now.domain ≡ J.domain }
@@ -159,7 +159,7 @@ fn print_found<J: Naming, K: Sink>(seat: &Seat<J>, batch: &Batch, output: &mut O
     match seat.answer(batch) {
         Ok(reply) => {
             let call = seat.calls();
-            print_line(&LentCallReply { call, reply }, output);
+            print_line(&BorrowedCallReply { call, reply }, output);
             true
         }
         Err(AllocError) => false,
@@ -167,7 +167,7 @@ fn print_found<J: Naming, K: Sink>(seat: &Seat<J>, batch: &Batch, output: &mut O
 }
 
 /// Prints the reply to a line that was taken. Afterwards the seat has seen the journal that its reply was computed from.
-fn print_taken<J: Naming, K: Sink>(seat: &mut Seat<J>, taken: &Taken, output: &mut Output<K>)
+fn print_taken<J: RegistryId, K: Sink>(seat: &mut Seat<J>, taken: &Taken, output: &mut Output<K>)
     requires { IsToAnswer J.domain seat.old taken.now }
     ensures { (text : List ℕ) × IsPrinted seat.old taken.now seat.new text × Puts output.old output.new (as_line text) }
 {
@@ -178,7 +178,7 @@ fn print_taken<J: Naming, K: Sink>(seat: &mut Seat<J>, taken: &Taken, output: &m
         }
         Taken::NotAnswered(refused) => print_line(refused, output),
         Taken::NotRead(refusal) => print_line(refusal, output),
-        Taken::Asked(line, batch) => {
+        Taken::Query(line, batch) => {
             if print_found(seat, batch, output) {
                 seat.see_found();
             } else {
@@ -189,7 +189,7 @@ fn print_taken<J: Naming, K: Sink>(seat: &mut Seat<J>, taken: &Taken, output: &m
 }
 
 /// Takes one line, after `lines` others, and returns the result.
-fn take<J: Naming, R: Wait>(
+fn take<J: RegistryId, R: Wait>(
     rt: &R,
     alloc: Global,
     registry: &Registry<J>,
@@ -221,7 +221,7 @@ fn take<J: Naming, R: Wait>(
 }
 
 /// Makes a call of the seat, for the request of the line of this number, and returns the result.
-fn call<J: Naming, R: Wait>(
+fn call<J: RegistryId, R: Wait>(
     rt: &R,
     registry: &Registry<J>,
     seat: &mut Seat<J>,
@@ -237,7 +237,7 @@ fn call<J: Naming, R: Wait>(
     let Request { batch, tries } = request;
     if batch.is_query() {
         match seat.look() {
-            Ok(()) => Taken::Asked(line, batch),
+            Ok(()) => Taken::Query(line, batch),
             Err(why) => {
                 drop(batch);
                 not_answered(line, why)
@@ -274,7 +274,7 @@ fn not_answered(line: u64, why: NoAnswer) -> Taken
 
 /// Returns the outcome of the changes that the call of this number submitted, for the line of this number.
 fn outcome_of(call: u64, line: u64, outcome: Outcome) -> Taken
-    ensures { HasText result (outcome_json call line outcome) }
+    ensures { HasText result (submit_json call line outcome) }
 {
     match outcome {
         Outcome::Committed(reply) | Outcome::Repeated(reply) | Outcome::Refused(reply) => {

@@ -50,12 +50,12 @@ fn plan_of(errors: &[i32], connections: u64) -> Plan<'_>
 }
 
 /// Asserts that the server succeeded after this number of errors, with a pause after each, and what it replied.
-fn is_served(rt: &impl Abort, hosted: &Hosted, errors: u64, connections: u64, want: &str) {
+fn is_served(rt: &impl Abort, hosted: &Hosted, errors: u64, connections: u64, expected: &str) {
     holds(rt, hosted.ended.is_ok(), "the server ends well");
     holds_at(rt, hosted.pauses == errors, "pauses", hosted.pauses);
     let accepts = errors.saturating_add(connections);
     holds_at(rt, hosted.accepts == accepts, "accepts", hosted.accepts);
-    is_text(rt, hosted.answers.as_str(), want, "all answers");
+    is_text(rt, hosted.answers.as_str(), expected, "all answers");
 }
 
 /// Asserts that the last of this number of errors ended the server.

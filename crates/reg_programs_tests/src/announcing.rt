@@ -74,9 +74,9 @@ fn is_announced<
         return Err(Fail::from("no listener"));
     };
     holds(rt, address.port() != 0, "a port was chosen");
-    let want = format!(in alloc; "{{\"listening\":\"{address}\"}}\n")?;
+    let expected = format!(in alloc; "{{\"listening\":\"{address}\"}}\n")?;
     let printed = watched.into_printed();
-    is_text(rt, printed.as_str(), want.as_str(), "what is printed");
+    is_text(rt, printed.as_str(), expected.as_str(), "what is printed");
     Ok(())
 }
 

@@ -2,7 +2,7 @@
 
 use crate::engine::program_writes;
 use crate::lines::add_line_of;
-use line_engines::Outcome;
+use line_engines::RunEnd;
 use std::alloc::Global;
 use std::process::Abort;
 use std::test::Fail;
@@ -12,8 +12,8 @@ fn is_audited(
     rt: &impl Abort,
     alloc: Global,
     lines: &[u8],
-    outcome: Outcome,
-    want: &str,
+    outcome: RunEnd,
+    expected: &str,
 ) -> Result<(), Fail> {
     program_writes(
         rt,
@@ -21,14 +21,14 @@ fn is_audited(
         "regd|audit|--domain|ex.org",
         outcome,
         lines,
-        want,
+        expected,
     )
 }
 
 /// Asserts that the verdict on these lines is this no.
 fn is_denied(rt: &impl Abort, alloc: Global, lines: &[u8], verdict: &str) -> Result<(), Fail> {
-    let want = format!(in alloc; "{verdict}\n")?;
-    is_audited(rt, alloc, lines, Outcome::Denied, want.as_str())
+    let expected = format!(in alloc; "{verdict}\n")?;
+    is_audited(rt, alloc, lines, RunEnd::Denied, expected.as_str())
 }
 
 /// Each verdict line of the table is the expected verdict on the lines between the verdict before and this one, in the notation of `lines`.
@@ -46,8 +46,8 @@ fn are_denied(rt: &impl Abort, alloc: Global, table: &str) -> Result<(), Fail> {
 }
 
 /// Asserts that the records have no fault.
-fn are_good(rt: &impl Abort, alloc: Global, lines: &str, want: &str) -> Result<(), Fail> {
-    is_audited(rt, alloc, lines.as_bytes(), Outcome::Done, want)
+fn are_good(rt: &impl Abort, alloc: Global, lines: &str, expected: &str) -> Result<(), Fail> {
+    is_audited(rt, alloc, lines.as_bytes(), RunEnd::Done, expected)
 }
 
 /// Two creates of the same group: the second one is refused with the first one's id.
@@ -111,7 +111,7 @@ const BAD_SECOND: &str = r#"
 "#;
 
 #[test]
-fn the_first_cause_is_told(rt: HostRuntime) -> Result<(), Fail> {
+fn the_first_cause_is_reported(rt: HostRuntime) -> Result<(), Fail> {
     are_denied(&rt, rt.alloc(), BAD_SECOND)
 }
 
@@ -128,6 +128,6 @@ const NO_RECORDS: &str = r#"
 "#;
 
 #[test]
-fn a_line_that_spells_no_record_is_told_by_its_code(rt: HostRuntime) -> Result<(), Fail> {
+fn a_line_that_spells_no_record_is_reported_by_its_code(rt: HostRuntime) -> Result<(), Fail> {
     are_denied(&rt, rt.alloc(), NO_RECORDS)
 }

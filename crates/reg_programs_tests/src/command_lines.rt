@@ -2,7 +2,7 @@
 
 use crate::wanted::{holds, is_text};
 use command_line::{LineFault, Program, ServerPlan, Settings, a_line_gives_its_domain};
-use line_engines::{Outcome, RunFault};
+use line_engines::{RunEnd, RunFault};
 use reg_programs::{Ended, ServeFault, status};
 use spiffe_name::IdRefusal;
 use std::alloc::Global;
@@ -20,9 +20,9 @@ pub fn words_of<'a>(alloc: Global, line: &'a str) -> Result<Vec<&'a str>, Fail> 
 }
 
 /// The status of an end, and its text with `$` for each line feed.
-fn told_of(alloc: Global, ended: Ended) -> Result<String, Fail> {
+fn exit_message_of(alloc: Global, ended: Ended) -> Result<String, Fail> {
     let code = status(&ended);
-    let text = ended.told().to_string(alloc)?;
+    let text = ended.exit_message().to_string(alloc)?;
     let text = text.replace(alloc, "\n", "$")?;
     Ok(format!(in alloc; "{code} {text}")?)
 }
@@ -58,35 +58,35 @@ fn settings_text(alloc: Global, settings: &Settings) -> Result<String, Fail> {
 }
 
 /// The settings of a command line, or what `regd` writes about it.
-fn told(alloc: Global, words: &[&str]) -> Result<String, Fail> {
+fn exit_message(alloc: Global, words: &[&str]) -> Result<String, Fail> {
     match Settings::from_words(alloc, words) {
         Ok(settings) => settings_text(alloc, &settings),
         Err(LineFault::NoMemory) => Err(Fail::from("no memory")),
-        Err(fault) => told_of(alloc, Ended::of(Err(fault))),
+        Err(fault) => exit_message_of(alloc, Ended::of(Err(fault))),
     }
 }
 
 /// Asserts that the text is this one, or begins with the text before a `*`.
-fn is_or_begins(rt: &impl Abort, got: &str, want: &str) {
-    match want.strip_suffix('*') {
+fn is_or_begins(rt: &impl Abort, got: &str, expected: &str) {
+    match expected.strip_suffix('*') {
         Some(start) => holds(rt, got.starts_with(start), got),
-        None => is_text(rt, got, want, want),
+        None => is_text(rt, got, expected, expected),
     }
 }
 
 /// Asserts the settings of a command line, or what `regd` writes about it.
-fn is_told(rt: &impl Abort, alloc: Global, line: &str, want: &str) -> Result<(), Fail> {
+fn has_exit_message(rt: &impl Abort, alloc: Global, line: &str, expected: &str) -> Result<(), Fail> {
     let words = words_of(alloc, line)?;
-    let told = told(alloc, &words)?;
-    is_or_begins(rt, told.as_str(), want);
+    let exit_message = exit_message(alloc, &words)?;
+    is_or_begins(rt, exit_message.as_str(), expected);
     Ok(())
 }
 
-/// Each line of the table is a command line and the result of `told`: all of it, or the text before a `*`.
-fn are_told(rt: &impl Abort, alloc: Global, table: &str) -> Result<(), Fail> {
+/// Each line of the table is a command line and the result of `exit_message`: all of it, or the text before a `*`.
+fn have_exit_messages(rt: &impl Abort, alloc: Global, table: &str) -> Result<(), Fail> {
     for case in table.lines() {
-        if let Some((line, want)) = case.split_once(" => ") {
-            is_told(rt, alloc, line, want)?;
+        if let Some((line, expected)) = case.split_once(" => ") {
+            has_exit_message(rt, alloc, line, expected)?;
         }
     }
     Ok(())
@@ -102,7 +102,7 @@ regd|plain|--domain|ex.org => plain by plain ex.org 0
 #[test]
 fn settings_have_the_domain_that_was_given(rt: HostRuntime) -> Result<(), Fail> {
     a_line_gives_its_domain();
-    are_told(&rt, rt.alloc(), DOMAINS)
+    have_exit_messages(&rt, rt.alloc(), DOMAINS)
 }
 
 const RECORDS: &str = "
@@ -115,7 +115,7 @@ regd|plain|--domain|ex.org|--record => 2 error: unexpected argument '--record' f
 
 #[test]
 fn records_are_asked_for_by_a_word_of_their_own(rt: HostRuntime) -> Result<(), Fail> {
-    are_told(&rt, rt.alloc(), RECORDS)
+    have_exit_messages(&rt, rt.alloc(), RECORDS)
 }
 
 /// The seed is all zeros except for its last byte, which its last two digits give.
@@ -131,7 +131,7 @@ regd|plain|--seed||--domain|ex.org => 2 regd: seed$
 
 #[test]
 fn a_seed_is_64_lower_case_hexadecimal_digits(rt: HostRuntime) -> Result<(), Fail> {
-    are_told(&rt, rt.alloc(), SEEDS)
+    have_exit_messages(&rt, rt.alloc(), SEEDS)
 }
 
 const NO_DOMAINS: &str = "
@@ -143,7 +143,7 @@ regd|plain|--domain=a/b => 2 regd: domain I5$
 
 #[test]
 fn a_domain_that_is_none_is_refused_with_its_code(rt: HostRuntime) -> Result<(), Fail> {
-    are_told(&rt, rt.alloc(), NO_DOMAINS)
+    have_exit_messages(&rt, rt.alloc(), NO_DOMAINS)
 }
 
 /// The parser's refusals come before that of the domain, which is invalid in each of these lines.
@@ -160,10 +160,10 @@ regd|serve|--help => 2 Answers request lines over TCP, by several workers at a t
 
 #[test]
 fn the_parser_refuses_every_other_word(rt: HostRuntime) -> Result<(), Fail> {
-    let told = told(rt.alloc(), &[])?;
-    let want = "2 error: 'regd' requires a subcommand but one was not provided$*";
-    is_or_begins(&rt, told.as_str(), want);
-    are_told(&rt, rt.alloc(), OTHER_WORDS)
+    let exit_message = exit_message(rt.alloc(), &[])?;
+    let expected = "2 error: 'regd' requires a subcommand but one was not provided$*";
+    is_or_begins(&rt, exit_message.as_str(), expected);
+    have_exit_messages(&rt, rt.alloc(), OTHER_WORDS)
 }
 
 const SERVERS: &str = "
@@ -177,7 +177,7 @@ regd|serve|--domain|ex.org|--connections|1|--listen|127.0.0.1:65536|--workers|1 
 
 #[test]
 fn a_server_is_asked_for_by_its_address_and_its_numbers(rt: HostRuntime) -> Result<(), Fail> {
-    are_told(&rt, rt.alloc(), SERVERS)
+    have_exit_messages(&rt, rt.alloc(), SERVERS)
 }
 
 /// The parser's refusals come first, and then the domain, the seed and the address.
@@ -193,15 +193,15 @@ regd|serve|--domain|ex.org|--seed|0000000000000000000000000000000000000000000000
 ";
 
 #[test]
-fn the_first_fault_of_a_server_is_told(rt: HostRuntime) -> Result<(), Fail> {
-    are_told(&rt, rt.alloc(), FAULTS_OF_SERVERS)
+fn the_first_fault_of_a_server_is_reported(rt: HostRuntime) -> Result<(), Fail> {
+    have_exit_messages(&rt, rt.alloc(), FAULTS_OF_SERVERS)
 }
 
 /// The end that this word names.
 fn end(word: &str) -> Result<Ended, Fail> {
     match word {
-        "done" => Ok(Ended::of(Ok(Ok(Outcome::Done)))),
-        "denied" => Ok(Ended::of(Ok(Ok(Outcome::Denied)))),
+        "done" => Ok(Ended::of(Ok(Ok(RunEnd::Done)))),
+        "denied" => Ok(Ended::of(Ok(Ok(RunEnd::Denied)))),
         "input" => Ok(Ended::of(Ok(Err(RunFault::Input)))),
         "output" => Ok(Ended::of(Ok(Err(RunFault::Output)))),
         "memory" => Ok(Ended::of(Ok(Err(RunFault::NoMemory)))),
@@ -229,9 +229,9 @@ fn end_of_server(word: &str) -> Result<Ended, Fail> {
 /// Asserts, for each line of the table, the status and the text of the end that it names.
 fn are_ends(rt: &impl Abort, alloc: Global, table: &str) -> Result<(), Fail> {
     for case in table.lines() {
-        if let Some((word, want)) = case.split_once(" => ") {
-            let told = told_of(alloc, end(word)?)?;
-            is_text(rt, told.as_str(), want, word);
+        if let Some((word, expected)) = case.split_once(" => ") {
+            let exit_message = exit_message_of(alloc, end(word)?)?;
+            is_text(rt, exit_message.as_str(), expected, word);
         }
     }
     Ok(())
@@ -276,47 +276,47 @@ fn line_of<E: Display>(alloc: Global, code: u8, fault: &E) -> Result<String, Fai
 }
 
 /// Asserts that the text for the fault of a command line is the fault's own text, in a line of the program.
-fn is_line_told_by_its_text(
+fn line_has_its_message(
     rt: &impl Abort,
     alloc: Global,
     code: u8,
     fault: LineFault,
 ) -> Result<(), Fail> {
-    let want = line_of(alloc, code, &fault)?;
-    let told = told_of(alloc, Ended::of(Err(fault)))?;
-    is_text(rt, told.as_str(), want.as_str(), "the fault of a line");
+    let expected = line_of(alloc, code, &fault)?;
+    let exit_message = exit_message_of(alloc, Ended::of(Err(fault)))?;
+    is_text(rt, exit_message.as_str(), expected.as_str(), "the fault of a line");
     Ok(())
 }
 
-fn is_run_told_by_its_text(rt: &impl Abort, alloc: Global, fault: RunFault) -> Result<(), Fail> {
-    let want = line_of(alloc, 1, &fault)?;
-    let told = told_of(alloc, Ended::of(Ok(Err(fault))))?;
-    is_text(rt, told.as_str(), want.as_str(), "the fault of a run");
+fn run_has_its_message(rt: &impl Abort, alloc: Global, fault: RunFault) -> Result<(), Fail> {
+    let expected = line_of(alloc, 1, &fault)?;
+    let exit_message = exit_message_of(alloc, Ended::of(Ok(Err(fault))))?;
+    is_text(rt, exit_message.as_str(), expected.as_str(), "the fault of a run");
     Ok(())
 }
 
-fn is_server_told_by_its_text(
+fn server_has_its_message(
     rt: &impl Abort,
     alloc: Global,
     fault: ServeFault,
 ) -> Result<(), Fail> {
-    let want = line_of(alloc, 1, &fault)?;
-    let told = told_of(alloc, Ended::of_server(Err(fault)))?;
-    is_text(rt, told.as_str(), want.as_str(), "the fault of a server");
+    let expected = line_of(alloc, 1, &fault)?;
+    let exit_message = exit_message_of(alloc, Ended::of_server(Err(fault)))?;
+    is_text(rt, exit_message.as_str(), expected.as_str(), "the fault of a server");
     Ok(())
 }
 
 #[test]
-fn a_fault_is_told_by_its_own_text(rt: HostRuntime) -> Result<(), Fail> {
+fn a_fault_is_reported_by_its_own_text(rt: HostRuntime) -> Result<(), Fail> {
     let domain = LineFault::Domain(IdRefusal::NoDomain);
-    is_line_told_by_its_text(&rt, rt.alloc(), 2, domain)?;
-    is_line_told_by_its_text(&rt, rt.alloc(), 2, LineFault::Seed)?;
-    is_line_told_by_its_text(&rt, rt.alloc(), 2, LineFault::Address)?;
-    is_line_told_by_its_text(&rt, rt.alloc(), 2, LineFault::Number)?;
-    is_line_told_by_its_text(&rt, rt.alloc(), 2, LineFault::NotText)?;
-    is_line_told_by_its_text(&rt, rt.alloc(), 1, LineFault::NoMemory)?;
+    line_has_its_message(&rt, rt.alloc(), 2, domain)?;
+    line_has_its_message(&rt, rt.alloc(), 2, LineFault::Seed)?;
+    line_has_its_message(&rt, rt.alloc(), 2, LineFault::Address)?;
+    line_has_its_message(&rt, rt.alloc(), 2, LineFault::Number)?;
+    line_has_its_message(&rt, rt.alloc(), 2, LineFault::NotText)?;
+    line_has_its_message(&rt, rt.alloc(), 1, LineFault::NoMemory)?;
     for fault in [RunFault::Input, RunFault::Output, RunFault::NoMemory] {
-        is_run_told_by_its_text(&rt, rt.alloc(), fault)?;
+        run_has_its_message(&rt, rt.alloc(), fault)?;
     }
     for fault in [
         ServeFault::Listen,
@@ -325,21 +325,21 @@ fn a_fault_is_told_by_its_own_text(rt: HostRuntime) -> Result<(), Fail> {
         ServeFault::NoSeat,
         ServeFault::NoMemory,
     ] {
-        is_server_told_by_its_text(&rt, rt.alloc(), fault)?;
+        server_has_its_message(&rt, rt.alloc(), fault)?;
     }
     Ok(())
 }
 
 /// The text of the parser is unchanged.
 #[test]
-fn a_refusal_of_the_parser_is_told_by_its_own_text(rt: HostRuntime) -> Result<(), Fail> {
+fn a_refusal_of_the_parser_is_reported_by_its_own_text(rt: HostRuntime) -> Result<(), Fail> {
     let words = words_of(rt.alloc(), "regd|plain")?;
     let Err(fault) = Settings::from_words(rt.alloc(), &words) else {
         return Err(Fail::from("no fault"));
     };
-    let want = fault.to_string(rt.alloc())?;
-    let told = Ended::of(Err(fault)).told().to_string(rt.alloc())?;
-    is_text(&rt, told.as_str(), want.as_str(), "a refusal");
-    holds(&rt, want.starts_with("error: "), want.as_str());
+    let expected = fault.to_string(rt.alloc())?;
+    let exit_message = Ended::of(Err(fault)).exit_message().to_string(rt.alloc())?;
+    is_text(&rt, exit_message.as_str(), expected.as_str(), "a refusal");
+    holds(&rt, expected.starts_with("error: "), expected.as_str());
     Ok(())
 }

@@ -8,7 +8,7 @@ use crate::sessions::run_alone;
 use crate::wanted::{holds, is_text};
 use command_line::Settings;
 use line_devices::{CountedDevice, Input, Output};
-use line_engines::{Outcome, RunFault, plain, record_schedule, schedule};
+use line_engines::{RunEnd, RunFault, plain, record_schedule, schedule};
 use reg_programs::run_settings;
 use serde_json::Value;
 use spiffe_name::TrustDomain;
@@ -16,11 +16,11 @@ use std::alloc::Global;
 use std::process::Abort;
 use std::sync::Wait;
 use std::test::Fail;
-use test_devices::{Giver, Pace, Taker, Trouble};
+use test_devices::{FakeReader, Chunking, FakeWriter, Faults};
 
 /// Asserts that the bytes are those of this text.
-pub fn is_written(rt: &impl Abort, got: &[u8], want: &str) -> Result<(), Fail> {
-    is_text(rt, str::from_utf8(got)?, want, "what is written");
+pub fn is_written(rt: &impl Abort, got: &[u8], expected: &str) -> Result<(), Fail> {
+    is_text(rt, str::from_utf8(got)?, expected, "what is written");
     Ok(())
 }
 
@@ -44,11 +44,11 @@ fn run_over(
     engine: Engine,
     domain: TrustDomain,
     seed: [u8; 32],
-    giver: &mut Giver<'_>,
-    taker: &mut Taker,
+    fake_reader: &mut FakeReader<'_>,
+    fake_writer: &mut FakeWriter,
 ) -> Result<(), RunFault> {
-    let mut input = Input::new(CountedDevice::new(giver));
-    let mut output = Output::new(CountedDevice::new(taker));
+    let mut input = Input::new(CountedDevice::new(fake_reader));
+    let mut output = Output::new(CountedDevice::new(fake_writer));
     match engine {
         Engine::Plain | Engine::Session => plain(alloc, domain, seed, &mut input, &mut output),
         Engine::Schedule => schedule(alloc, domain, seed, &mut input, &mut output),
@@ -64,10 +64,10 @@ fn run_over(
 /// The number of these lines that the engine that records a schedule of `ex.org` loses.
 pub fn lines_lost(alloc: Global, bytes: &[u8]) -> Result<u64, Fail> {
     let domain = TrustDomain::parse(alloc, "ex.org")?;
-    let mut giver = Giver::new(bytes, Pace::All, Trouble::NONE);
-    let mut taker = Taker::new(alloc, Pace::All, Trouble::NONE);
-    let mut input = Input::new(CountedDevice::new(&mut giver));
-    let mut output = Output::new(CountedDevice::new(&mut taker));
+    let mut fake_reader = FakeReader::new(bytes, Chunking::All, Faults::NONE);
+    let mut fake_writer = FakeWriter::new(alloc, Chunking::All, Faults::NONE);
+    let mut input = Input::new(CountedDevice::new(&mut fake_reader));
+    let mut output = Output::new(CountedDevice::new(&mut fake_writer));
     match record_schedule(alloc, domain, FIRST_SEED, &mut input, &mut output) {
         Ok(lost) => Ok(lost),
         Err(_) => Err(Fail::from("the run failed")),
@@ -80,13 +80,13 @@ fn run_with(
     alloc: Global,
     engine: Engine,
     (domain, seed): (&str, [u8; 32]),
-    giver: &mut Giver<'_>,
-    taker: &mut Taker,
+    fake_reader: &mut FakeReader<'_>,
+    fake_writer: &mut FakeWriter,
 ) -> Result<Result<(), RunFault>, Fail> {
     let domain = TrustDomain::parse(alloc, domain)?;
     match engine {
-        Engine::Session => run_alone(rt, alloc, domain, seed, giver, taker),
-        _ => Ok(run_over(alloc, engine, domain, seed, giver, taker)),
+        Engine::Session => run_alone(rt, alloc, domain, seed, fake_reader, fake_writer),
+        _ => Ok(run_over(alloc, engine, domain, seed, fake_reader, fake_writer)),
     }
 }
 
@@ -95,10 +95,10 @@ pub fn run(
     rt: &(impl Abort + Wait),
     alloc: Global,
     engine: Engine,
-    giver: &mut Giver<'_>,
-    taker: &mut Taker,
+    fake_reader: &mut FakeReader<'_>,
+    fake_writer: &mut FakeWriter,
 ) -> Result<Result<(), RunFault>, Fail> {
-    run_with(rt, alloc, engine, ("ex.org", FIRST_SEED), giver, taker)
+    run_with(rt, alloc, engine, ("ex.org", FIRST_SEED), fake_reader, fake_writer)
 }
 
 /// The replies of an engine to these bytes.
@@ -109,10 +109,10 @@ fn answers_of(
     (domain, seed): (&str, [u8; 32]),
     bytes: &[u8],
 ) -> Result<Vec<u8>, Fail> {
-    let mut giver = Giver::new(bytes, Pace::All, Trouble::NONE);
-    let mut taker = Taker::new(alloc, Pace::All, Trouble::NONE);
-    match run_with(rt, alloc, engine, (domain, seed), &mut giver, &mut taker)? {
-        Ok(()) => Ok(taker.bytes),
+    let mut fake_reader = FakeReader::new(bytes, Chunking::All, Faults::NONE);
+    let mut fake_writer = FakeWriter::new(alloc, Chunking::All, Faults::NONE);
+    match run_with(rt, alloc, engine, (domain, seed), &mut fake_reader, &mut fake_writer)? {
+        Ok(()) => Ok(fake_writer.bytes),
         Err(_) => Err(Fail::from("the run failed")),
     }
 }
@@ -153,13 +153,13 @@ fn settings_of_words(alloc: Global, words: &[&str]) -> Result<Settings, Fail>
 fn run_program(
     alloc: Global,
     settings: Settings,
-    giver: &mut Giver<'_>,
-    taker: &mut Taker,
-) -> Result<Outcome, RunFault>
+    fake_reader: &mut FakeReader<'_>,
+    fake_writer: &mut FakeWriter,
+) -> Result<RunEnd, RunFault>
     requires { settings.server ≡ None }
 {
-    let mut input = Input::new(CountedDevice::new(giver));
-    let mut output = Output::new(CountedDevice::new(taker));
+    let mut input = Input::new(CountedDevice::new(fake_reader));
+    let mut output = Output::new(CountedDevice::new(fake_writer));
     run_settings(alloc, settings, &mut input, &mut output)
 }
 
@@ -168,16 +168,16 @@ fn answers_of_words(
     rt: &impl Abort,
     alloc: Global,
     line: &str,
-    outcome: Outcome,
+    outcome: RunEnd,
     bytes: &[u8],
 ) -> Result<Vec<u8>, Fail> {
     let settings = settings_of_words(alloc, &words_of(alloc, line)?)?;
-    let mut giver = Giver::new(bytes, Pace::All, Trouble::NONE);
-    let mut taker = Taker::new(alloc, Pace::All, Trouble::NONE);
-    let ended = run_program(alloc, settings, &mut giver, &mut taker);
+    let mut fake_reader = FakeReader::new(bytes, Chunking::All, Faults::NONE);
+    let mut fake_writer = FakeWriter::new(alloc, Chunking::All, Faults::NONE);
+    let ended = run_program(alloc, settings, &mut fake_reader, &mut fake_writer);
     holds(rt, ended == Ok(outcome), "how the run ends");
-    are_compact(rt, alloc, &taker.bytes)?;
-    Ok(taker.bytes)
+    are_compact(rt, alloc, &fake_writer.bytes)?;
+    Ok(fake_writer.bytes)
 }
 
 /// Asserts the outcome of the program of a command line over these bytes, and what it writes.
@@ -185,12 +185,12 @@ pub fn program_writes(
     rt: &impl Abort,
     alloc: Global,
     line: &str,
-    outcome: Outcome,
+    outcome: RunEnd,
     bytes: &[u8],
-    want: &str,
+    expected: &str,
 ) -> Result<(), Fail> {
     let got = answers_of_words(rt, alloc, line, outcome, bytes)?;
-    is_written(rt, &got, want)
+    is_written(rt, &got, expected)
 }
 
 /// A run's input, and its expected output.
@@ -254,8 +254,8 @@ pub fn are_answered_with(
 /// Asserts that the lines of the table, in one run of the program of a command line, get their replies, and then the order line.
 pub fn are_answered_by(rt: &impl Abort, alloc: Global, line: &str, text: &str) -> Result<(), Fail> {
     let table = Table::of(alloc, text)?;
-    let want = table.wanted.as_str();
-    program_writes(rt, alloc, line, Outcome::Done, &table.asked, want)
+    let expected = table.wanted.as_str();
+    program_writes(rt, alloc, line, RunEnd::Done, &table.asked, expected)
 }
 
 /// Asserts that `serde_json` writes the same text for the value that it parses from the line.

@@ -7,7 +7,7 @@ use std::alloc::Global;
 use std::process::Abort;
 use std::sync::Wait;
 use std::test::Fail;
-use test_devices::{Giver, Pace, Taker, Trouble};
+use test_devices::{FakeReader, Chunking, FakeWriter, Faults};
 
 /// Asserts that a run whose device was to fail at this call wrote a prefix of the text. If it made the call, it ended there, with this
 /// fault; otherwise it succeeded, and wrote everything.
@@ -48,20 +48,20 @@ fn count_of_lines(bytes: &[u8]) -> u64 {
 }
 
 /// The number of lines that were read of these bytes: at their end, the last part is one, too.
-fn lines_read(bytes: &[u8], giver: &Giver<'_>) -> u64 {
-    let read = bytes.len().saturating_sub(giver.rest.len());
+fn lines_read(bytes: &[u8], fake_reader: &FakeReader<'_>) -> u64 {
+    let read = bytes.len().saturating_sub(fake_reader.rest.len());
     let whole = count_of_lines(bytes.split_at(read.min(bytes.len())).0);
-    if giver.has_ended {
+    if fake_reader.has_ended {
         return whole.saturating_add(1);
     }
     whole
 }
 
 /// The number of replies that are out when a read fails: one to each line so far. Records are all written at the end.
-fn lines_due(engine: Engine, table: &Table, giver: &Giver<'_>) -> u64 {
+fn lines_due(engine: Engine, table: &Table, fake_reader: &FakeReader<'_>) -> u64 {
     match engine {
         Engine::Record => 0,
-        _ => lines_read(&table.asked, giver),
+        _ => lines_read(&table.asked, fake_reader),
     }
 }
 
@@ -71,19 +71,19 @@ fn fails_at_read(
     alloc: Global,
     engine: Engine,
     table: &Table,
-    from: Pace,
+    from: Chunking,
     call: u64,
 ) -> Result<bool, Fail> {
-    let mut taker = Taker::new(alloc, Pace::All, Trouble::NONE);
-    let mut giver = Giver::new(&table.asked, from, Trouble::failing_at(call));
-    let ended = run(rt, alloc, engine, &mut giver, &mut taker)?;
-    let written = taker.bytes.as_slice();
-    let want = table.wanted.as_str();
-    ends_at_a_failure(rt, call, giver.calls, ended, RunFault::Input, written, want);
-    if giver.calls < call {
+    let mut fake_writer = FakeWriter::new(alloc, Chunking::All, Faults::NONE);
+    let mut fake_reader = FakeReader::new(&table.asked, from, Faults::failing_at(call));
+    let ended = run(rt, alloc, engine, &mut fake_reader, &mut fake_writer)?;
+    let written = fake_writer.bytes.as_slice();
+    let expected = table.wanted.as_str();
+    ends_at_a_failure(rt, call, fake_reader.calls, ended, RunFault::Input, written, expected);
+    if fake_reader.calls < call {
         return Ok(false);
     }
-    let due = lines_due(engine, table, &giver);
+    let due = lines_due(engine, table, &fake_reader);
     holds_at(rt, count_of_lines(written) == due, "lines due at", call);
     let is_whole = written.is_empty() || written.ends_with(b"\n");
     holds_at(rt, is_whole, "whole lines at", call);
@@ -96,7 +96,7 @@ pub fn fail_each_read(
     alloc: Global,
     engine: Engine,
     table: &Table,
-    from: Pace,
+    from: Chunking,
 ) -> Result<(), Fail> {
     for call in 1..5_000u64 {
         if !fails_at_read(rt, alloc, engine, table, from, call)? {
@@ -112,24 +112,24 @@ fn fails_at_write(
     alloc: Global,
     engine: Engine,
     table: &Table,
-    (from, to): (Pace, Pace),
+    (from, to): (Chunking, Chunking),
     call: u64,
 ) -> Result<bool, Fail> {
-    let mut taker = Taker::new(alloc, to, Trouble::failing_at(call));
-    let mut giver = Giver::new(&table.asked, from, Trouble::NONE);
-    let ended = run(rt, alloc, engine, &mut giver, &mut taker)?;
-    let written = taker.bytes.as_slice();
-    let want = table.wanted.as_str();
+    let mut fake_writer = FakeWriter::new(alloc, to, Faults::failing_at(call));
+    let mut fake_reader = FakeReader::new(&table.asked, from, Faults::NONE);
+    let ended = run(rt, alloc, engine, &mut fake_reader, &mut fake_writer)?;
+    let written = fake_writer.bytes.as_slice();
+    let expected = table.wanted.as_str();
     ends_at_a_failure(
         rt,
         call,
-        taker.calls,
+        fake_writer.calls,
         ended,
         RunFault::Output,
         written,
-        want,
+        expected,
     );
-    Ok(taker.calls >= call)
+    Ok(fake_writer.calls >= call)
 }
 
 /// Runs with each call of the writer failing in turn, until the run makes no such call.
@@ -138,7 +138,7 @@ pub fn fail_each_write(
     alloc: Global,
     engine: Engine,
     table: &Table,
-    paces: (Pace, Pace),
+    paces: (Chunking, Chunking),
 ) -> Result<(), Fail> {
     for call in 1..5_000u64 {
         if !fails_at_write(rt, alloc, engine, table, paces, call)? {

@@ -4,7 +4,7 @@ ghost use Rattle.std.specs.Prelude.{◌≡◌, ◌<◌, length, vec_len};
 
 use crate::staged::{Staged, TURNS, Watched, become_closed};
 use reg_programs::{Queue, ServeFault, ServerContext, queues_of, seats_of, serve_connections};
-use shared_registry::{Naming, Opened, Registry, Seat};
+use shared_registry::{RegistryId, NewHistory, Registry, Seat};
 use spiffe_name::TrustDomain;
 use std::alloc::Global;
 use std::io::{Read, Write};
@@ -58,7 +58,7 @@ pub struct InTurn(pub &'static [&'static str]);
 
 /// The second client sends a text and reads to the end, while the first one is silent.
 #[derive(Drop)]
-pub struct BesideASilentOne(pub &'static str);
+pub struct NextToASilentOne(pub &'static str);
 
 /// The second client waits for the first one until all queues are closed. Then the first one, which was silent, disconnects.
 #[derive(Drop)]
@@ -79,7 +79,7 @@ impl Callers for InTurn {
     }
 }
 
-impl Callers for BesideASilentOne {
+impl Callers for NextToASilentOne {
     fn call<R: Wait + Clock + Net<Listener = TcpListener, Stream = TcpStream>>(
         &self,
         rt: &R,
@@ -160,28 +160,28 @@ pub fn host<
 {
     let domain = TrustDomain::parse(alloc, "ex.org")?;
     let kept = domain.clone()?;
-    host_by::<Brand, _, _>(rt, alloc, Opened::new(), kept, &domain, plan, callers)
+    host_by::<Brand, _, _>(rt, alloc, NewHistory::new(), kept, &domain, plan, callers)
 }
 
 fn host_by<
-    J: Naming + Send + Sync,
+    J: RegistryId + Send + Sync,
     R: Threads + Wait + Clock + Net<Listener = TcpListener, Stream = TcpStream> + Sync,
     C: Callers,
 >(
     rt: &R,
     alloc: Global,
-    opened: Opened,
+    new_history: NewHistory,
     kept: TrustDomain,
     domain: &TrustDomain,
     plan: Plan<'_>,
     callers: &C,
 ) -> Result<Hosted, Fail>
-    requires history { opened.seen.book ≡ J.history }
+    requires history { new_history.seen.book ≡ J.history }
     requires kept { kept ≡ J.domain }
     requires domain { domain.now ≡ J.domain }
     requires workers { 0 < plan.workers }
 {
-    let registry = Registry::<J>::new(alloc, opened, kept)?;
+    let registry = Registry::<J>::new(alloc, new_history, kept)?;
     let hosted = on_a_port(rt, alloc, &registry, domain, plan, callers);
     registry.close(rt);
     hosted
@@ -189,7 +189,7 @@ fn host_by<
 
 fn on_a_port<
     'x,
-    J: Naming + Send + Sync,
+    J: RegistryId + Send + Sync,
     R: Threads + Wait + Clock + Net<Listener = TcpListener, Stream = TcpStream> + Sync,
     C: Callers,
 >(
@@ -224,7 +224,7 @@ fn on_a_port<
 /// Runs the server and its clients concurrently.
 fn both<
     'x,
-    J: Naming + Send + Sync,
+    J: RegistryId + Send + Sync,
     R: Threads + Wait + Clock + Net<Listener = TcpListener, Stream = TcpStream> + Sync,
     C: Callers,
 >(

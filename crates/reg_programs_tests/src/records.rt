@@ -4,16 +4,16 @@ use crate::engine::{Engine, Table, lines_lost, program_writes};
 use crate::failing::{fail_each_read, fail_each_write};
 use crate::schedules::OUT_OF_TURN;
 use crate::wanted::holds;
-use line_engines::Outcome;
+use line_engines::RunEnd;
 use std::alloc::Global;
 use std::process::Abort;
 use std::test::Fail;
-use test_devices::Pace;
+use test_devices::Chunking;
 
 /// Asserts that one run of `regd schedule --record` for `ex.org` over these events writes these records.
 fn are_recorded(rt: &impl Abort, alloc: Global, events: &[u8], records: &str) -> Result<(), Fail> {
     let line = "regd|schedule|--domain|ex.org|--record";
-    program_writes(rt, alloc, line, Outcome::Done, events, records)
+    program_writes(rt, alloc, line, RunEnd::Done, events, records)
 }
 
 /// Two calls would both add a row. The second one is a conflict, and isn't recorded; retried, it is refused.
@@ -105,7 +105,7 @@ const EARLY_QUESTION_RECORDS: &str =
 "#;
 
 #[test]
-fn records_stand_in_the_order_of_deciding_events(rt: HostRuntime) -> Result<(), Fail> {
+fn records_are_in_the_order_of_deciding_events(rt: HostRuntime) -> Result<(), Fail> {
     are_recorded(
         &rt,
         rt.alloc(),
@@ -207,9 +207,9 @@ fn each_failing_device_ends_a_recorded_schedule(rt: HostRuntime) -> Result<(), F
         asked: Vec::from_slice(rt.alloc(), UNREPLIED_EVENTS.as_bytes())?,
         wanted: String::from_str(rt.alloc(), UNREPLIED_RECORDS)?,
     };
-    for pace in [Pace::All, Pace::Line] {
-        fail_each_read(&rt, rt.alloc(), Engine::Record, &table, pace)?;
-        fail_each_write(&rt, rt.alloc(), Engine::Record, &table, (Pace::All, pace))?;
+    for chunking in [Chunking::All, Chunking::Line] {
+        fail_each_read(&rt, rt.alloc(), Engine::Record, &table, chunking)?;
+        fail_each_write(&rt, rt.alloc(), Engine::Record, &table, (Chunking::All, chunking))?;
     }
     Ok(())
 }

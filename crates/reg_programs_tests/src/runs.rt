@@ -7,7 +7,7 @@ use std::alloc::Global;
 use std::process::Abort;
 use std::sync::Wait;
 use std::test::Fail;
-use test_devices::{Giver, Pace, Taker, Trouble};
+use test_devices::{FakeReader, Chunking, FakeWriter, Faults};
 
 /// A run that has every operation, with an id that is drawn.
 const EVERY_OPERATION: &str = r#"
@@ -43,21 +43,21 @@ fn is_run(
     rt: &(impl Abort + Wait),
     alloc: Global,
     table: &Table,
-    from: Pace,
-    to: Pace,
+    from: Chunking,
+    to: Chunking,
 ) -> Result<(), Fail> {
-    let mut taker = Taker::new(alloc, to, Trouble::NONE);
-    let mut giver = Giver::new(&table.asked, from, Trouble::NONE);
-    let ended = run(rt, alloc, Engine::Plain, &mut giver, &mut taker)?;
+    let mut fake_writer = FakeWriter::new(alloc, to, Faults::NONE);
+    let mut fake_reader = FakeReader::new(&table.asked, from, Faults::NONE);
+    let ended = run(rt, alloc, Engine::Plain, &mut fake_reader, &mut fake_writer)?;
     holds(rt, ended.is_ok(), "slow devices");
-    is_written(rt, &taker.bytes, table.wanted.as_str())
+    is_written(rt, &fake_writer.bytes, table.wanted.as_str())
 }
 
 #[test]
 fn slow_devices_change_nothing(rt: HostRuntime) -> Result<(), Fail> {
     let table = Table::of(rt.alloc(), EVERY_OPERATION)?;
-    for from in Pace::EACH {
-        for to in Pace::EACH {
+    for from in Chunking::EACH {
+        for to in Chunking::EACH {
             is_run(&rt, rt.alloc(), &table, from, to)?;
         }
     }
@@ -75,7 +75,7 @@ const CUT: &str = r#"
 fn each_failing_read_ends_the_run(rt: HostRuntime) -> Result<(), Fail> {
     let mut table = Table::of(rt.alloc(), EVERY_OPERATION)?;
     table.read(rt.alloc(), CUT)?;
-    for from in Pace::EACH {
+    for from in Chunking::EACH {
         fail_each_read(&rt, rt.alloc(), Engine::Plain, &table, from)?;
     }
     Ok(())
@@ -85,10 +85,10 @@ fn each_failing_read_ends_the_run(rt: HostRuntime) -> Result<(), Fail> {
 fn each_failing_write_ends_the_run(rt: HostRuntime) -> Result<(), Fail> {
     let long = Table::of(rt.alloc(), EVERY_OPERATION)?;
     let short = Table::of(rt.alloc(), REFUSED_AND_ANSWERED)?;
-    for from in Pace::EACH {
-        fail_each_write(&rt, rt.alloc(), Engine::Plain, &long, (from, Pace::All))?;
-        fail_each_write(&rt, rt.alloc(), Engine::Plain, &long, (from, Pace::Line))?;
-        fail_each_write(&rt, rt.alloc(), Engine::Plain, &short, (from, Pace::Byte))?;
+    for from in Chunking::EACH {
+        fail_each_write(&rt, rt.alloc(), Engine::Plain, &long, (from, Chunking::All))?;
+        fail_each_write(&rt, rt.alloc(), Engine::Plain, &long, (from, Chunking::Line))?;
+        fail_each_write(&rt, rt.alloc(), Engine::Plain, &short, (from, Chunking::Byte))?;
     }
     Ok(())
 }
@@ -99,17 +99,17 @@ fn is_counted(
     rt: &(impl Abort + Wait),
     alloc: Global,
     engine: Engine,
-    from: Pace,
+    from: Chunking,
     (reads, calls, flushes): (u64, u64, u64),
 ) -> Result<(), Fail> {
     let table = Table::of(alloc, EVERY_OPERATION)?;
-    let mut taker = Taker::new(alloc, Pace::All, Trouble::NONE);
-    let mut giver = Giver::new(&table.asked, from, Trouble::NONE);
-    let ended = run(rt, alloc, engine, &mut giver, &mut taker)?;
+    let mut fake_writer = FakeWriter::new(alloc, Chunking::All, Faults::NONE);
+    let mut fake_reader = FakeReader::new(&table.asked, from, Faults::NONE);
+    let ended = run(rt, alloc, engine, &mut fake_reader, &mut fake_writer)?;
     holds(rt, ended.is_ok(), "a run");
-    holds(rt, giver.calls == reads, "reads");
-    holds(rt, taker.calls == calls, "calls of the writer");
-    holds(rt, taker.flushes == flushes, "flushes");
+    holds(rt, fake_reader.calls == reads, "reads");
+    holds(rt, fake_writer.calls == calls, "calls of the writer");
+    holds(rt, fake_writer.flushes == flushes, "flushes");
     Ok(())
 }
 
@@ -117,9 +117,9 @@ fn is_counted(
 fn replies_are_out_before_the_next_read_and_not_line_by_line(rt: HostRuntime) -> Result<(), Fail> {
     for engine in [Engine::Plain, Engine::Session] {
         // a terminal gives a line at a time, and gets a flush before each read: there are four lines and the end
-        is_counted(&rt, rt.alloc(), engine, Pace::Line, (5, 10, 6))?;
+        is_counted(&rt, rt.alloc(), engine, Chunking::Line, (5, 10, 6))?;
         // a file gives all lines in one read, and gets their replies in one write
-        is_counted(&rt, rt.alloc(), engine, Pace::All, (2, 4, 3))?;
+        is_counted(&rt, rt.alloc(), engine, Chunking::All, (2, 4, 3))?;
     }
     Ok(())
 }

@@ -5,7 +5,7 @@ use crate::failing::{fail_each_read, fail_each_write};
 use std::alloc::Global;
 use std::process::Abort;
 use std::test::Fail;
-use test_devices::Pace;
+use test_devices::Chunking;
 
 /// Asserts that the events of the table, in one run of `regd schedule` for `ex.org`, get their answers, and then the order line.
 fn are_played(rt: &impl Abort, alloc: Global, text: &str) -> Result<(), Fail> {
@@ -212,7 +212,7 @@ const STALE_READ: &str = r#"
 "#;
 
 #[test]
-fn a_question_after_an_answer_sees_what_it_told(rt: HostRuntime) -> Result<(), Fail> {
+fn a_question_after_an_answer_sees_what_it_reported(rt: HostRuntime) -> Result<(), Fail> {
     are_played(&rt, rt.alloc(), STALE_READ)
 }
 
@@ -323,14 +323,14 @@ fn no_events_have_an_order_without_calls(rt: HostRuntime) -> Result<(), Fail> {
 #[test]
 fn each_failing_device_ends_a_schedule(rt: HostRuntime) -> Result<(), Fail> {
     let table = Table::of(rt.alloc(), QUESTION)?;
-    for pace in Pace::EACH {
-        fail_each_read(&rt, rt.alloc(), Engine::Schedule, &table, pace)?;
+    for chunking in Chunking::EACH {
+        fail_each_read(&rt, rt.alloc(), Engine::Schedule, &table, chunking)?;
         fail_each_write(
             &rt,
             rt.alloc(),
             Engine::Schedule,
             &table,
-            (Pace::Line, pace),
+            (Chunking::Line, chunking),
         )?;
     }
     Ok(())

@@ -2,7 +2,7 @@
 
 ghost use Rattle.std.specs.Prelude.{◌<◌};
 
-use crate::hosting::{BehindASilentOne, BesideASilentOne, Callers, InTurn, Plan, host};
+use crate::hosting::{BehindASilentOne, NextToASilentOne, Callers, InTurn, Plan, host};
 use crate::wanted::{holds, is_text};
 use std::alloc::Global;
 use std::net::{Net, TcpListener, TcpStream};
@@ -69,7 +69,7 @@ fn are_answered<
     connections: u64,
     waits: bool,
     callers: &C,
-    want: &str,
+    expected: &str,
 ) -> Result<(), Fail>
     requires workers { 0 < workers }
 {
@@ -81,20 +81,20 @@ fn are_answered<
     };
     let hosted = host(rt, alloc, plan, callers)?;
     holds(rt, hosted.ended.is_ok(), "the server ends well");
-    is_text(rt, hosted.answers.as_str(), want, "all answers");
+    is_text(rt, hosted.answers.as_str(), expected, "all answers");
     Ok(())
 }
 
 #[test]
 fn a_second_connection_sees_what_the_first_one_made(rt: HostRuntime) -> Result<(), Fail> {
-    let want = format!(in rt.alloc(); "{FIRST_ANSWERS}{ANSWER}")?;
+    let expected = format!(in rt.alloc(); "{FIRST_ANSWERS}{ANSWER}")?;
     let callers = InTurn(&[FIRST_LINES, QUESTION]);
-    are_answered(&rt, rt.alloc(), 2, 2, false, &callers, want.as_str())
+    are_answered(&rt, rt.alloc(), 2, 2, false, &callers, expected.as_str())
 }
 
 #[test]
 fn a_silent_connection_keeps_no_other_waiting(rt: HostRuntime) -> Result<(), Fail> {
-    let callers = BesideASilentOne(FIRST_LINES);
+    let callers = NextToASilentOne(FIRST_LINES);
     are_answered(&rt, rt.alloc(), 2, 2, false, &callers, FIRST_ANSWERS)
 }
 
@@ -102,24 +102,24 @@ fn a_silent_connection_keeps_no_other_waiting(rt: HostRuntime) -> Result<(), Fai
 fn a_connection_that_is_cut_inside_a_line_ends_none_but_itself(
     rt: HostRuntime,
 ) -> Result<(), Fail> {
-    let want = format!(in rt.alloc(); "{{\"code\":\"L3\",\"line\":1}}\n{FIRST_ANSWERS}")?;
+    let expected = format!(in rt.alloc(); "{{\"code\":\"L3\",\"line\":1}}\n{FIRST_ANSWERS}")?;
     let callers = InTurn(&[CUT, FIRST_LINES]);
-    are_answered(&rt, rt.alloc(), 1, 2, false, &callers, want.as_str())
+    are_answered(&rt, rt.alloc(), 1, 2, false, &callers, expected.as_str())
 }
 
 /// Both workers sleep when a connection is accepted. The end wakes the one that gets none.
 #[test]
 fn a_sleeping_worker_is_woken(rt: HostRuntime) -> Result<(), Fail> {
-    let want = format!(in rt.alloc(); "{FIRST_ANSWERS}{ANSWER}")?;
+    let expected = format!(in rt.alloc(); "{FIRST_ANSWERS}{ANSWER}")?;
     let callers = InTurn(&[FIRST_LINES, QUESTION]);
-    are_answered(&rt, rt.alloc(), 2, 2, true, &callers, want.as_str())
+    are_answered(&rt, rt.alloc(), 2, 2, true, &callers, expected.as_str())
 }
 
 #[test]
 fn a_worker_keeps_its_seat(rt: HostRuntime) -> Result<(), Fail> {
-    let want = format!(in rt.alloc(); "{FIRST_ANSWERS}{FOURTH_ANSWER}")?;
+    let expected = format!(in rt.alloc(); "{FIRST_ANSWERS}{FOURTH_ANSWER}")?;
     let callers = InTurn(&[FIRST_LINES, QUESTION]);
-    are_answered(&rt, rt.alloc(), 1, 2, true, &callers, want.as_str())
+    are_answered(&rt, rt.alloc(), 1, 2, true, &callers, expected.as_str())
 }
 
 #[test]

@@ -8,29 +8,29 @@ use line_devices::{CountedDevice, Input, Output};
 use line_engines::RunFault;
 use line_reading::Ids;
 use reg_programs::session;
-use shared_registry::{Naming, Opened, Registry, Seat};
+use shared_registry::{RegistryId, NewHistory, Registry, Seat};
 use spiffe_name::TrustDomain;
 use std::alloc::Global;
 use std::marker::Brand;
 use std::sync::Wait;
 use std::test::Fail;
-use test_devices::{Giver, Pace, Taker};
+use test_devices::{FakeReader, Chunking, FakeWriter};
 
 /// Runs the session of this seat over these devices.
-fn session_of_seat<J: Naming, R: Wait>(
+fn session_of_seat<J: RegistryId, R: Wait>(
     rt: &R,
     alloc: Global,
     registry: &Registry<J>,
     seat: Seat<J>,
     domain: &TrustDomain,
     seed: [u8; 32],
-    giver: &mut Giver<'_>,
-    taker: &mut Taker,
+    fake_reader: &mut FakeReader<'_>,
+    fake_writer: &mut FakeWriter,
 ) -> Result<(), RunFault>
     requires domain { domain.now ≡ J.domain }
 {
-    let mut input = Input::new(CountedDevice::new(giver));
-    let mut output = Output::new(CountedDevice::new(taker));
+    let mut input = Input::new(CountedDevice::new(fake_reader));
+    let mut output = Output::new(CountedDevice::new(fake_writer));
     let ids = Ids::of_seed(seed);
     let (_, ran) = session(
         rt,
@@ -46,23 +46,23 @@ fn session_of_seat<J: Naming, R: Wait>(
 }
 
 /// Runs a session over these devices, through a seat that is alone on a registry with an empty book.
-fn session_of<J: Naming, R: Wait>(
+fn session_of<J: RegistryId, R: Wait>(
     rt: &R,
     alloc: Global,
-    opened: Opened,
+    new_history: NewHistory,
     kept: TrustDomain,
     domain: &TrustDomain,
     seed: [u8; 32],
-    giver: &mut Giver<'_>,
-    taker: &mut Taker,
+    fake_reader: &mut FakeReader<'_>,
+    fake_writer: &mut FakeWriter,
 ) -> Result<Result<(), RunFault>, Fail>
-    requires history { opened.seen.book ≡ J.history }
+    requires history { new_history.seen.book ≡ J.history }
     requires kept { kept ≡ J.domain }
     requires domain { domain.now ≡ J.domain }
 {
-    let registry = Registry::<J>::new(alloc, opened, kept)?;
+    let registry = Registry::<J>::new(alloc, new_history, kept)?;
     let ran = match registry.seat(rt) {
-        Ok(seat) => Ok(session_of_seat(rt, alloc, &registry, seat, domain, seed, giver, taker)),
+        Ok(seat) => Ok(session_of_seat(rt, alloc, &registry, seat, domain, seed, fake_reader, fake_writer)),
         Err(_) => Err(Fail::from("no seat")),
     };
     registry.close(rt);
@@ -75,11 +75,11 @@ pub fn run_alone<R: Wait>(
     alloc: Global,
     domain: TrustDomain,
     seed: [u8; 32],
-    giver: &mut Giver<'_>,
-    taker: &mut Taker,
+    fake_reader: &mut FakeReader<'_>,
+    fake_writer: &mut FakeWriter,
 ) -> Result<Result<(), RunFault>, Fail> {
     let kept = domain.clone()?;
-    session_of::<Brand, _>(rt, alloc, Opened::new(), kept, &domain, seed, giver, taker)
+    session_of::<Brand, _>(rt, alloc, NewHistory::new(), kept, &domain, seed, fake_reader, fake_writer)
 }
 
 /// An agent, an entry under it, and the agent's authorised entries.
@@ -96,14 +96,14 @@ const FIRST_LINES: &str = r#"
 #[test]
 fn each_failing_read_ends_the_session(rt: HostRuntime) -> Result<(), Fail> {
     let table = Table::of(rt.alloc(), FIRST_LINES)?;
-    fail_each_read(&rt, rt.alloc(), Engine::Session, &table, Pace::Line)
+    fail_each_read(&rt, rt.alloc(), Engine::Session, &table, Chunking::Line)
 }
 
 #[test]
 fn each_failing_write_ends_the_session(rt: HostRuntime) -> Result<(), Fail> {
     let table = Table::of(rt.alloc(), FIRST_LINES)?;
-    for to in [Pace::All, Pace::Byte] {
-        fail_each_write(&rt, rt.alloc(), Engine::Session, &table, (Pace::All, to))?;
+    for to in [Chunking::All, Chunking::Byte] {
+        fail_each_write(&rt, rt.alloc(), Engine::Session, &table, (Chunking::All, to))?;
     }
     Ok(())
 }

@@ -10,7 +10,7 @@ ghost use Rattle.std.specs.Prelude.{◌≡◌, ◌<◌, None};
 
 use command_line::{LineFault, ServerPlan, Settings};
 use line_devices::{CountedDevice, Input, Output};
-use line_engines::{Outcome, RunFault};
+use line_engines::{RunEnd, RunFault};
 use reg_programs::{Ended, Server, run_settings, serve, status};
 use std::net::{Net, TcpListener, TcpStream};
 use std::process::ExitCode;
@@ -30,7 +30,7 @@ fn main(rt: HostRuntime) -> ExitCode {
     };
     let code = status(&ended);
     // if standard error fails, there is no way left to report it
-    let _ = rt.eprint(ended.told());
+    let _ = rt.eprint(ended.exit_message());
     ExitCode::from(code)
 }
 
@@ -38,7 +38,7 @@ fn main(rt: HostRuntime) -> ExitCode {
 fn run_lines_of<R: io::Input + Print + AllocGlobal>(
     rt: &R,
     settings: Settings,
-) -> Result<Outcome, RunFault>
+) -> Result<RunEnd, RunFault>
     requires { settings.server ≡ None }
 {
     let mut input = Input::new(CountedDevice::new(rt.reader()));

@@ -15,10 +15,10 @@ shown log = []
 abbrev pub moved : List Item → List Item → ℕ → Type 0
 moved xs ys n = Unit {0}
 
-pub adds_goes : (log v : List Item) (e : Item) (old : ℕ) → length v ≡ old → IsPrefix v log
+pub adds_extend : (log v : List Item) (e : Item) (old : ℕ) → length v ≡ old → IsPrefix v log
     → (b : Bool) → (length log == old) ≡ b
     → Goes IsKept shown moved 0 (v, (no_nib, None)) (λ n. either (n == old) (old + 1) n) (Adds (step 0 old (old + 1) e) (v, (no_nib, None))) ((length log, true) ∷ (0, true) ∷ []) log
-adds_goes log v e old len pre true is =
+adds_extend log v e old len pre true is =
     let here : length log ≡ old = grind (arith, nat_tests) in
     let same : v ≡ log = prefix_whole v log pre (omega arith) in
     let n : either (length log == old) (old + 1) (length log) ≡ length (log ++ e ∷ []) = rw is (omega (arith, length-append log (e ∷ []))) in (
@@ -30,7 +30,7 @@ adds_goes log v e old len pre true is =
       inl (refl, refl),
       rw is (ap (λ w. w ++ e ∷ []) (sym same)),
     )
-adds_goes log v e old len pre false is =
+adds_extend log v e old len pre false is =
     let all : log ++ [] ≡ log = append-nil log in
     let n : either (length log == old) (old + 1) (length log) ≡ length (log ++ []) = rw is (ap length (sym all)) in (
       keeps,
@@ -47,4 +47,4 @@ pub adds_moves : (v : List Item) (e : Item) (old : ℕ) → length v ≡ old
     → Moves IsKept shown moved 0 (v, (no_nib, None)) (λ n. either (n == old) (old + 1) n) (Adds (step 0 old (old + 1) e) (v, (no_nib, None)))
 adds_moves v e old len cs log kept pre away =
     let P : List Cell → Type 0 = λ c. (0 < length c) × ((cell c 0).1 ≡ true) × Goes IsKept shown moved 0 (v, (no_nib, None)) (λ n. either (n == old) (old + 1) n) (Adds (step 0 old (old + 1) e) (v, (no_nib, None))) c log in
-    subst P (sym kept.words) (omega arith, refl, adds_goes log v e old len pre (length log == old) refl)
+    subst P (sym kept.words) (omega arith, refl, adds_extend log v e old len pre (length log == old) refl)

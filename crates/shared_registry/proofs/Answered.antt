@@ -10,7 +10,7 @@ use Rattle.entry_book.specs.Batches.{Batch, IsMadeFor, is_query, past_place}
 use Rattle.entry_book.specs.History.{book_for, books_of, kept_under, place_of, refuses, reply_to, reply_with, verdict_on, verdict_over, verdict_when}
 use Rattle.entry_book.proofs.Faults.{not_refused}
 use Rattle.batch_work.specs.Working.{base_in, reply_there}
-use Rattle.batch_work.proofs.Windows.{window_stands}
+use Rattle.batch_work.proofs.Windows.{window_represents}
 use Rattle.commit_head.specs.Heads.{IsJournal}
 use Rattle.commit_head.specs.Journals.{batches_of}
 use Rattle.shared_registry.specs.Shown.{Shown}
@@ -20,8 +20,8 @@ use Rattle.commit_head.proofs.OnBooks.{led_to}
 -- ---- the reply to a query
 
 -- the answer on the published window is that of the plain book on the journal's books
-pub answer_is : (batch : Batch) (page : Shown) (reply : Reply) → IsJournal page.journal (whole_head page.window page.journal) → reply ≡ reply_there batch (base_in batch page.window) → reply ≡ reply_to batch (books_of (batches_of page.journal))
-answer_is batch page reply k e = e ∙ (window_stands batch page.window (books_of (batches_of page.journal)) k.shown).reply
+pub answer_is : (batch : Batch) (snapshot : Shown) (reply : Reply) → IsJournal snapshot.journal (whole_head snapshot.window snapshot.journal) → reply ≡ reply_there batch (base_in batch snapshot.window) → reply ≡ reply_to batch (books_of (batches_of snapshot.journal))
+answer_is batch snapshot reply k e = e ∙ (window_represents batch snapshot.window (books_of (batches_of snapshot.journal)) k.shown).reply
 
 -- ---- its place is that of the books
 
@@ -42,12 +42,12 @@ place_in_time : (early : Bool) (batch : Batch) (place : ℕ) (o : Option Book) �
 place_in_time true batch place o q n = refl
 place_in_time false batch place o q n = place_there batch place o q n
 
-query_place : (own : Bytes) (batch : Batch) (books : List Book) → IsMadeFor own batch → is_query batch.ops ≡ true → (reply_to batch books).place ≡ place_of books
-query_place own batch books made q =
+query_place : (own_domain : Bytes) (batch : Batch) (books : List Book) → IsMadeFor own_domain batch → is_query batch.ops ≡ true → (reply_to batch books).place ≡ place_of books
+query_place own_domain batch books made q =
     let k = (not_refused batch.domain batch.ops batch.token).0 made.no_fault in
     place_in_time (nat_lt (place_of books) batch.after) batch (place_of books) (book_for (past_place batch.ops) books) q (no_token batch.token (λ s. sym q ∙ k.2 s))
 
-pub place_is : (own : Bytes) (batch : Batch) (page : Shown) (reply : Reply) → IsMadeFor own batch → is_query batch.ops ≡ true → IsJournal page.journal (whole_head page.window page.journal) → reply ≡ reply_to batch (books_of (batches_of page.journal)) → reply.place ≡ length page.journal
-place_is own batch page reply made q k e =
-    let led = led_to page.window.newest.domain page.journal page.window.newest k.leads in
-    ap (λ (r : Reply). r.place) e ∙ (query_place own batch (books_of (batches_of page.journal)) made q ∙ (led.last.place ∙ led.number))
+pub place_is : (own_domain : Bytes) (batch : Batch) (snapshot : Shown) (reply : Reply) → IsMadeFor own_domain batch → is_query batch.ops ≡ true → IsJournal snapshot.journal (whole_head snapshot.window snapshot.journal) → reply ≡ reply_to batch (books_of (batches_of snapshot.journal)) → reply.place ≡ length snapshot.journal
+place_is own_domain batch snapshot reply made q k e =
+    let led = led_to snapshot.window.newest.domain snapshot.journal snapshot.window.newest k.leads in
+    ap (λ (r : Reply). r.place) e ∙ (query_place own_domain batch (books_of (batches_of snapshot.journal)) made q ∙ (led.last.place ∙ led.number))

@@ -6,13 +6,13 @@ use mathlib.Core.List.{IsPrefix}
 use Rattle.commit_head.specs.declared.item.Item.{Item}
 use Rattle.shared_registry.specs.Seats.{calls_of, AllBelow}
 
-calls_front : (s : ℕ) (i : Item) (t : Bool) (xs ys zs : List ℕ) → zs ≡ xs ++ ys → cond t (i.call ∷ zs) zs ≡ cond t (i.call ∷ xs) xs ++ ys
-calls_front s i true xs ys zs e = ap (λ w. i.call ∷ w) e
-calls_front s i false xs ys zs e = e
+calls_prefix : (s : ℕ) (i : Item) (t : Bool) (xs ys zs : List ℕ) → zs ≡ xs ++ ys → cond t (i.call ∷ zs) zs ≡ cond t (i.call ∷ xs) xs ++ ys
+calls_prefix s i true xs ys zs e = ap (λ w. i.call ∷ w) e
+calls_prefix s i false xs ys zs e = e
 
 pub calls_more : (s : ℕ) (xs ys : List Item) → calls_of s (xs ++ ys) ≡ calls_of s xs ++ calls_of s ys
 calls_more s [] ys = refl
-calls_more s (i ∷ xs) ys = calls_front s i (i.seat == s) (calls_of s xs) (calls_of s ys) (calls_of s (xs ++ ys)) (calls_more s xs ys)
+calls_more s (i ∷ xs) ys = calls_prefix s i (i.seat == s) (calls_of s xs) (calls_of s ys) (calls_of s (xs ++ ys)) (calls_more s xs ys)
 
 none_left : (xs : List ℕ) → length xs ≡ 0 → xs ≡ []
 none_left [] e = refl
@@ -51,11 +51,11 @@ below_snoc c (x ∷ xs) b = (b.0, below_snoc c xs b.1)
 
 -- ---- a front whose last item is the seat's own
 
-pub own_more : (s : ℕ) (front log : List Item) (e : Item) → front ≡ log ++ e ∷ [] → e.seat ≡ s → calls_of s front ≡ calls_of s log ++ e.call ∷ []
-own_more s front log e f is = ap (calls_of s) f ∙ calls_snoc s log e is
+pub own_more : (s : ℕ) (prefix log : List Item) (e : Item) → prefix ≡ log ++ e ∷ [] → e.seat ≡ s → calls_of s prefix ≡ calls_of s log ++ e.call ∷ []
+own_more s prefix log e f is = ap (calls_of s) f ∙ calls_snoc s log e is
 
-pub count_more : (s : ℕ) (front log : List Item) (e : Item) → front ≡ log ++ e ∷ [] → e.seat ≡ s → length (calls_of s front) ≡ length (calls_of s log) + 1
-count_more s front log e f is = ap length (own_more s front log e f is) ∙ length-append (calls_of s log) (e.call ∷ [])
+pub count_more : (s : ℕ) (prefix log : List Item) (e : Item) → prefix ≡ log ++ e ∷ [] → e.seat ≡ s → length (calls_of s prefix) ≡ length (calls_of s log) + 1
+count_more s prefix log e f is = ap length (own_more s prefix log e f is) ∙ length-append (calls_of s log) (e.call ∷ [])
 
-pub below_own : (c s : ℕ) (front log : List Item) (e : Item) → front ≡ log ++ e ∷ [] → e.seat ≡ s → e.call ≡ c → AllBelow (c + 1) (calls_of s log) → AllBelow (c + 1) (calls_of s front)
-below_own c s front log e f is call b = subst (AllBelow (c + 1)) (ap (λ k. calls_of s log ++ k ∷ []) (sym call) ∙ sym (own_more s front log e f is)) (below_snoc c (calls_of s log) b)
+pub below_own : (c s : ℕ) (prefix log : List Item) (e : Item) → prefix ≡ log ++ e ∷ [] → e.seat ≡ s → e.call ≡ c → AllBelow (c + 1) (calls_of s log) → AllBelow (c + 1) (calls_of s prefix)
+below_own c s prefix log e f is call b = subst (AllBelow (c + 1)) (ap (λ k. calls_of s log ++ k ∷ []) (sym call) ∙ sym (own_more s prefix log e f is)) (below_snoc c (calls_of s log) b)

@@ -2,11 +2,11 @@
 use Rattle.std.proofs.Common.{◌≡◌, ℕ, List, [], length, refl, sym, subst}
 use Rattle.batch_work.specs.Windows.{Window}
 use Rattle.commit_head.specs.Heads.{Head, IsJournal}
-use Rattle.shared_registry.specs.ShownPrivate.{Shows}
+use Rattle.shared_registry.specs.ShownPrivate.{ShowsJournal}
 use Rattle.shared_registry.proofs.Counts.{none_counted, zeros}
 
-pub shows_none : (h : Head) (w : Window) (counts : List ℕ) → IsJournal [] h → w ≡ h.window → counts ≡ zeros 32 → Shows [] w counts
-shows_none h w counts k e z = subst (λ w. Shows [] w counts) (sym e) (record {
+pub shows_none : (h : Head) (w : Window) (counts : List ℕ) → IsJournal [] h → w ≡ h.window → counts ≡ zeros 32 → ShowsJournal [] w counts
+shows_none h w counts k e z = subst (λ w. ShowsJournal [] w counts) (sym e) (record {
   journal = record { leads = k.leads; ending = ([], refl); shown = k.shown };
   once = tt;
   counted = none_counted counts [] z (subst (λ l. length l ≡ 32) (sym z) refl) refl;

@@ -4,8 +4,8 @@ use Rattle.std.specs.Prelude.{nat_lt, slice_get, IsSome}
 use Rattle.entry_book.specs.declared.kept.KeptBatch.{KeptBatch}
 use Rattle.entry_book.specs.declared.limit.Limit.{Limit}
 use Rattle.entry_book.specs.declared.reply.OpReply.{OpReply}
-use Rattle.entry_book.specs.declared.reply.Outcome.{Outcome}
-use Rattle.entry_book.specs.declared.reply.Outcome.TheVariants.{Answered, Committed, Refused, Repeated}
+use Rattle.entry_book.specs.declared.reply.ReplyOutcome.{ReplyOutcome}
+use Rattle.entry_book.specs.declared.reply.ReplyOutcome.TheVariants.{Answered, Committed, Refused, Repeated}
 use Rattle.entry_book.specs.declared.reply.Refusal.{Refusal}
 use Rattle.entry_book.specs.declared.reply.Refusal.TheVariants.{NotYet, TokenReused}
 use Rattle.entry_book.specs.declared.reply.Reply.{Reply}
@@ -15,7 +15,7 @@ use Rattle.entry_book.specs.Book.{Book}
 use Rattle.entry_book.specs.SameOps.{ops_eq}
 use Rattle.entry_book.specs.Runs.{RunResult, run}
 use Rattle.entry_book.specs.Batches.{Batch, is_query, past_place}
-use Rattle.entry_book.specs.History.{Leads as Led, Verdict, adds, adds_within, answers, book_for, books_after, books_from, books_of, first_books, is_committed, is_repeated, kept_under, last_book, place_of, refuses, repeats, reply_to, reply_with, verdict, verdict_again, verdict_on, verdict_over, verdict_when, replies_from}
+use Rattle.entry_book.specs.History.{LeadToBooks as Led, Verdict, adds, adds_within, answers, book_for, books_after, books_from, books_of, first_books, is_committed, is_repeated, kept_under, last_book, place_of, refuses, repeats, reply_to, reply_with, verdict, verdict_again, verdict_on, verdict_over, verdict_when, replies_from}
 use Rattle.entry_book.specs.Tokens.{token_key}
 use Rattle.entry_book.proofs.Keys.{at_row}
 use Rattle.entry_book.proofs.KeptBatches.{kept_committed}
@@ -26,10 +26,10 @@ use Rattle.batch_work.specs.declared.status.Status.TheVariants.{Ready, Running, 
 use Rattle.batch_work.specs.Reads.{awaits_commit}
 use Rattle.batch_work.specs.Working.{IsAnswer, IsReplyOn, Work, awaits_there, base_in, end_status, footprint_there, reply_there, status_from, status_of}
 use Rattle.batch_work.proofs.Batches.{others_dont_commit}
-use Rattle.batch_work.proofs.Windows.{window_stands}
+use Rattle.batch_work.proofs.Windows.{window_represents}
 use Rattle.commit_head.specs.declared.item.Item.{Item}
 use Rattle.commit_head.specs.Journals.{IsLawfulJournal, batches_of, committed_after}
-use Rattle.shared_registry.specs.Outcomes.{IsRefusedThere, WasCommitted}
+use Rattle.shared_registry.specs.Outcomes.{IsRefusedThere, RepeatsItem}
 use Rattle.shared_registry.specs.Seated.{Seated}
 use Rattle.shared_registry.specs.Works.{IsRead}
 use Rattle.commit_head.proofs.OnBooks.{count_of_batches, led_to}
@@ -41,12 +41,12 @@ settled_or true awaits over unready = absurd (over refl)
 settled_or false true over unready = absurd (unready refl)
 settled_or false false over unready = (refl, refl)
 
-status_is : (domain : Bytes) (seen : List Item) (batch : Batch) (w : Work) (r : IsRead domain seen batch w) → status_of w ≡ status_from (Some (base_in batch r.page.window)) batch w.steps
-status_is domain seen batch w r = ap (λ o. status_from o w.batch w.steps) r.at_end.begun.base_is ∙ ap (λ b. status_from (Some (base_in batch r.page.window)) b w.steps) r.at_end.begun.batch_is
+status_is : (domain : Bytes) (seen : List Item) (batch : Batch) (w : Work) (r : IsRead domain seen batch w) → status_of w ≡ status_from (Some (base_in batch r.snapshot.window)) batch w.steps
+status_is domain seen batch w r = ap (λ o. status_from o w.batch w.steps) r.at_end.begun.base_is ∙ ap (λ b. status_from (Some (base_in batch r.snapshot.window)) b w.steps) r.at_end.begun.batch_is
 
-at_end : (domain : Bytes) (seen : List Item) (batch : Batch) (w : Work) (r : IsRead domain seen batch w) → (status_of w ≡ Ready → ⊥) → (awaits_there batch (base_in batch r.page.window) ≡ false) × (status_of w ≡ Settled)
+at_end : (domain : Bytes) (seen : List Item) (batch : Batch) (w : Work) (r : IsRead domain seen batch w) → (status_of w ≡ Ready → ⊥) → (awaits_there batch (base_in batch r.snapshot.window) ≡ false) × (status_of w ≡ Settled)
 at_end domain seen batch w r unready =
-    let base = base_in batch r.page.window in
+    let base = base_in batch r.snapshot.window in
     let e = status_is domain seen batch w r in
     let s = settled_or (nat_lt w.steps (length (footprint_there batch base))) (awaits_there batch base) (λ k. r.at_end.over (e ∙ k)) (λ k. unready (e ∙ k)) in
     (s.0, e ∙ s.1)
@@ -56,14 +56,14 @@ settled_is domain seen batch w r unready = (at_end domain seen batch w r unready
 
 pub reply_is : (domain : Bytes) (seen : List Item) (batch : Batch) (w : Work) (reply : Reply) → IsRead domain seen batch w → IsAnswer w reply → reply ≡ reply_to batch (books_of (batches_of seen))
 reply_is domain seen batch w reply r a =
-    let base = base_in batch r.page.window in
+    let base = base_in batch r.snapshot.window in
     let there : reply ≡ reply_there w.batch base = subst (λ o. IsReplyOn o w.batch reply) r.at_end.begun.base_is a in
-    there ∙ (ap (λ b. reply_there b base) r.at_end.begun.batch_is ∙ (window_stands batch r.page.window (books_of (batches_of seen)) r.stands.shown).reply)
+    there ∙ (ap (λ b. reply_there b base) r.at_end.begun.batch_is ∙ (window_represents batch r.snapshot.window (books_of (batches_of seen)) r.is_journal_of.shown).reply)
 
 uncommitted : (domain : Bytes) (seen : List Item) (batch : Batch) (w : Work) → IsRead domain seen batch w → (status_of w ≡ Ready → ⊥) → is_committed (reply_to batch (books_of (batches_of seen))).outcome ≡ false
 uncommitted domain seen batch w r unready =
     let books = books_of (batches_of seen) in
-    let waits : awaits_commit batch books ≡ false = sym (window_stands batch r.page.window books r.stands.shown).wait ∙ (at_end domain seen batch w r unready).0 in
+    let waits : awaits_commit batch books ≡ false = sym (window_represents batch r.snapshot.window books r.is_journal_of.shown).wait ∙ (at_end domain seen batch w r unready).0 in
     (others_dont_commit batch books waits).0
 
 -- ---- a batch of changes never gets the reply of a query
@@ -84,12 +84,12 @@ not_answered batch books rs q =
 -- ---- a refusal is at the place of the books
 
 refused_place : (place : ℕ) (v : Verdict) (why : Refusal) → (reply_with place v).outcome ≡ Refused why → reply_with place v ≡ record { place = place; outcome = Refused why }
-refused_place place (refuses r) why e = ap (λ (o : Outcome). record { place = place; outcome = o }) e
+refused_place place (refuses r) why e = ap (λ (o : ReplyOutcome). record { place = place; outcome = o }) e
 refused_place place (answers replies) why e = cc
 refused_place place (adds replies b) why e = cc
 refused_place place (repeats n replies) why e = cc
 
-refused_of : (o : Outcome) → is_committed o ≡ false → ((rs : List OpReply) → o ≡ Answered rs → ⊥) → is_repeated o ≡ false → (why : Refusal) × (o ≡ Refused why)
+refused_of : (o : ReplyOutcome) → is_committed o ≡ false → ((rs : List OpReply) → o ≡ Answered rs → ⊥) → is_repeated o ≡ false → (why : Refusal) × (o ≡ Refused why)
 refused_of (Committed rs) c a r = cc
 refused_of (Answered rs) c a r = absurd (a rs refl)
 refused_of (Repeated rs) c a r = cc
@@ -101,7 +101,7 @@ refused_is domain t batch w reply r unready q a n =
     let e = reply_is domain t.seen batch w reply r a in
     let o = ap (λ (x : Reply). x.outcome) e in
     let found = refused_of (reply_to batch books).outcome (uncommitted domain t.seen batch w r unready) (λ rs. not_answered batch books rs q) (sym (ap is_repeated o) ∙ n) in
-    let led = led_to r.page.window.newest.domain t.seen r.page.window.newest r.stands.leads in
+    let led = led_to r.snapshot.window.newest.domain t.seen r.snapshot.window.newest r.is_journal_of.leads in
     let place : place_of books ≡ length t.seen = led.last.place ∙ led.number in
     record {
       reply_is = e;
@@ -208,13 +208,13 @@ is_some None x e = cc
 is_some (Some y) x e = refl
 
 -- a reply that repeats has the replies that it repeats
-repeats_of : (o : Outcome) → is_repeated o ≡ true → (rs : List OpReply) × (o ≡ Repeated rs)
+repeats_of : (o : ReplyOutcome) → is_repeated o ≡ true → (rs : List OpReply) × (o ≡ Repeated rs)
 repeats_of (Committed rs) e = cc
 repeats_of (Answered rs) e = cc
 repeats_of (Repeated rs) e = (rs, refl)
 repeats_of (Refused why) e = cc
 
-repeated_by : (domain : Bytes) (t : Seated) (batch : Batch) (w : Work) (reply : Reply) (rs : List OpReply) → IsRead domain t.seen batch w → IsLawfulJournal domain t.seen → is_query batch.ops ≡ false → IsAnswer w reply → reply.outcome ≡ Repeated rs → WasCommitted t batch reply
+repeated_by : (domain : Bytes) (t : Seated) (batch : Batch) (w : Work) (reply : Reply) (rs : List OpReply) → IsRead domain t.seen batch w → IsLawfulJournal domain t.seen → is_query batch.ops ≡ false → IsAnswer w reply → reply.outcome ≡ Repeated rs → RepeatsItem t batch reply
 repeated_by domain t batch w reply rs r l q a o =
     let batches = batches_of t.seen in
     let books = books_of batches in
@@ -244,5 +244,5 @@ repeated_by domain t batch w reply rs r l q a o =
       ops = ap (λ b. b.ops) s.batch_is ∙ (was.ops ∙ (same_ops k.kept.ops batch.ops).0 k.same);
     }
 
-pub repeated_is : (domain : Bytes) (t : Seated) (batch : Batch) (w : Work) (reply : Reply) → IsRead domain t.seen batch w → IsLawfulJournal domain t.seen → is_query batch.ops ≡ false → IsAnswer w reply → is_repeated reply.outcome ≡ true → WasCommitted t batch reply
+pub repeated_is : (domain : Bytes) (t : Seated) (batch : Batch) (w : Work) (reply : Reply) → IsRead domain t.seen batch w → IsLawfulJournal domain t.seen → is_query batch.ops ≡ false → IsAnswer w reply → is_repeated reply.outcome ≡ true → RepeatsItem t batch reply
 repeated_is domain t batch w reply r l q a o = let rs = repeats_of reply.outcome o in repeated_by domain t batch w reply rs.0 r l q a rs.1

@@ -9,15 +9,15 @@ use Rattle.atomic_table.proofs.Lists.{at_set, at_snoc}
 use Rattle.entry_book.specs.Rows.{Bytes}
 use Rattle.commit_head.specs.declared.item.Item.{Item}
 use Rattle.shared_registry.specs.Shown.{Shown}
-use Rattle.shared_registry.specs.ShownPrivate.{IsOf, Keeps, Saw}
+use Rattle.shared_registry.specs.ShownPrivate.{IsOf, RuleInvariant, Saw}
 use Rattle.shared_registry.proofs.Prefixes.{prefix_self, prefix_trans}
 
 -- a new pass has seen nothing
-pub admits : (history : Book) (domain : Bytes) → Admits (Keeps history domain) []
+pub admits : (history : Book) (domain : Bytes) → Admits (RuleInvariant history domain) []
 admits history domain x views h = (h.0, λ k v at. ⊎_elim (h.1 k v) (λ (e : [] ≡ v). subst (λ (u : List Item). IsPrefix u x.journal) e (x.journal, refl)) (at_snoc views [] v k at))
 
 -- a step that only adds to the journal, after which this pass has seen all of it
-pub sees : (history : Book) (domain : Bytes) (seat : ℕ) (v : List Item) (x y : Shown) → (IsOf history domain x → IsOf history domain y) → IsPrefix x.journal y.journal → TurnsAt (Keeps history domain) seat v x y (λ v x y w. Saw history domain v y w)
+pub sees : (history : Book) (domain : Bytes) (seat : ℕ) (v : List Item) (x y : Shown) → (IsOf history domain x → IsOf history domain y) → IsPrefix x.journal y.journal → TurnsAt (RuleInvariant history domain) seat v x y (λ v x y w. Saw history domain v y w)
 sees history domain seat v x y same more views h at =
     let w : List Item = y.journal in (
       w,

@@ -3,7 +3,7 @@ use Rattle.std.proofs.Common.{◌≡◌, ℕ, List, [], ◌∷◌, ◌++◌, len
 use mathlib.Core.List.{IsPrefix}
 use Rattle.entry_book.specs.declared.limit.Limit.{Limit}
 use Rattle.entry_book.specs.declared.reply.OpReply.{OpReply}
-use Rattle.entry_book.specs.declared.reply.Outcome.TheVariants as became
+use Rattle.entry_book.specs.declared.reply.ReplyOutcome.TheVariants as became
 use Rattle.entry_book.specs.declared.reply.Refusal.TheVariants.{Full}
 use Rattle.entry_book.specs.declared.reply.Reply.{Reply}
 use Rattle.entry_book.specs.Batches.{Batch}
@@ -16,13 +16,13 @@ use Rattle.commit_head.specs.Journals.{IsLawfulJournal, batches_of}
 use Rattle.shared_registry.specs.declared.outcome.Outcome.TheVariants.{Refused}
 use Rattle.shared_registry.specs.Outcomes.{IsAdded, IsOvertaken, IsSubmitted}
 use Rattle.shared_registry.specs.OutcomesPrivate.{HasAdded, HasLooked, IsOvertakenOnce}
-use Rattle.shared_registry.specs.Seated.{Along, Goes, MaySee, Seated}
+use Rattle.shared_registry.specs.Seated.{AfterCall, DuringCall, MaySee, Seated}
 use Rattle.shared_registry.specs.Seats.{calls_of}
 use Rattle.shared_registry.proofs.Prefixes.{prefix_length, prefix_self, prefix_trans}
 
 -- ---- the decision on the commit
 
-pub added : (log next : List Item) (s t : Seated) (w : Work) (replies : List OpReply) (n : ℕ) → HasAdded log next s t w n → Goes s t → HasReplies w replies → IsAdded s t w.batch (record { place = n; outcome = became.Committed replies })
+pub added : (log next : List Item) (s t : Seated) (w : Work) (replies : List OpReply) (n : ℕ) → HasAdded log next s t w n → DuringCall s t → HasReplies w replies → IsAdded s t w.batch (record { place = n; outcome = became.Committed replies })
 added log next s t w replies n a goes h =
     let place = a.place ∙ ap length (sym a.seen) in
     let same = same_replies w replies a.item.replies h a.replies in
@@ -39,23 +39,23 @@ added log next s t w replies n a goes h =
     }
 
 -- a seat may see what it has found by its commit
-pub may_see_added : (domain : Bytes) (s t : Seated) (batch : Batch) (reply : Reply) → Along domain s t → IsPrefix s.told t.seen → IsAdded s t batch reply → MaySee domain t
-may_see_added domain s t batch reply along heard a =
-    let told : IsPrefix t.told t.seen = subst (λ (l : List Item). IsPrefix l t.seen) (sym along.told) heard in record {
-      lawful = subst (IsLawfulJournal domain) (sym a.found) along.lawful;
+pub may_see_added : (domain : Bytes) (s t : Seated) (batch : Batch) (reply : Reply) → AfterCall domain s t → IsPrefix s.learnt t.seen → IsAdded s t batch reply → MaySee domain t
+may_see_added domain s t batch reply after_call heard a =
+    let learnt : IsPrefix t.learnt t.seen = subst (λ (l : List Item). IsPrefix l t.seen) (sym after_call.learnt) heard in record {
+      lawful = subst (IsLawfulJournal domain) (sym a.found) after_call.lawful;
       seen = subst (IsPrefix t.seen) (sym a.found) (prefix_self t.seen);
-      told = subst (IsPrefix t.told) (sym a.found) told;
-      own = ap (calls_of t.number) a.found ∙ along.own;
+      learnt = subst (IsPrefix t.learnt) (sym a.found) learnt;
+      own = ap (calls_of t.number) a.found ∙ after_call.own;
     }
 
-pub overtaken : (log next : List Item) (s t : Seated) (batch : Batch) (n : ℕ) → HasLooked log next s t → n ≡ length log → IsOvertaken (batches_of log) batch (length s.seen) n → Goes s t → IsPrefix s.told s.seen → IsOvertakenOnce s t batch n
+pub overtaken : (log next : List Item) (s t : Seated) (batch : Batch) (n : ℕ) → HasLooked log next s t → n ≡ length log → IsOvertaken (batches_of log) batch (length s.seen) n → DuringCall s t → IsPrefix s.learnt s.seen → IsOvertakenOnce s t batch n
 overtaken log next s t batch n l e o goes heard = record {
   base = length s.seen;
   since_seen = omega arith;
-  since_told = prefix_length s.told s.seen heard;
+  since_learnt = prefix_length s.learnt s.seen heard;
   overtaken = subst (λ j. IsOvertaken (batches_of j) batch (length s.seen) n) (sym l.seen) o;
   place = e ∙ ap length (sym l.seen);
-  heard = prefix_trans s.told s.seen t.seen heard goes.seen;
+  heard = prefix_trans s.learnt s.seen t.seen heard goes.seen;
   own = l.own;
 }
 

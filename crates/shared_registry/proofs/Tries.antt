@@ -12,19 +12,19 @@ use Rattle.version_book.specs.declared.mark.MarkKind.{MarkKind}
 use Rattle.shared_registry.specs.declared.outcome.Outcome.{Outcome}
 use Rattle.shared_registry.specs.declared.outcome.Outcome.TheVariants.{Committed, Repeated, Refused, Conflict, NoMemory, NoEntry}
 use Rattle.shared_registry.specs.Outcomes.{AreOvertaken, HasHeard, IsOvertaken, IsSubmitted, WasOvertaken}
-use Rattle.shared_registry.specs.OutcomesPrivate.{IsOver, IsOvertakenOnce}
-use Rattle.shared_registry.specs.Seated.{Goes, Seated}
+use Rattle.shared_registry.specs.OutcomesPrivate.{IsNotConflict, IsOvertakenOnce}
+use Rattle.shared_registry.specs.Seated.{DuringCall, Seated}
 use Rattle.commit_head.proofs.OnBooks.{batches_join}
 use Rattle.shared_registry.proofs.Prefixes.{prefix_length, prefix_trans}
 
 -- ---- a journal grows
 
 -- a prefix of it is a prefix of the longer journal
-front_on : (place end : ℕ) (journal more : List Batch) → place ≤ end → (rest : List Batch) × (take end (journal ++ more) ≡ take place journal ++ rest)
-front_on zero end journal more le = (take end (journal ++ more), refl)
-front_on (suc place) zero journal more le = absurd (omega arith)
-front_on (suc place) (suc end) [] more le = (take (suc end) more, refl)
-front_on (suc place) (suc end) (b ∷ journal) more le = let r = front_on place end journal more (omega arith) in (r.0, ap (λ l. b ∷ l) r.1)
+prefix_on : (place end : ℕ) (journal more : List Batch) → place ≤ end → (rest : List Batch) × (take end (journal ++ more) ≡ take place journal ++ rest)
+prefix_on zero end journal more le = (take end (journal ++ more), refl)
+prefix_on (suc place) zero journal more le = absurd (omega arith)
+prefix_on (suc place) (suc end) [] more le = (take (suc end) more, refl)
+prefix_on (suc place) (suc end) (b ∷ journal) more le = let r = prefix_on place end journal more (omega arith) in (r.0, ap (λ l. b ∷ l) r.1)
 
 hit_on : (journal more : List Batch) (base : ℕ) (marks : List MarkKind) → IsHitSince journal base marks → IsHitSince (journal ++ more) base marks
 hit_on journal more base marks o = record {
@@ -47,10 +47,10 @@ overtaken_on journal more batch base place end le o =
     let short = length-take place journal in
     let within : base ≤ length journal = let s = o.since in omega arith in
     let first : take base (journal ++ more) ≡ take base journal = take-append-le base journal more within in
-    let front = front_on place end journal more le in
+    let prefix = prefix_on place end journal more le in
     let marks = footprint_of batch (books_of (take base journal)) in
     subst (λ l. IsHitSince (take end (journal ++ more)) base (footprint_of batch (books_of l))) (sym first)
-    (subst (λ l. IsHitSince l base marks) (sym front.1) (hit_on (take place journal) front.0 base marks o))
+    (subst (λ l. IsHitSince l base marks) (sym prefix.1) (hit_on (take place journal) prefix.0 base marks o))
 
 are_on : (journal more : List Batch) (batch : Batch) (least place end : ℕ) (bases : List ℕ) → place ≤ end → AreOvertaken journal batch least place bases → AreOvertaken (journal ++ more) batch least end bases
 are_on journal more batch least place end [] le o = tt
@@ -58,29 +58,29 @@ are_on journal more batch least place end (base ∷ bases) le o = (o.0, overtake
 
 -- ---- what a seat has seen grows
 
-pub goes_on : (s t u : Seated) → Goes s t → Goes t u → Goes s u
-goes_on s t u a b = record {
+pub during_call_joined : (s t u : Seated) → DuringCall s t → DuringCall t u → DuringCall s u
+during_call_joined s t u a b = record {
   number = b.number ∙ a.number;
   calls = b.calls ∙ a.calls;
-  told = b.told ∙ a.told;
+  learnt = b.learnt ∙ a.learnt;
   seen = prefix_trans s.seen t.seen u.seen a.seen b.seen;
 }
 
 -- it has another page
-pub goes_turned : (s t u : Seated) (found : List Item) → Goes s t → u ≡ record t { found = found } → Goes s u
-goes_turned s t u found g is = subst (Goes s) (sym is) (record { number = g.number; calls = g.calls; told = g.told; seen = g.seen })
+pub during_call_turned : (s t u : Seated) (found : List Item) → DuringCall s t → u ≡ record t { found = found } → DuringCall s u
+during_call_turned s t u found g is = subst (DuringCall s) (sym is) (record { number = g.number; calls = g.calls; learnt = g.learnt; seen = g.seen })
 
 -- ---- one more try
 
 pub none_yet : (s : Seated) (batch : Batch) (place : ℕ) → WasOvertaken s s batch 0 place
-none_yet s batch place = record { bases = []; count = refl; since_seen = tt; since_told = tt }
+none_yet s batch place = record { bases = []; count = refl; since_seen = tt; since_learnt = tt }
 
-pub once_again : (s u t : Seated) (batch : Batch) (tries place n : ℕ) → WasOvertaken s u batch tries place → place ≡ length u.seen → IsPrefix s.seen u.seen → u.told ≡ s.told → IsPrefix u.seen t.seen → IsOvertakenOnce u t batch n → WasOvertaken s t batch (tries + 1) n
-once_again s u t batch tries place n o e p told q once =
+pub once_again : (s u t : Seated) (batch : Batch) (tries place n : ℕ) → WasOvertaken s u batch tries place → place ≡ length u.seen → IsPrefix s.seen u.seen → u.learnt ≡ s.learnt → IsPrefix u.seen t.seen → IsOvertakenOnce u t batch n → WasOvertaken s t batch (tries + 1) n
+once_again s u t batch tries place n o e p learnt q once =
     let journal : batches_of t.seen ≡ batches_of u.seen ++ batches_of q.0 = ap batches_of (sym q.1) ∙ batches_join u.seen q.0 in
     let long = prefix_length s.seen u.seen p in
     let le : place ≤ once.base = let b = once.since_seen in omega arith in
-    let same = ap length told in
+    let same = ap length learnt in
     record {
       bases = once.base ∷ o.bases;
       count = let c = o.count in omega arith;
@@ -89,16 +89,16 @@ once_again s u t batch tries place n o e p told q once =
         once.overtaken,
         subst (λ j. AreOvertaken j batch (length s.seen) once.base o.bases) (sym journal) (are_on (batches_of u.seen) (batches_of q.0) batch (length s.seen) place once.base o.bases le o.since_seen),
       );
-      since_told = (
-        let b = once.since_told in omega arith,
+      since_learnt = (
+        let b = once.since_learnt in omega arith,
         once.overtaken,
-        subst (λ j. AreOvertaken j batch (length s.told) once.base o.bases) (sym journal) (are_on (batches_of u.seen) (batches_of q.0) batch (length s.told) place once.base o.bases le o.since_told),
+        subst (λ j. AreOvertaken j batch (length s.learnt) once.base o.bases) (sym journal) (are_on (batches_of u.seen) (batches_of q.0) batch (length s.learnt) place once.base o.bases le o.since_learnt),
       );
     }
 
 -- ---- the end
 
-pub ended : (s u t : Seated) (batch : Batch) (tries : ℕ) (o : Outcome) → u.own ≡ s.own → IsOver o → IsSubmitted u t batch 0 o → IsSubmitted s t batch tries o
+pub ended : (s u t : Seated) (batch : Batch) (tries : ℕ) (o : Outcome) → u.own ≡ s.own → IsNotConflict o → IsSubmitted u t batch 0 o → IsSubmitted s t batch tries o
 ended s u t batch tries (Committed reply) own over a = record {
   log = a.log;
   item = a.item;
@@ -116,7 +116,7 @@ ended s u t batch tries (Conflict n) own over a = absurd (over n refl)
 ended s u t batch tries NoMemory own over a = a ∙ own
 ended s u t batch tries NoEntry own over a = a ∙ own
 
-pub heard_from : (s u t : Seated) (o : Outcome) → u.told ≡ s.told → HasHeard u t o → HasHeard s t o
+pub heard_from : (s u t : Seated) (o : Outcome) → u.learnt ≡ s.learnt → HasHeard u t o → HasHeard s t o
 heard_from s u t (Committed reply) e h = subst (λ l. IsPrefix l t.seen) e h
 heard_from s u t (Repeated reply) e h = subst (λ l. IsPrefix l t.seen) e h
 heard_from s u t (Refused reply) e h = subst (λ l. IsPrefix l t.seen) e h

@@ -1,4 +1,4 @@
-pub mod Desk
+pub mod WriterStates
 pub mod Outcomes
 pub mod OutcomesPrivate
 pub mod Rules

@@ -1,7 +1,7 @@
 -- The outcome of a batch of changes, in terms of its seat's lists and of the plain book.
 use Rattle.std.specs.Prelude.{◌≡◌, ⊤, ℕ, ◌+◌, ◌≤◌, List, [], ◌∷◌, ◌++◌, length, take, IsSome}
 use mathlib.Core.List.{IsPrefix}
-use Rattle.entry_book.specs.declared.reply.Outcome.TheVariants as became
+use Rattle.entry_book.specs.declared.reply.ReplyOutcome.TheVariants as became
 use Rattle.entry_book.specs.declared.reply.Refusal.{Refusal}
 use Rattle.entry_book.specs.declared.reply.Reply.{Reply}
 use Rattle.entry_book.specs.Batches.{Batch}
@@ -13,7 +13,7 @@ use Rattle.commit_head.specs.Journals.{batches_of}
 use Rattle.commit_head.specs.Outcomes.{IsHitSince}
 use Rattle.shared_registry.specs.declared.outcome.Outcome.{Outcome}
 use Rattle.shared_registry.specs.declared.outcome.Outcome.TheVariants.{Committed, Repeated, Refused, Conflict, NoMemory, NoEntry}
-use Rattle.shared_registry.specs.Seated.{Along, MaySee, Seated}
+use Rattle.shared_registry.specs.Seated.{AfterCall, MaySee, Seated}
 
 -- ---- tries with a conflict
 
@@ -33,7 +33,7 @@ pub record WasOvertaken (s t : Seated) (batch : Batch) (tries place : ℕ) : Typ
   pub bases : List ℕ
   pub count : length bases ≡ tries
   pub since_seen : AreOvertaken (batches_of t.seen) batch (length s.seen) place bases
-  pub since_told : AreOvertaken (batches_of t.seen) batch (length s.told) place bases
+  pub since_learnt : AreOvertaken (batches_of t.seen) batch (length s.learnt) place bases
 
 -- ---- the outcomes of a batch of changes
 
@@ -52,7 +52,7 @@ pub record IsAdded (s t : Seated) (batch : Batch) (reply : Reply) : Type 0 where
 
 -- The reply is that of the plain book on the books of what was seen. It repeats the replies of an item that was seen, at that item's
 -- number; the item has the batch's token, which there is, and its operations.
-pub record WasCommitted (t : Seated) (batch : Batch) (reply : Reply) : Type 0 where
+pub record RepeatsItem (t : Seated) (batch : Batch) (reply : Reply) : Type 0 where
   pub reply_is : reply ≡ reply_to batch (books_of (batches_of t.seen))
   pub before : List Item
   pub item : Item
@@ -72,7 +72,7 @@ pub record IsRefusedThere (t : Seated) (batch : Batch) (reply : Reply) : Type 0 
 -- this is the outcome of a batch of changes, with this number of tries
 abbrev pub IsSubmitted : Seated → Seated → Batch → ℕ → Outcome → Type 0
 IsSubmitted s t batch tries (Committed reply) = IsAdded s t batch reply
-IsSubmitted s t batch tries (Repeated reply) = WasCommitted t batch reply × (t.own ≡ s.own)
+IsSubmitted s t batch tries (Repeated reply) = RepeatsItem t batch reply × (t.own ≡ s.own)
 IsSubmitted s t batch tries (Refused reply) = IsRefusedThere t batch reply × (t.own ≡ s.own)
 IsSubmitted s t batch tries (Conflict n) = WasOvertaken s t batch tries n × (n ≡ length t.seen) × (t.own ≡ s.own)
 IsSubmitted s t batch tries NoMemory = t.own ≡ s.own
@@ -80,14 +80,14 @@ IsSubmitted s t batch tries NoEntry = t.own ≡ s.own
 
 -- unless the outcome is `NoMemory` or `NoEntry`, the seat has then seen all that it had learnt of
 abbrev pub HasHeard : Seated → Seated → Outcome → Type 0
-HasHeard s t (Committed reply) = IsPrefix s.told t.seen
-HasHeard s t (Repeated reply) = IsPrefix s.told t.seen
-HasHeard s t (Refused reply) = IsPrefix s.told t.seen
-HasHeard s t (Conflict n) = IsPrefix s.told t.seen
+HasHeard s t (Committed reply) = IsPrefix s.learnt t.seen
+HasHeard s t (Repeated reply) = IsPrefix s.learnt t.seen
+HasHeard s t (Refused reply) = IsPrefix s.learnt t.seen
+HasHeard s t (Conflict n) = IsPrefix s.learnt t.seen
 HasHeard s t NoMemory = ⊤
 HasHeard s t NoEntry = ⊤
 
 -- ---- the theorem: a seat may see what it has found by its commit, without a look
 
 abbrev pub CommitsMayBeSeen : Type 0
-CommitsMayBeSeen = (domain : Bytes) (s t : Seated) (batch : Batch) (reply : Reply) → Along domain s t → HasHeard s t (Committed reply) → IsAdded s t batch reply → MaySee domain t
+CommitsMayBeSeen = (domain : Bytes) (s t : Seated) (batch : Batch) (reply : Reply) → AfterCall domain s t → HasHeard s t (Committed reply) → IsAdded s t batch reply → MaySee domain t

@@ -1,7 +1,7 @@
 -- One try of a batch of changes, and what its commit does under the lock. For this crate's own contracts.
 use Rattle.std.specs.Prelude.{◌≡◌, ℕ, ◌+◌, ◌≤◌, List, [], ◌∷◌, ◌++◌, length, Result, Ok, Err}
 use mathlib.Core.List.{IsPrefix}
-use Rattle.entry_book.specs.declared.reply.Outcome.TheVariants as became
+use Rattle.entry_book.specs.declared.reply.ReplyOutcome.TheVariants as became
 use Rattle.entry_book.specs.declared.reply.Refusal.TheVariants.{Full}
 use Rattle.entry_book.specs.Batches.{Batch}
 use Rattle.entry_book.specs.History.{books_of, reply_to}
@@ -12,28 +12,28 @@ use Rattle.commit_head.specs.declared.item.Item.{Item}
 use Rattle.commit_head.specs.Journals.{batches_of}
 use Rattle.shared_registry.specs.declared.outcome.Outcome.{Outcome}
 use Rattle.shared_registry.specs.declared.outcome.Outcome.TheVariants.{Committed, Refused, Conflict, NoMemory}
-use Rattle.shared_registry.specs.declared.seat.NoEntry.{NoEntry as WasNotLetIn}
+use Rattle.shared_registry.specs.declared.seat.NoEntry.{NoEntry as NotAdmitted}
 use Rattle.shared_registry.specs.Seated.{Seated}
 use Rattle.shared_registry.specs.Outcomes.{IsOvertaken, IsSubmitted, HasHeard}
 
 -- the outcome is not a conflict
-abbrev pub IsOver : Outcome → Type 0
-IsOver o = (n : ℕ) → o ≡ Conflict n → ⊥
+abbrev pub IsNotConflict : Outcome → Type 0
+IsNotConflict o = (n : ℕ) → o ≡ Conflict n → ⊥
 
 -- The try began at or after what the seat had seen and learnt of, and met a conflict. The seat has then seen all that it had learnt of,
 -- and has no more calls of its own.
 pub record IsOvertakenOnce (s t : Seated) (batch : Batch) (n : ℕ) : Type 0 where
   pub base : ℕ
   pub since_seen : length s.seen ≤ base
-  pub since_told : length s.told ≤ base
+  pub since_learnt : length s.learnt ≤ base
   pub overtaken : IsOvertaken (batches_of t.seen) batch base n
   pub place : n ≡ length t.seen
-  pub heard : IsPrefix s.told t.seen
+  pub heard : IsPrefix s.learnt t.seen
   pub own : t.own ≡ s.own
 
 -- the batch has its outcome, or the try met a conflict and hands the batch back
 abbrev pub IsTry : Seated → Seated → Batch → Result Outcome (ℕ × Batch) → Type 0
-IsTry s t batch (Ok o) = IsOver o × HasHeard s t o × IsSubmitted s t batch 0 o
+IsTry s t batch (Ok o) = IsNotConflict o × HasHeard s t o × IsSubmitted s t batch 0 o
 IsTry s t batch (Err back) = (back.1 ≡ batch) × IsOvertakenOnce s t batch back.0
 
 -- Nothing is added; the seat has seen all items so far, and has no more calls of its own.
@@ -61,6 +61,6 @@ IsCommitThere log next s t w (is.Conflict n) = HasLooked log next s t × (n ≡ 
 IsCommitThere log next s t w (is.Full limit n) = HasLooked log next s t × (n ≡ length log) × (reply_to w.batch (books_of (batches_of log)) ≡ record { place = n; outcome = became.Refused (Full limit) })
 IsCommitThere log next s t w is.NoMemory = HasLooked log next s t
 
-abbrev pub IsDecided : List Item → List Item → Seated → Seated → Work → Result Commit WasNotLetIn → Type 0
-IsDecided log next s t w (Ok commit) = IsCommitThere log next s t w commit
-IsDecided log next s t w (Err e) = (next ≡ log) × (t.seen ≡ s.seen) × (t.own ≡ s.own)
+abbrev pub IsCommitOutcome : List Item → List Item → Seated → Seated → Work → Result Commit NotAdmitted → Type 0
+IsCommitOutcome log next s t w (Ok commit) = IsCommitThere log next s t w commit
+IsCommitOutcome log next s t w (Err e) = (next ≡ log) × (t.seen ≡ s.seen) × (t.own ≡ s.own)

@@ -12,29 +12,29 @@ pub record Seated : Type 0 where
   pub number : ℕ
   pub calls : ℕ
   pub seen : List Item
-  pub told : List Item
+  pub learnt : List Item
   pub own : List ℕ
   pub found : List Item
 
 -- A call that takes a call number: the number is above those of the seat's own calls so far. What is seen is then a lawful journal that
--- begins with what was seen before. Its items of this seat are the seat's own calls. `told` stays the same.
-pub record Along (domain : Bytes) (s t : Seated) : Type 0 where
+-- begins with what was seen before. Its items of this seat are the seat's own calls. `learnt` stays the same.
+pub record AfterCall (domain : Bytes) (s t : Seated) : Type 0 where
   pub number : t.number ≡ s.number
   pub calls : t.calls ≡ s.calls + 1
   pub fresh : AllBelow t.calls s.own
   pub lawful : IsLawfulJournal domain t.seen
   pub seen : IsPrefix s.seen t.seen
-  pub told : t.told ≡ s.told
+  pub learnt : t.learnt ≡ s.learnt
   pub own : calls_of t.number t.seen ≡ t.own
 
 -- and the seat has then seen all that it had learnt of
-pub record Entered (domain : Bytes) (s t : Seated) : Type 0 where
-  pub along : Along domain s t
-  pub heard : IsPrefix s.told t.seen
+pub record CaughtUp (domain : Bytes) (s t : Seated) : Type 0 where
+  pub after_call : AfterCall domain s t
+  pub heard : IsPrefix s.learnt t.seen
 
 -- and the seat has seen nothing more
-pub record Stays (domain : Bytes) (s t : Seated) : Type 0 where
-  pub along : Along domain s t
+pub record SawNothingNew (domain : Bytes) (s t : Seated) : Type 0 where
+  pub after_call : AfterCall domain s t
   pub same : t.seen ≡ s.seen
 
 -- The seat may see what it found: a lawful journal that begins with all that the seat has seen and learnt of. The items of this seat in
@@ -42,12 +42,12 @@ pub record Stays (domain : Bytes) (s t : Seated) : Type 0 where
 pub record MaySee (domain : Bytes) (s : Seated) : Type 0 where
   pub lawful : IsLawfulJournal domain s.found
   pub seen : IsPrefix s.seen s.found
-  pub told : IsPrefix s.told s.found
+  pub learnt : IsPrefix s.learnt s.found
   pub own : calls_of s.number s.found ≡ s.own
 
--- Inside a call: the seat's number, its number of calls and `told` stay the same, and what it has seen grows.
-pub record Goes (s t : Seated) : Type 0 where
+-- Inside a call: the seat's number, its number of calls and `learnt` stay the same, and what it has seen grows.
+pub record DuringCall (s t : Seated) : Type 0 where
   pub number : t.number ≡ s.number
   pub calls : t.calls ≡ s.calls
-  pub told : t.told ≡ s.told
+  pub learnt : t.learnt ≡ s.learnt
   pub seen : IsPrefix s.seen t.seen

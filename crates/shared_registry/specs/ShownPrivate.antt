@@ -23,7 +23,7 @@ whole_head window items = record { window = window; kept = items; room = 0 }
 
 -- The window is that of a head whose whole journal is these items. No two items have the same seat and call. The counts are the numbers
 -- of the seats' calls.
-pub record Shows (items : List Item) (window : Window) (counts : List ℕ) : Type 0 where
+pub record ShowsJournal (items : List Item) (window : Window) (counts : List ℕ) : Type 0 where
   pub journal : IsJournal items (whole_head window items)
   pub once : EachCallOnce items
   pub counted : IsCounted counts items
@@ -35,8 +35,8 @@ pub record IsOf (history : WordBook) (domain : Bytes) (shown : Shown) : Type 0 w
 
 -- The published value is of this history and trust domain. Its journal begins with what each pass of a reader or of the writer has seen.
 -- No invariant of a seat uses what its pass has seen: the lists of a seat are tokens of the history.
-abbrev pub Keeps : WordBook → Bytes → Shown → List (List Item) → Type 0
-Keeps history domain x views = IsOf history domain x × ((k : ℕ) (v : List Item) → get_elem? views k ≡ some v → IsPrefix v x.journal)
+abbrev pub RuleInvariant : WordBook → Bytes → Shown → List (List Item) → Type 0
+RuleInvariant history domain x views = IsOf history domain x × ((k : ℕ) (v : List Item) → get_elem? views k ≡ some v → IsPrefix v x.journal)
 
 -- after the step, the pass has seen the published journal, which begins with what it had seen and is of this history and trust domain
 abbrev pub Saw : WordBook → Bytes → List Item → Shown → List Item → Type 0

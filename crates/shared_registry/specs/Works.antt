@@ -10,24 +10,24 @@ use Rattle.shared_registry.specs.Shown.{Shown}
 use Rattle.shared_registry.specs.ShownPrivate.{whole_head}
 
 -- The work is of the batch, and began on the window.
-pub record IsBegun (batch : Batch) (page : Shown) (w : Work) : Type 0 where
+pub record IsBegun (batch : Batch) (snapshot : Shown) (w : Work) : Type 0 where
   pub batch_is : w.batch ≡ batch
-  pub base_is : w.base ≡ Some (base_in batch page.window)
+  pub base_is : w.base ≡ Some (base_in batch snapshot.window)
 
 -- and it has made no read
-pub record BeganAt (batch : Batch) (page : Shown) (w : Work) : Type 0 where
-  pub begun : IsBegun batch page w
+pub record HasJustBegun (batch : Batch) (snapshot : Shown) (w : Work) : Type 0 where
+  pub begun : IsBegun batch snapshot w
   pub fresh : w.steps ≡ 0
 
 -- and it has no read left to make
-pub record IsAtEnd (batch : Batch) (page : Shown) (w : Work) : Type 0 where
-  pub begun : IsBegun batch page w
+pub record IsAtEnd (batch : Batch) (snapshot : Shown) (w : Work) : Type 0 where
+  pub begun : IsBegun batch snapshot w
   pub over : status_of w ≡ Running → ⊥
 
 -- The work began on a window of the last books of this journal, and has no read left to make. Its batch was made for the trust domain.
 pub record IsRead (domain : Bytes) (items : List Item) (batch : Batch) (w : Work) : Type 0 where
-  pub page : Shown
+  pub snapshot : Shown
   pub made : IsMadeFor domain batch
-  pub domain_is : page.window.newest.domain ≡ domain
-  pub stands : IsJournal items (whole_head page.window items)
-  pub at_end : IsAtEnd batch page w
+  pub domain_is : snapshot.window.newest.domain ≡ domain
+  pub is_journal_of : IsJournal items (whole_head snapshot.window items)
+  pub at_end : IsAtEnd batch snapshot w

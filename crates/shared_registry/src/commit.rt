@@ -4,17 +4,17 @@ ghost use Rattle.std.specs.Prelude.{◌≡◌, ◌⊎◌, ◌<◌, ◌+◌, ◌+
 ghost use mathlib.Core.List.{IsPrefix};
 ghost use Rattle.batch_work.specs.Windows.{pushed};
 ghost use Rattle.batch_work.specs.Working.{status_of};
-ghost use Rattle.commit_head.specs.Heads.{Goes as IsNextOf, IsJournal, last_items};
-ghost use Rattle.shared_registry.specs.Desk.{IsPublished, IsTied};
-ghost use Rattle.shared_registry.specs.OutcomesPrivate.{IsDecided};
-ghost use Rattle.shared_registry.specs.Seated.{Goes};
+ghost use Rattle.commit_head.specs.Heads.{IsPreparedFor as IsNextOf, IsJournal, last_items};
+ghost use Rattle.shared_registry.specs.WriterStates.{IsPublished, IsTied};
+ghost use Rattle.shared_registry.specs.OutcomesPrivate.{IsCommitOutcome};
+ghost use Rattle.shared_registry.specs.Seated.{DuringCall};
 ghost use Rattle.shared_registry.specs.Seats.{AllBelow};
-ghost use Rattle.shared_registry.specs.ShownPrivate.{IsCounted, IsOf, Shows};
+ghost use Rattle.shared_registry.specs.ShownPrivate.{IsCounted, IsOf, ShowsJournal};
 ghost use Rattle.shared_registry.specs.Works.{IsRead};
 
-use crate::desk::WindowWriter;
-use crate::history::{Front, History, Naming};
-use crate::published::{Board, Published};
+use crate::writer_state::WindowWriter;
+use crate::history::{HistoryPrefix, History, RegistryId};
+use crate::published::{PublishedState, Published};
 use crate::rule::Sees;
 use crate::seat::{NoEntry, Seat};
 use batch_work::{Status, Work};
@@ -27,7 +27,7 @@ use std::sync::Wait;
 const MOST_KEPT: u64 = 4096;
 
 /// Makes a checkpoint if 4,096 items are stored, so that there is room for one more.
-fn tidy(head: &mut Head)
+fn checkpoint_if_full(head: &mut Head)
     ensures window { head.new.window ≡ head.old.window }
     ensures kept { (head.new ≡ head.old) ⊎ (head.new.kept ≡ last_items head.old.kept) }
     ensures few { length head.new.kept < 4096 }
@@ -38,7 +38,7 @@ fn tidy(head: &mut Head)
 }
 
 /// Appends the value to the writer's log. Retries until there is memory.
-fn append<J: Naming, R: Wait>(
+fn append<J: RegistryId, R: Wait>(
     rt: &R,
     mut writer: WindowWriter<J>,
     mut next: Published,
@@ -56,7 +56,7 @@ fn append<J: Naming, R: Wait>(
 }
 
 /// Publishes the value. Retries until there is memory.
-fn publish<J: Naming, R: Wait>(rt: &R, writer: WindowWriter<J>, next: Published) -> WindowWriter<J>
+fn publish<J: RegistryId, R: Wait>(rt: &R, writer: WindowWriter<J>, next: Published) -> WindowWriter<J>
     requires clear { drop writer.behind writer.log.items ≡ [] }
     requires of_it { IsOf J.history J.domain next }
     requires more { IsPrefix writer.desk.shown.value.journal next.journal }
@@ -76,51 +76,51 @@ fn publish<J: Naming, R: Wait>(rt: &R, writer: WindowWriter<J>, next: Published)
 
 /// Returns the board after a prepared commit: its version is in the window, and its seat has one more call. There are two
 /// references to it, one for the readers and one for the seat. The only error is a failed allocation.
-fn boards_with(
+fn public_states_with(
     alloc: Global,
     published: &Published,
     prepared: &Prepared,
     seat: usize,
-) -> Result<(Shared<Board>, Shared<Board>), AllocError>
+) -> Result<(Shared<PublishedState>, Shared<PublishedState>), AllocError>
     requires seat { (seat < 32) × (prepared.now.item.seat ≡ seat) }
     requires fits { IsNextOf published.now.window.newest prepared.now }
-    ensures window { IfOk result (λ boards. boards.0.window ≡ pushed prepared.now.version published.now.window) }
-    ensures counts { IfOk result (λ boards. IsCounted boards.0.counts (published.now.journal ++ prepared.now.item ∷ [])) }
-    ensures same { IfOk result (λ boards. boards.1 ≡ boards.0) }
+    ensures window { IfOk result (λ public_states. public_states.0.window ≡ pushed prepared.now.version published.now.window) }
+    ensures counts { IfOk result (λ public_states. IsCounted public_states.0.counts (published.now.journal ++ prepared.now.item ∷ [])) }
+    ensures same { IfOk result (λ public_states. public_states.1 ≡ public_states.0) }
 {
     let mut window = published.window().clone()?;
     window.push(prepared.version().clone()?);
     let counts = published.counts_with(seat, prepared.item());
-    let board = Shared::of(alloc, Board { window, counts })?;
-    let same = board.clone()?;
-    Ok((board, same))
+    let public_state = Shared::of(alloc, PublishedState { window, counts })?;
+    let same = public_state.clone()?;
+    Ok((public_state, same))
 }
 
 /// Returns the published values after a commit, one for the readers and one for the seat.
-fn pages<J: Naming>(
-    front: &Front<J>,
-    boards: (Shared<Board>, Shared<Board>),
+fn snapshots<J: RegistryId>(
+    prefix: &HistoryPrefix<J>,
+    public_states: (Shared<PublishedState>, Shared<PublishedState>),
 ) -> (Published, Published)
-    requires shows { Shows front.now boards.0.window boards.0.counts }
-    requires same { boards.1 ≡ boards.0 }
+    requires shows { ShowsJournal prefix.now public_states.0.window public_states.0.counts }
+    requires same { public_states.1 ≡ public_states.0 }
     ensures history { result.0.history ≡ J.history }
-    ensures journal { result.0.journal ≡ front.now }
-    ensures window { result.0.window ≡ boards.0.window }
+    ensures journal { result.0.journal ≡ prefix.now }
+    ensures window { result.0.window ≡ public_states.0.window }
     ensures same { result.1 ≡ result.0 }
 {
-    let (board, same) = boards;
-    (Published::of(front, board), Published::of(front, same))
+    let (public_state, same) = public_states;
+    (Published::of(prefix, public_state), Published::of(prefix, same))
 }
 
 /// Lets the seat see all items so far, and commits the work as the seat's call, or returns why not. The commit takes effect
 /// when its item is added to the history; after that nothing is refused. After a commit the seat has the page that was
 /// published for it. The page that it had before is returned, to be dropped without the lock.
-pub(crate) fn decide<J: Naming, R: Wait>(
+pub(crate) fn decide<J: RegistryId, R: Wait>(
     rt: &R,
     alloc: Global,
     history: &History<J>,
     head: &mut Head,
-    last: &mut Front<J>,
+    last: &mut HistoryPrefix<J>,
     writer: WindowWriter<J>,
     seat: &mut Seat<J>,
     work: &Work,
@@ -134,8 +134,8 @@ pub(crate) fn decide<J: Naming, R: Wait>(
     ensures tied { IsTied J.domain last.new head.new }
     ensures published { IsPublished J.history J.domain last.new result.0.desk.shown.value }
     ensures clear { drop result.0.behind result.0.log.items ≡ [] }
-    ensures goes { Goes seat.old seat.new }
-    ensures decided { IsDecided last.old last.new seat.old seat.new work.now result.1 }
+    ensures goes { DuringCall seat.old seat.new }
+    ensures decided { IsCommitOutcome last.old last.new seat.old seat.new work.now result.1 }
 {
     let published = writer.published();
     let _window = published.window();
@@ -143,7 +143,7 @@ pub(crate) fn decide<J: Naming, R: Wait>(
     if !seat.fits(published) {
         return (writer, Err(NoEntry), None);
     }
-    tidy(head);
+    checkpoint_if_full(head);
     let prepared = match head.prepare(seat.number(), seat.calls(), work) {
         Ok(prepared) => prepared,
         Err(refusal) => {
@@ -151,20 +151,20 @@ pub(crate) fn decide<J: Naming, R: Wait>(
             return (writer, Ok(refusal), None);
         }
     };
-    let Ok(boards) = boards_with(alloc, published, &prepared, seat.number() as usize) else {
+    let Ok(public_states) = public_states_with(alloc, published, &prepared, seat.number() as usize) else {
         seat.see(last.again());
         return (writer, Ok(Commit::NoMemory), None);
     };
-    let mut front = last.again();
-    if !front.add(history, prepared.item()) {
+    let mut prefix = last.again();
+    if !prefix.add(history, prepared.item()) {
         return (writer, Err(NoEntry), None);
     }
-    let (page, own) = pages(&front, boards);
-    let writer = publish(rt, writer, page);
+    let (snapshot, own) = snapshots(&prefix, public_states);
+    let writer = publish(rt, writer, snapshot);
     seat.see(last.again());
-    seat.see_own(front.again(), prepared.item());
+    seat.see_own(prefix.again(), prepared.item());
     let before = seat.turn_to(own);
-    *last = front;
+    *last = prefix;
     let place = head.finish(prepared);
     (writer, Ok(Commit::Committed(place)), Some(before))
 }

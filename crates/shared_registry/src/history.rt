@@ -10,9 +10,9 @@ use logbook::{Gain, Offer, Plain, Play, Rule, Seen, Start, Word};
 use std::marker::{Brand, Model, PhantomData};
 
 /// The invariant of the history's atomic word: it is the length of the history.
-pub struct Law;
+pub struct HistoryRule;
 
-impl Rule<Item, u64> for Law {
+impl Rule<Item, u64> for HistoryRule {
     ghost use Rattle.std.specs.Prelude.{[]};
     ghost use base.Fml.{ftrue};
     ghost use Rattle.shared_registry.specs.RulesPrivate.{IsKept};
@@ -31,25 +31,25 @@ impl Rule<Item, u64> for Law {
 }
 
 /// A step gains its caller nothing.
-pub struct Nothing;
+pub struct NoTrade;
 
-impl Gain<Item, u64> for Nothing {
+impl Gain<Item, u64> for NoTrade {
     ghost use base.Fml.{ftrue};
 
     ghost after = { λ names about answer. ftrue };
 }
 
 /// A step that adds an item.
-pub struct Add;
+pub struct AppendItem;
 
-impl Play<Item, u64> for Add {
+impl Play<Item, u64> for AppendItem {
     ghost use Rattle.shared_registry.specs.RulesPrivate.{Adds};
 
     ghost then = { Adds };
 }
 
 /// The request of a step is the item.
-impl Plain<Item, Item, u64> for Add {
+impl Plain<Item, Item, u64> for AppendItem {
     ghost use Rattle.std.specs.Prelude.{None};
 
     ghost ask = { λ item. item };
@@ -59,7 +59,7 @@ impl Plain<Item, Item, u64> for Add {
 
 /// Identifies a registry in the proofs, by its history and the trust domain of its book. Each call of a program picks them.
 /// Seats, receipts and registries of one naming belong together.
-pub trait Naming {
+pub trait RegistryId {
     ghost use Rattle.logbook.specs.Pages.{Book};
     ghost use Rattle.entry_book.specs.Rows.{Bytes};
 
@@ -68,7 +68,7 @@ pub trait Naming {
     ghost domain: { Bytes };
 }
 
-impl Naming for Brand {
+impl RegistryId for Brand {
     ghost use Rattle.std.specs.Prelude.{[]};
 
     ghost history = { record { number = 0; log_name = 0; cells_name = 0 } };
@@ -77,35 +77,35 @@ impl Naming for Brand {
 }
 
 /// An empty history that has no naming yet.
-pub struct Opened {
-    word: Word<Item, u64, Law>,
-    seen: Seen<Item, u64, Law>,
+pub struct NewHistory {
+    word: Word<Item, u64, HistoryRule>,
+    seen: Seen<Item, u64, HistoryRule>,
     pub ghost empty: { seen.log ≡ [] },
     pub ghost word_is: { word ≡ word_of seen.book },
 }
 
-impl Opened {
+impl NewHistory {
     /// Makes a new history. Takes no memory.
-    pub fn new() -> Opened {
+    pub fn new() -> NewHistory {
         let (seen, mut first, _second) = Seen::open(Start::alone(), 0, 0);
-        Opened {
+        NewHistory {
             word: Word::tracked(0, &mut first),
             seen,
         }
     }
 
     /// Returns the history's word under a naming, and the empty front.
-    pub(crate) fn named<J: Naming>(self) -> (History<J>, Front<J>)
+    pub(crate) fn named<J: RegistryId>(self) -> (History<J>, HistoryPrefix<J>)
         requires { self.seen.book ≡ J.history }
         ensures { result.1 ≡ [] }
     {
-        let Opened { word, seen } = self;
+        let NewHistory { word, seen } = self;
         (
             History {
                 word,
                 of: PhantomData,
             },
-            Front {
+            HistoryPrefix {
                 items: 0,
                 seen,
                 of: PhantomData,
@@ -116,8 +116,8 @@ impl Opened {
 
 /// The atomic word that all threads share: the length of the history.
 #[derive(Drop)]
-pub struct History<J: Naming> {
-    word: Word<Item, u64, Law>,
+pub struct History<J: RegistryId> {
+    word: Word<Item, u64, HistoryRule>,
     of: PhantomData<J>,
     ghost word_is: { word ≡ word_of J.history },
 }
@@ -125,13 +125,13 @@ pub struct History<J: Naming> {
 /// A prefix of the history that was seen: a lawful journal. The model in contracts is the list of its items. At run time it
 /// has only its length, and no copy of an item.
 #[derive(Drop)]
-pub struct Front<J: Naming> {
+pub struct HistoryPrefix<J: RegistryId> {
     items: u64,
-    seen: Seen<Item, u64, Law>,
+    seen: Seen<Item, u64, HistoryRule>,
     of: PhantomData<J>,
 }
 
-impl<J: Naming> Model for Front<J> {
+impl<J: RegistryId> Model for HistoryPrefix<J> {
     ghost use Rattle.std.specs.Prelude.{◌≡◌, List, length};
     ghost use Rattle.commit_head.specs.declared.item.Item.{Item};
     ghost use Rattle.commit_head.specs.Journals.{IsLawfulJournal};
@@ -143,7 +143,7 @@ impl<J: Naming> Model for Front<J> {
     ghost invariant = { λ f. (f.items ≡ length f.seen.log) × (f.seen.book ≡ J.history) × IsLawfulJournal J.domain f.seen.log };
 }
 
-impl<J: Naming> Front<J> {
+impl<J: RegistryId> HistoryPrefix<J> {
     /// Returns the number of its items.
     pub(crate) fn len(&self) -> u64
         ensures length { result ≡ length self.now }
@@ -153,10 +153,10 @@ impl<J: Naming> Front<J> {
     }
 
     /// Returns a copy.
-    pub(crate) fn again(&self) -> Front<J>
+    pub(crate) fn again(&self) -> HistoryPrefix<J>
         ensures { result ≡ self.now }
     {
-        Front {
+        HistoryPrefix {
             items: self.items,
             seen: self.seen.again(),
             of: PhantomData,
@@ -164,7 +164,7 @@ impl<J: Naming> Front<J> {
     }
 
     /// Returns the longer of two fronts, of which the other is a prefix.
-    pub(crate) fn longer(&self, other: &Front<J>) -> Front<J>
+    pub(crate) fn longer(&self, other: &HistoryPrefix<J>) -> HistoryPrefix<J>
         ensures one { (result ≡ self.now) ⊎ (result ≡ other.now) }
         ensures this { IsPrefix self.now result }
         ensures that { IsPrefix other.now result }
@@ -179,18 +179,18 @@ impl<J: Naming> Front<J> {
     }
 
     /// Returns the token of what was seen.
-    pub(crate) fn token(&self) -> Seen<Item, u64, Law>
+    pub(crate) fn token(&self) -> Seen<Item, u64, HistoryRule>
         ensures { (result.book ≡ J.history) × (result.log ≡ self.now) }
     {
         self.seen.again()
     }
 
     /// Makes the front of a token with this number of items.
-    pub(crate) fn of(items: u64, seen: Seen<Item, u64, Law>) -> Front<J>
+    pub(crate) fn of(items: u64, seen: Seen<Item, u64, HistoryRule>) -> HistoryPrefix<J>
         requires { (seen.book ≡ J.history) × (items ≡ length seen.log) × IsLawfulJournal J.domain seen.log }
         ensures { result ≡ seen.log }
     {
-        Front {
+        HistoryPrefix {
             items,
             seen,
             of: PhantomData,
@@ -198,7 +198,7 @@ impl<J: Naming> Front<J> {
     }
 
     /// Returns true only if it is a prefix of the other one: it is no longer, and both are prefixes of one history.
-    pub(crate) fn begins(&self, other: &Front<J>) -> bool
+    pub(crate) fn begins(&self, other: &HistoryPrefix<J>) -> bool
         ensures { IsTrue result → IsPrefix self.now other.now }
     {
         let mut both = self.seen.again();
@@ -214,12 +214,12 @@ impl<J: Naming> Front<J> {
         ensures { MatchBool result (self.new ≡ self.old ++ item.now ∷ []) (self.new ≡ self.old) }
     {
         let mut seen = self.seen.again();
-        let mut offer: Offer<Item, u64, Law, Nothing> = seen.plain::<Nothing, Item, Add>(item);
+        let mut offer: Offer<Item, u64, HistoryRule, NoTrade> = seen.plain::<NoTrade, Item, AppendItem>(item);
         let mut pen = seen.no_pen();
         let items = self.items;
         let found = history
             .word
-            .compare_exchange::<Add, Nothing>(items, items + 1, &mut seen, &mut offer, &mut pen);
+            .compare_exchange::<AppendItem, NoTrade>(items, items + 1, &mut seen, &mut offer, &mut pen);
         if found != items {
             return false;
         }

@@ -13,7 +13,7 @@
 //! - [`Answer`]: the reply to a query. [`NoAnswer`] and [`NoEntry`]: why a query, or a request for news, has no answer.
 //! - [`Receipt`]: what a seat had seen, for another seat to learn.
 //! - [`commits_law`]: after a commit a seat may answer queries without a look.
-//! - [`Naming`] and [`Opened`]: which registry it is, and its empty history. The types ensure that seats, receipts and
+//! - [`RegistryId`] and [`NewHistory`]: which registry it is, and its empty history. The types ensure that seats, receipts and
 //!   registries of one naming belong together.
 //!
 //! The words of this crate:
@@ -25,12 +25,12 @@
 //! - own: the numbers of the calls that a seat has committed.
 //!
 //! The definitions are in `specs/`. `Outcomes` defines the outcome of a batch of changes, `Shown` the published state,
-//! `Seated` and `Seats` a seat, and `Rules` the history's word. The others are for this crate's own contracts: `Desk` defines
+//! `Seated` and `Seats` a seat, and `Rules` the history's word. The others are for this crate's own contracts: `WriterStates` defines
 //! the state under the lock, `Works` a work in execution, and the files that end in `Private` the invariants.
 //!
 //! - `history`: the one history, and the prefixes of it that were seen; `published` and `rule`: the state that readers look
 //!   at, and the invariant that each step over it preserves; `run`: how a batch of changes runs on the published state;
-//!   `desk` and `commit`: the state under the lock, and the commit on it; `recent`: boards that are retained; `seat` and
+//!   `writer_state` and `commit`: the state under the lock, and the commit on it; `recent`: boards that are retained; `seat` and
 //!   `registry`: the calls of the two types; `reading`: how a seat looks at the published state; `outcome`; `gate`: the test
 //!   hook; `laws`: a theorem that follows from the contracts.
 //!
@@ -41,7 +41,7 @@
 #![tactic(auto)]
 
 mod commit;
-mod desk;
+mod writer_state;
 mod gate;
 mod history;
 mod laws;
@@ -54,9 +54,9 @@ mod rule;
 mod run;
 mod seat;
 
-pub use desk::NoSeat;
+pub use writer_state::NoSeat;
 pub use gate::{Gate, OpenGate, Point};
-pub use history::{Front, History, Naming, Opened};
+pub use history::{HistoryPrefix, History, RegistryId, NewHistory};
 pub use laws::commits_law;
 pub use outcome::Outcome;
 pub use published::Published;

@@ -4,9 +4,9 @@ ghost use Rattle.std.specs.Prelude.{◌≡◌, ◌+◌, ◌≤◌, ◌<◌, ◌^
 ghost use Rattle.batch_work.specs.Windows.{Window};
 ghost use Rattle.commit_head.specs.Heads.{IsJournal};
 ghost use Rattle.shared_registry.specs.Seats.{calls_of};
-ghost use Rattle.shared_registry.specs.ShownPrivate.{IsCounted, IsOf, Shows};
+ghost use Rattle.shared_registry.specs.ShownPrivate.{IsCounted, IsOf, ShowsJournal};
 
-use crate::history::{Front, Law, Naming};
+use crate::history::{HistoryPrefix, HistoryRule, RegistryId};
 use batch_work::Window;
 use commit_head::{Head, Item};
 use entry_book::Shared;
@@ -17,7 +17,7 @@ use std::marker::Model;
 
 /// The window on which works begin, and the number of commits of each seat.
 #[derive(Drop)]
-pub(crate) struct Board {
+pub(crate) struct PublishedState {
     pub(crate) window: Window,
     pub(crate) counts: [u64; 32],
 }
@@ -28,46 +28,46 @@ pub(crate) struct Board {
 #[derive(Drop)]
 pub struct Published {
     items: u64,
-    seen: Seen<Item, u64, Law>,
-    board: Shared<Board>,
+    seen: Seen<Item, u64, HistoryRule>,
+    public_state: Shared<PublishedState>,
 }
 
 impl Model for Published {
     ghost use Rattle.std.specs.Prelude.{◌≡◌, length};
     ghost use Rattle.shared_registry.specs.Shown.{Shown};
-    ghost use Rattle.shared_registry.specs.ShownPrivate.{Shows};
+    ghost use Rattle.shared_registry.specs.ShownPrivate.{ShowsJournal};
 
     ghost Value = { Shown };
 
-    ghost view = { λ p. record { history = p.seen.book; journal = p.seen.log; window = p.board.window } };
+    ghost view = { λ p. record { history = p.seen.book; journal = p.seen.log; window = p.public_state.window } };
 
-    ghost invariant = { λ p. (p.items ≡ length p.seen.log) × Shows p.seen.log p.board.window p.board.counts };
+    ghost invariant = { λ p. (p.items ≡ length p.seen.log) × ShowsJournal p.seen.log p.public_state.window p.public_state.counts };
 }
 
 impl Published {
     ghost use Rattle.std.specs.Prelude.{◌≡◌, ◌≤◌, ◌^◌, length, IfOk, IfSome};
-    ghost use Rattle.shared_registry.specs.ShownPrivate.{IsOf, Shows, whole_head};
+    ghost use Rattle.shared_registry.specs.ShownPrivate.{IsOf, ShowsJournal, whole_head};
 
     /// Makes the published value of the front's journal, with the board that shows it.
-    pub(crate) fn of<J: Naming>(front: &Front<J>, board: Shared<Board>) -> Published
-        requires shows { Shows front.now board.window board.counts }
+    pub(crate) fn of<J: RegistryId>(prefix: &HistoryPrefix<J>, public_state: Shared<PublishedState>) -> Published
+        requires shows { ShowsJournal prefix.now public_state.window public_state.counts }
         ensures history { result.history ≡ J.history }
-        ensures journal { result.journal ≡ front.now }
-        ensures window { result.window ≡ board.window }
+        ensures journal { result.journal ≡ prefix.now }
+        ensures window { result.window ≡ public_state.window }
     {
         Published {
-            items: front.len(),
-            seen: front.token(),
-            board,
+            items: prefix.len(),
+            seen: prefix.token(),
+            public_state,
         }
     }
 
     /// Returns the journal, as a front.
-    pub(crate) fn front<J: Naming>(&self) -> Front<J>
+    pub(crate) fn prefix<J: RegistryId>(&self) -> HistoryPrefix<J>
         requires { IsOf J.history J.domain self.now }
         ensures { result ≡ self.now.journal }
     {
-        Front::of(self.items, self.seen.again())
+        HistoryPrefix::of(self.items, self.seen.again())
     }
 
     /// Returns the window on which a work begins.
@@ -76,7 +76,7 @@ impl Published {
         ensures low { self.now.window.newest.number ≤ 2 ^ 48 }
         ensures journal { IsJournal self.now.journal (whole_head self.now.window self.now.journal) }
     {
-        &self.board.get().window
+        &self.public_state.get().window
     }
 
     /// Returns the number of items of this seat in the journal.
@@ -84,12 +84,12 @@ impl Published {
         requires { seat < 32 }
         ensures { result ≡ length (calls_of seat self.now.journal) }
     {
-        self.board.get().counts[seat]
+        self.public_state.get().counts[seat]
     }
 
     /// Returns the board, with its reference count incremented. The error is that the count can't grow.
-    pub(crate) fn board(&self) -> Result<Shared<Board>, AllocError> {
-        self.board.clone()
+    pub(crate) fn public_state(&self) -> Result<Shared<PublishedState>, AllocError> {
+        self.public_state.clone()
     }
 
     /// Returns the counts after one more item of this seat.
@@ -98,7 +98,7 @@ impl Published {
         ensures { IsCounted result (self.now.journal ++ item.now ∷ []) }
     {
         let _call = item.call;
-        let mut counts = self.board.get().counts;
+        let mut counts = self.public_state.get().counts;
         counts[seat] += 1;
         counts
     }
@@ -110,7 +110,7 @@ impl Published {
         Ok(Published {
             items: self.items,
             seen: self.seen.again(),
-            board: self.board.clone()?,
+            public_state: self.public_state.clone()?,
         })
     }
 
@@ -127,20 +127,20 @@ impl Published {
 }
 
 /// Returns the first published value: the head's window, and no item. The error is out of memory.
-pub(crate) fn opening<J: Naming>(
+pub(crate) fn opening<J: RegistryId>(
     alloc: Global,
-    front: &Front<J>,
+    prefix: &HistoryPrefix<J>,
     head: &Head,
 ) -> Result<Published, AllocError>
-    requires front { front.now ≡ [] }
+    requires prefix { prefix.now ≡ [] }
     requires head { IsJournal [] head.now }
     ensures { IfOk result (λ p. (p.history ≡ J.history) × (p.journal ≡ []) × (p.window ≡ head.now.window)) }
 {
-    let board = Board {
+    let public_state = PublishedState {
         window: head.window().clone()?,
         counts: [0; 32],
     };
-    Ok(Published::of(front, Shared::of(alloc, board)?))
+    Ok(Published::of(prefix, Shared::of(alloc, public_state)?))
 }
 
 /// An operation of the writer replaces the whole value.

@@ -8,11 +8,11 @@ ghost use Rattle.commit_head.specs.Journals.{batches_of};
 ghost use Rattle.shared_registry.specs.Seats.{calls_of};
 ghost use Rattle.shared_registry.specs.ShownPrivate.{IsOf};
 
-use crate::history::{Front, Naming};
+use crate::history::{HistoryPrefix, RegistryId};
 use crate::published::Published;
 use crate::rule::{Rule, Sees, View};
 use crate::seat::NoAnswer;
-use batch_work::{LentReply, answer};
+use batch_work::{BorrowedReply, answer};
 use entry_book::Batch;
 use left_right::reader::Reader;
 use std::alloc::{AllocError, Global};
@@ -22,18 +22,18 @@ use std::mem::replace;
 pub(crate) type SeatReader<J> = Reader<Published, View, Rule<J>>;
 
 /// Replaces the page by the newer one, if a look has found one, and drops the one before.
-fn turn<J: Naming>(
-    page: &mut Published,
+fn turn<J: RegistryId>(
+    snapshot: &mut Published,
     newer: Result<Option<Published>, AllocError>,
 ) -> Result<(), NoAnswer>
-    requires page { IsOf J.history J.domain page.old }
+    requires snapshot { IsOf J.history J.domain snapshot.old }
     requires newer { IfOk newer (λ o. IfSome o (IsOf J.history J.domain)) }
-    ensures { IsOf J.history J.domain page.new }
+    ensures { IsOf J.history J.domain snapshot.new }
 {
     match newer {
         Ok(None) => Ok(()),
         Ok(Some(newer)) => {
-            drop(replace(page, newer));
+            drop(replace(snapshot, newer));
             Ok(())
         }
         Err(AllocError) => Err(NoAnswer::NoMemory),
@@ -41,85 +41,85 @@ fn turn<J: Naming>(
 }
 
 /// Looks once at the published state, and keeps it if it has another number of items.
-fn look<J: Naming>(
+fn look<J: RegistryId>(
     reader: SeatReader<J>,
-    page: &mut Published,
+    snapshot: &mut Published,
 ) -> (SeatReader<J>, Result<(), NoAnswer>)
-    requires { IsOf J.history J.domain page.old }
-    ensures { IsOf J.history J.domain page.new }
+    requires { IsOf J.history J.domain snapshot.old }
+    ensures { IsOf J.history J.domain snapshot.new }
 {
     match reader.enter_as::<Sees<J>>() {
         Ok(reading) => {
-            let newer = reading.get().newer(page);
+            let newer = reading.get().newer(snapshot);
             let reader = reading.leave();
-            (reader, turn::<J>(page, newer))
+            (reader, turn::<J>(snapshot, newer))
         }
         Err(reader) => (reader, Err(NoAnswer::NoEntry)),
     }
 }
 
 /// Returns true if the published journal continues what a seat has seen and what it has learnt, and has this many of its calls.
-pub(crate) fn continues<J: Naming>(
+pub(crate) fn continues<J: RegistryId>(
     published: &Published,
-    seen: &Front<J>,
-    told: &Front<J>,
+    seen: &HistoryPrefix<J>,
+    learnt: &HistoryPrefix<J>,
     number: usize,
     count: u64,
 ) -> bool
     requires number { number < 32 }
-    requires page { IsOf J.history J.domain published.now }
+    requires snapshot { IsOf J.history J.domain published.now }
     ensures seen { IsTrue result → IsPrefix seen.now published.now.journal }
-    ensures told { IsTrue result → IsPrefix told.now published.now.journal }
+    ensures learnt { IsTrue result → IsPrefix learnt.now published.now.journal }
     ensures count { IsTrue result → length (calls_of number published.now.journal) ≡ count }
 {
-    let front: Front<J> = published.front();
-    published.count(number) == count && seen.begins(&front) && told.begins(&front)
+    let prefix: HistoryPrefix<J> = published.prefix();
+    published.count(number) == count && seen.begins(&prefix) && learnt.begins(&prefix)
 }
 
 /// Looks, and returns the published journal. The error is `NoEntry` if that doesn't begin with what the seat has seen and
 /// learnt of, or has another number of its calls.
-pub(crate) fn find<J: Naming>(
+pub(crate) fn find<J: RegistryId>(
     reader: &mut Option<SeatReader<J>>,
-    page: &mut Published,
-    seen: &Front<J>,
-    told: &Front<J>,
+    snapshot: &mut Published,
+    seen: &HistoryPrefix<J>,
+    learnt: &HistoryPrefix<J>,
     number: usize,
     count: u64,
-) -> Result<Front<J>, NoAnswer>
+) -> Result<HistoryPrefix<J>, NoAnswer>
     requires reader { IsSome reader.old }
     requires number { number < 32 }
-    requires page { IsOf J.history J.domain page.old }
+    requires snapshot { IsOf J.history J.domain snapshot.old }
     ensures reader { IsSome reader.new }
-    ensures page { IsOf J.history J.domain page.new }
-    ensures found { IfOk result (λ front. front ≡ page.new.journal) }
-    ensures seen { IfOk result (λ front. IsPrefix seen.now front) }
-    ensures told { IfOk result (λ front. IsPrefix told.now front) }
-    ensures count { IfOk result (λ front. length (calls_of number front) ≡ count) }
+    ensures snapshot { IsOf J.history J.domain snapshot.new }
+    ensures found { IfOk result (λ prefix. prefix ≡ snapshot.new.journal) }
+    ensures seen { IfOk result (λ prefix. IsPrefix seen.now prefix) }
+    ensures learnt { IfOk result (λ prefix. IsPrefix learnt.now prefix) }
+    ensures count { IfOk result (λ prefix. length (calls_of number prefix) ≡ count) }
 {
     let Some(entering) = reader.take() else {
         unreachable!()
     };
-    let (left, looked) = look(entering, page);
+    let (left, looked) = look(entering, snapshot);
     *reader = Some(left);
     looked?;
-    if continues(page, seen, told, number, count) {
-        Ok(page.front())
+    if continues(snapshot, seen, learnt, number, count) {
+        Ok(snapshot.prefix())
     } else {
         Err(NoAnswer::NoEntry)
     }
 }
 
 /// Returns the answer to a query on the published state, which borrows the rows. The error is out of memory.
-pub(crate) fn lent_answer<'a>(
+pub(crate) fn borrowed_answer<'a>(
     alloc: Global,
-    page: &'a Published,
+    snapshot: &'a Published,
     batch: &Batch,
-) -> Result<LentReply<'a>, AllocError>
+) -> Result<BorrowedReply<'a>, AllocError>
     requires query { is_query batch.now.ops ≡ true }
-    requires domain { batch.now.domain ≡ page.now.window.newest.domain }
-    ensures answer { IfOk result (λ reply. reply ≡ reply_to batch.now (books_of (batches_of page.now.journal))) }
-    ensures place { IfOk result (λ reply. reply.place ≡ length page.now.journal) }
+    requires domain { batch.now.domain ≡ snapshot.now.window.newest.domain }
+    ensures answer { IfOk result (λ reply. reply ≡ reply_to batch.now (books_of (batches_of snapshot.now.journal))) }
+    ensures place { IfOk result (λ reply. reply.place ≡ length snapshot.now.journal) }
 {
     let _ = batch.ops();
-    answer(alloc, batch, page.window())
+    answer(alloc, batch, snapshot.window())
 }

@@ -1,6 +1,6 @@
 //! Which boards are retained, so that readers seldom free one?
 
-use crate::published::{Board, Published};
+use crate::published::{PublishedState, Published};
 use entry_book::Shared;
 use std::alloc::{AllocError, Global};
 use std::collections::VecDeque;
@@ -13,22 +13,22 @@ const MOST: usize = 64;
 /// the lock.
 #[derive(Drop)]
 pub(crate) struct Recent {
-    boards: VecDeque<Shared<Board>>,
+    public_states: VecDeque<Shared<PublishedState>>,
 }
 
 /// What a commit has replaced, to be dropped without the lock: the page that the seat had before it, and the oldest of the retained
 /// boards, if there were as many as are retained.
 #[derive(Drop)]
 pub(crate) struct Replaced {
-    page: Published,
-    board: Option<Shared<Board>>,
+    snapshot: Published,
+    public_state: Option<Shared<PublishedState>>,
 }
 
 impl Recent {
     /// Returns no boards, and room for all that are retained. The only error is a failed allocation.
     pub(crate) fn none(alloc: Global) -> Result<Recent, AllocError> {
         Ok(Recent {
-            boards: VecDeque::with_capacity(alloc, MOST)?,
+            public_states: VecDeque::with_capacity(alloc, MOST)?,
         })
     }
 
@@ -40,9 +40,9 @@ impl Recent {
         before: Option<Published>,
     ) -> Option<Replaced> {
         match before {
-            Some(page) => {
-                let board = self.keep(published);
-                Some(Replaced { page, board })
+            Some(snapshot) => {
+                let public_state = self.keep(published);
+                Some(Replaced { snapshot, public_state })
             }
             None => None,
         }
@@ -50,16 +50,16 @@ impl Recent {
 
     /// Retains the board of what is published, in place of the oldest one, which is returned. If its reference count can't grow, it
     /// is not retained.
-    fn keep(&mut self, published: &Published) -> Option<Shared<Board>> {
-        let Ok(board) = published.board() else {
+    fn keep(&mut self, published: &Published) -> Option<Shared<PublishedState>> {
+        let Ok(public_state) = published.public_state() else {
             return None;
         };
-        let passed = if self.boards.len() < MOST {
+        let passed = if self.public_states.len() < MOST {
             None
         } else {
-            self.boards.pop_front()
+            self.public_states.pop_front()
         };
-        let _ = self.boards.push_back(board);
+        let _ = self.public_states.push_back(public_state);
         passed
     }
 }

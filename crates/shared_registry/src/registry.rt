@@ -7,20 +7,20 @@ ghost use Rattle.entry_book.specs.History.{books_of, is_repeated, reply_to};
 ghost use Rattle.commit_head.specs.Journals.{IsLawfulJournal, batches_of};
 ghost use Rattle.batch_work.specs.Working.{HasReplies, status_of};
 ghost use Rattle.shared_registry.specs.Outcomes.{HasHeard, IsSubmitted};
-ghost use Rattle.shared_registry.specs.OutcomesPrivate.{IsOver, IsTry};
-ghost use Rattle.shared_registry.specs.Seated.{Along, Entered, Goes, Stays};
+ghost use Rattle.shared_registry.specs.OutcomesPrivate.{IsNotConflict, IsTry};
+ghost use Rattle.shared_registry.specs.Seated.{AfterCall, CaughtUp, DuringCall, SawNothingNew};
 ghost use Rattle.shared_registry.specs.Seats.{AllBelow, calls_of};
 ghost use Rattle.shared_registry.specs.Works.{IsRead};
 
-use crate::desk::{Core, NoSeat};
+use crate::writer_state::{WriterState, NoSeat};
 use crate::gate::{Gate, Point};
-use crate::history::{History, Naming, Opened};
+use crate::history::{History, RegistryId, NewHistory};
 use crate::outcome::Outcome;
-use crate::run::let_go;
+use crate::run::discard;
 use crate::seat::{Answer, NoAnswer, NoEntry, Receipt, Seat};
 use batch_work::{Status, Work};
 use commit_head::Commit;
-use entry_book::{Batch, OpReply, Outcome as BatchOutcome, Refusal, Reply, Sequence, Shared};
+use entry_book::{Batch, OpReply, ReplyOutcome as BatchOutcome, Refusal, Reply, Sequence, Shared};
 use spiffe_name::TrustDomain;
 use std::alloc::{AllocError, Global};
 use std::sync::{Mutex, MutexGuard, Wait};
@@ -36,11 +36,11 @@ fn is_repeat(reply: &Reply) -> bool
 }
 
 /// Returns the outcome of a batch of changes with nothing to commit: it is refused, or was committed before.
-fn settled<J: Naming>(seat: &Seat<J>, work: Work) -> Outcome
+fn settled<J: RegistryId>(seat: &Seat<J>, work: Work) -> Outcome
     requires read { IsRead J.domain seat.now.seen work.batch work }
     requires changes { is_query work.batch.ops ≡ false }
     requires unready { status_of work ≡ Status.Ready → ⊥ }
-    ensures over { IsOver result }
+    ensures over { IsNotConflict result }
     ensures answer { IsSubmitted seat.now seat.now work.batch 0 result }
 {
     let _place = seat.place();
@@ -60,26 +60,26 @@ fn settled<J: Naming>(seat: &Seat<J>, work: Work) -> Outcome
 ///
 /// A reader takes no lock: it looks once at the published state, and runs its batch on it. A writer takes the lock only for
 /// its commit. A function with `rt` may wait, and no clause says that it returns.
-pub struct Registry<J: Naming> {
+pub struct Registry<J: RegistryId> {
     history: History<J>,
-    core: Mutex<Core<J>>,
+    core: Mutex<WriterState<J>>,
 }
 
-impl<J: Naming> Registry<J> {
+impl<J: RegistryId> Registry<J> {
     ghost use Rattle.std.specs.Prelude.{◌≡◌, ◌<◌, ◌≤◌, ◌^◌, [], length, IfOk, MatchResult, true, false};
 
     /// Makes the registry of a history that was just opened, with the empty book of a trust domain. The error is out of
     /// memory.
     pub fn new(
         alloc: Global,
-        opened: Opened,
+        new_history: NewHistory,
         domain: TrustDomain,
     ) -> Result<Registry<J>, AllocError>
-        requires history { opened.seen.book ≡ J.history }
+        requires history { new_history.seen.book ≡ J.history }
         requires domain { domain ≡ J.domain }
     {
-        let (history, front) = opened.named::<J>();
-        let core = Core::new(alloc, domain, front)?;
+        let (history, prefix) = new_history.named::<J>();
+        let core = WriterState::new(alloc, domain, prefix)?;
         Ok(Registry {
             history,
             core: Mutex::new(core),
@@ -89,7 +89,7 @@ impl<J: Naming> Registry<J> {
     /// Returns a seat for one more caller, which has seen nothing and made no call. The error is that there are 32 already,
     /// no reader is available, or a reference count can't grow. It waits for the lock, and no clause says when it gets it.
     pub fn seat<R: Wait>(&self, rt: &R) -> Result<Seat<J>, NoSeat>
-        ensures { IfOk result (λ s. (s.seen ≡ []) × (s.told ≡ []) × (s.own ≡ []) × (s.calls ≡ 0)) }
+        ensures { IfOk result (λ s. (s.seen ≡ []) × (s.learnt ≡ []) × (s.own ≡ []) × (s.calls ≡ 0)) }
     {
         let mut core = self.core.lock(rt);
         let seat = core.seat();
@@ -104,7 +104,7 @@ impl<J: Naming> Registry<J> {
         requires domain { batch.now.domain ≡ J.domain }
         ensures answer { IfOk result (λ reply. reply ≡ reply_to batch.now (books_of (batches_of seat.new.seen))) }
         ensures place { IfOk result (λ reply. reply.place ≡ length seat.new.seen) }
-        ensures entered { MatchResult result (λ _. Entered J.domain seat.old seat.new) (λ _. Stays J.domain seat.old seat.new) }
+        ensures entered { MatchResult result (λ _. CaughtUp J.domain seat.old seat.new) (λ _. SawNothingNew J.domain seat.old seat.new) }
         ensures own { seat.new.own ≡ seat.old.own }
     {
         seat.query(batch)
@@ -125,7 +125,7 @@ impl<J: Naming> Registry<J> {
         requires changes { is_query batch.ops ≡ false }
         requires domain { batch.domain ≡ J.domain }
         requires tries { 0 < tries }
-        ensures along { Along J.domain seat.old seat.new }
+        ensures after_call { AfterCall J.domain seat.old seat.new }
         ensures heard { HasHeard seat.old seat.new result }
         ensures answer { IsSubmitted seat.old seat.new batch tries result }
     {
@@ -159,7 +159,7 @@ impl<J: Naming> Registry<J> {
         requires below { AllBelow seat.old.calls seat.old.own }
         requires changes { is_query batch.ops ≡ false }
         requires domain { batch.domain ≡ J.domain }
-        ensures goes { Goes seat.old seat.new }
+        ensures goes { DuringCall seat.old seat.new }
         ensures tried { IsTry seat.old seat.new batch result }
     {
         let work = match seat.read(gate, batch) {
@@ -171,7 +171,7 @@ impl<J: Naming> Registry<J> {
             return Ok(settled(seat, work));
         };
         let Ok(replies) = replies.clone() else {
-            let_go(work);
+            discard(work);
             return Ok(Outcome::NoMemory);
         };
         self.commit(rt, seat, gate, work, replies)
@@ -190,8 +190,8 @@ impl<J: Naming> Registry<J> {
         requires ready { status_of work ≡ Status.Ready }
         requires read { IsRead J.domain seat.old.seen work.batch work }
         requires replies { HasReplies work replies }
-        requires heard { IsPrefix seat.old.told seat.old.seen }
-        ensures goes { Goes seat.old seat.new }
+        requires heard { IsPrefix seat.old.learnt seat.old.seen }
+        ensures goes { DuringCall seat.old seat.new }
         ensures tried { IsTry seat.old seat.new work.batch result }
     {
         let (number, call) = (seat.number(), seat.calls());
@@ -220,10 +220,10 @@ impl<J: Naming> Registry<J> {
     /// Lets the seat see every item so far, including those that it has learnt of, and returns the receipt of that. It
     /// waits for the lock, and no clause says when it gets it.
     pub fn news<R: Wait>(&self, rt: &R, seat: &mut Seat<J>) -> Result<Receipt<J>, NoEntry>
-        ensures goes { Goes seat.old seat.new }
+        ensures goes { DuringCall seat.old seat.new }
         ensures lawful { IsLawfulJournal J.domain seat.new.seen }
         ensures own { (seat.new.own ≡ seat.old.own) × (calls_of seat.new.number seat.new.seen ≡ seat.new.own) }
-        ensures heard { IfOk result (λ _. IsPrefix seat.old.told seat.new.seen) }
+        ensures heard { IfOk result (λ _. IsPrefix seat.old.learnt seat.new.seen) }
         ensures receipt { MatchResult result (λ r. r ≡ seat.new.seen) (λ _. seat.new.seen ≡ seat.old.seen) }
     {
         let mut core = self.core.lock(rt);

@@ -1,6 +1,6 @@
 //! Which invariant does every step over the published value preserve?
 
-use crate::history::Naming;
+use crate::history::RegistryId;
 use crate::published::Published;
 use commit_head::Item;
 use crossbeam_utils::rule::{Outcome, Protocol};
@@ -8,26 +8,26 @@ use std::collections::LinkedList;
 use std::marker::PhantomData;
 
 /// What a pass of a reader or of the writer has seen. No value of this type is made, and no invariant of a seat mentions
-/// it: what a seat has seen is a `Front`, a token of the history.
+/// it: what a seat has seen is a `HistoryPrefix`, a token of the history.
 pub type View = LinkedList<Item>;
 
 /// The published value is of this history and trust domain, and its journal begins with what each pass has seen.
-pub struct Rule<J: Naming>(PhantomData<J>);
+pub struct Rule<J: RegistryId>(PhantomData<J>);
 
-impl<J: Naming> Protocol<Published, View> for Rule<J> {
+impl<J: RegistryId> Protocol<Published, View> for Rule<J> {
     ghost use Rattle.std.specs.Prelude.{[]};
-    ghost use Rattle.shared_registry.specs.ShownPrivate.{Keeps};
+    ghost use Rattle.shared_registry.specs.ShownPrivate.{RuleInvariant};
 
-    ghost holds = { λ x views. Keeps J.history J.domain x views };
+    ghost holds = { λ x views. RuleInvariant J.history J.domain x views };
 
     ghost first = { [] };
 }
 
 /// A step after which the pass has seen the published journal. A seat uses only that the published value is of this history
 /// and trust domain.
-pub struct Sees<J: Naming>(PhantomData<J>);
+pub struct Sees<J: RegistryId>(PhantomData<J>);
 
-impl<J: Naming> Outcome<Published, View> for Sees<J> {
+impl<J: RegistryId> Outcome<Published, View> for Sees<J> {
     ghost use Rattle.shared_registry.specs.ShownPrivate.{Saw};
 
     ghost then = { λ v x y w. Saw J.history J.domain v y w };

@@ -2,7 +2,7 @@
 
 ghost use Rattle.std.specs.Prelude.{◌≡◌, IfOk, Ok, OnOk, Some};
 ghost use Rattle.batch_work.specs.Working.{base_in, status_of};
-ghost use Rattle.shared_registry.specs.Works.{BeganAt, IsAtEnd};
+ghost use Rattle.shared_registry.specs.Works.{HasJustBegun, IsAtEnd};
 
 use crate::published::Published;
 use batch_work::{Status, Work};
@@ -21,22 +21,22 @@ fn kept_if<T: Drop>(done: Result<(), AllocError>, value: T) -> Result<T, AllocEr
 }
 
 /// Returns a work of the batch that has begun on the published state. The error is out of memory.
-pub(crate) fn begun(alloc: Global, page: &Published, batch: Batch) -> Result<Work, AllocError>
-    requires domain { batch.domain ≡ page.now.window.newest.domain }
-    ensures { IfOk result (λ work. BeganAt batch page.now work) }
+pub(crate) fn begun(alloc: Global, snapshot: &Published, batch: Batch) -> Result<Work, AllocError>
+    requires domain { batch.domain ≡ snapshot.now.window.newest.domain }
+    ensures { IfOk result (λ work. HasJustBegun batch snapshot.now work) }
 {
     let mut work = Work::new(alloc, batch);
-    let done = work.begin(page.window());
+    let done = work.begin(snapshot.window());
     kept_if(done, work)
 }
 
 /// Makes all reads of a work that has begun on the published state. The error is out of memory.
-pub(crate) fn run_to_end(page: &Published, work: &mut Work) -> Result<(), AllocError>
-    requires domain { work.old.batch.domain ≡ page.now.window.newest.domain }
-    requires began { BeganAt work.old.batch page.now work.old }
-    ensures { OnOk result (IsAtEnd work.old.batch page.now work.new) }
+pub(crate) fn run_to_end(snapshot: &Published, work: &mut Work) -> Result<(), AllocError>
+    requires domain { work.old.batch.domain ≡ snapshot.now.window.newest.domain }
+    requires began { HasJustBegun work.old.batch snapshot.now work.old }
+    ensures { OnOk result (IsAtEnd work.old.batch snapshot.now work.new) }
 {
-    let _ = page.window();
+    let _ = snapshot.window();
     let _ = work.batch().ops();
     for _ in 0..READS {
         if work.status() != Status::Running {
@@ -48,16 +48,16 @@ pub(crate) fn run_to_end(page: &Published, work: &mut Work) -> Result<(), AllocE
 }
 
 /// Returns a work that has begun on the published state, after all its reads. The error is out of memory.
-pub(crate) fn ran(page: &Published, mut work: Work) -> Result<Work, AllocError>
-    requires domain { work.batch.domain ≡ page.now.window.newest.domain }
-    requires began { BeganAt work.batch page.now work }
-    ensures { IfOk result (IsAtEnd work.batch page.now) }
+pub(crate) fn ran(snapshot: &Published, mut work: Work) -> Result<Work, AllocError>
+    requires domain { work.batch.domain ≡ snapshot.now.window.newest.domain }
+    requires began { HasJustBegun work.batch snapshot.now work }
+    ensures { IfOk result (IsAtEnd work.batch snapshot.now) }
 {
-    let done = run_to_end(page, &mut work);
+    let done = run_to_end(snapshot, &mut work);
     kept_if(done, work)
 }
 
 /// Drops a work that is over.
-pub(crate) fn let_go(work: Work) {
+pub(crate) fn discard(work: Work) {
     drop(work);
 }

@@ -6,15 +6,15 @@ ghost use Rattle.entry_book.specs.Batches.{is_query};
 ghost use Rattle.entry_book.specs.History.{books_of, reply_to};
 ghost use Rattle.commit_head.specs.Journals.{IsLawfulJournal, batches_of};
 ghost use Rattle.shared_registry.specs.Seats.{calls_of, AllBelow};
-ghost use Rattle.shared_registry.specs.Seated.{Entered, Goes, MaySee, Stays};
+ghost use Rattle.shared_registry.specs.Seated.{CaughtUp, DuringCall, MaySee, SawNothingNew};
 ghost use Rattle.shared_registry.specs.ShownPrivate.{IsOf};
 
 use crate::gate::{Gate, Point};
-use crate::history::{Front, Naming};
+use crate::history::{HistoryPrefix, RegistryId};
 use crate::published::Published;
-use crate::reading::{SeatReader, continues, find, lent_answer};
+use crate::reading::{SeatReader, continues, find, borrowed_answer};
 use crate::run::{begun, ran};
-use batch_work::{LentReply, Work};
+use batch_work::{BorrowedReply, Work};
 use commit_head::Item;
 use entry_book::{Batch, Reply};
 use std::alloc::{AllocError, Global};
@@ -39,11 +39,11 @@ pub struct NoEntry;
 
 /// What a seat had seen when it asked for news. The model in contracts is the list of items.
 #[derive(Drop)]
-pub struct Receipt<J: Naming> {
-    seen: Front<J>,
+pub struct Receipt<J: RegistryId> {
+    seen: HistoryPrefix<J>,
 }
 
-impl<J: Naming> Model for Receipt<J> {
+impl<J: RegistryId> Model for Receipt<J> {
     ghost use Rattle.std.specs.Prelude.{List};
     ghost use Rattle.commit_head.specs.declared.item.Item.{Item};
 
@@ -53,23 +53,23 @@ impl<J: Naming> Model for Receipt<J> {
 }
 
 /// One caller of a registry: its number, the number of its calls, and what it has seen. The model in contracts has lists of
-/// items, which are tokens of the history (see [`Front`]); at run time the seat has their lengths.
+/// items, which are tokens of the history (see [`HistoryPrefix`]); at run time the seat has their lengths.
 ///
 /// A seat keeps the page that it last found published, or that its own commit published since then. It replaces the page
 /// only by one with another number of items.
 #[derive(Drop)]
-pub struct Seat<J: Naming> {
+pub struct Seat<J: RegistryId> {
     alloc: Global,
     reader: Option<SeatReader<J>>,
     number: usize,
     calls: u64,
     count: u64,
-    seen: Front<J>,
-    told: Front<J>,
-    page: Published,
+    seen: HistoryPrefix<J>,
+    learnt: HistoryPrefix<J>,
+    snapshot: Published,
 }
 
-impl<J: Naming> Model for Seat<J> {
+impl<J: RegistryId> Model for Seat<J> {
     ghost use Rattle.std.specs.Prelude.{◌≡◌, ◌<◌, ◌+◌, length, IsSome};
     ghost use Rattle.shared_registry.specs.Seats.{calls_of, AllBelow};
     ghost use Rattle.shared_registry.specs.Seated.{Seated};
@@ -77,12 +77,12 @@ impl<J: Naming> Model for Seat<J> {
 
     ghost Value = { Seated };
 
-    ghost view = { λ s. record { number = s.number; calls = s.calls; seen = s.seen; told = s.told; own = calls_of s.number s.seen; found = s.page.journal } };
+    ghost view = { λ s. record { number = s.number; calls = s.calls; seen = s.seen; learnt = s.learnt; own = calls_of s.number s.seen; found = s.snapshot.journal } };
 
-    ghost invariant = { λ s. (s.number < 32) × (s.count ≡ length (calls_of s.number s.seen)) × AllBelow (s.calls + 1) (calls_of s.number s.seen) × IsSome s.reader × IsOf J.history J.domain s.page };
+    ghost invariant = { λ s. (s.number < 32) × (s.count ≡ length (calls_of s.number s.seen)) × AllBelow (s.calls + 1) (calls_of s.number s.seen) × IsSome s.reader × IsOf J.history J.domain s.snapshot };
 }
 
-impl<J: Naming> Seat<J> {
+impl<J: RegistryId> Seat<J> {
     ghost use Rattle.std.specs.Prelude.{◌≡◌, ◌<◌, ◌^◌, ◌+◌, ◌++◌, ◌∷◌, [], length, nat_lt, IfOk, MatchResult, true};
     ghost use Rattle.shared_registry.specs.Works.{IsRead};
 
@@ -123,13 +123,13 @@ impl<J: Naming> Seat<J> {
         alloc: Global,
         reader: SeatReader<J>,
         number: usize,
-        start: &Front<J>,
-        page: Published,
+        start: &HistoryPrefix<J>,
+        snapshot: Published,
     ) -> Seat<J>
         requires number { number < 32 }
         requires start { start.now ≡ [] }
-        requires page { IsOf J.history J.domain page }
-        ensures { (result.seen ≡ []) × (result.told ≡ []) × (result.own ≡ []) × (result.calls ≡ 0) }
+        requires snapshot { IsOf J.history J.domain snapshot }
+        ensures { (result.seen ≡ []) × (result.learnt ≡ []) × (result.own ≡ []) × (result.calls ≡ 0) }
     {
         Seat {
             alloc,
@@ -138,8 +138,8 @@ impl<J: Naming> Seat<J> {
             calls: 0,
             count: 0,
             seen: start.again(),
-            told: start.again(),
-            page,
+            learnt: start.again(),
+            snapshot,
         }
     }
 
@@ -157,44 +157,44 @@ impl<J: Naming> Seat<J> {
     pub(crate) fn fits(&self, published: &Published) -> bool
         requires { IsOf J.history J.domain published.now }
         ensures seen { IsTrue result → IsPrefix self.now.seen published.now.journal }
-        ensures told { IsTrue result → IsPrefix self.now.told published.now.journal }
+        ensures learnt { IsTrue result → IsPrefix self.now.learnt published.now.journal }
         ensures own { IsTrue result → calls_of self.now.number published.now.journal ≡ self.now.own }
     {
-        continues(published, &self.seen, &self.told, self.number, self.count)
+        continues(published, &self.seen, &self.learnt, self.number, self.count)
     }
 
     /// Advances the seat to a longer journal that contains no further commits of this seat.
-    pub(crate) fn see(&mut self, front: Front<J>)
-        requires seen { IsPrefix self.old.seen front }
-        requires own { calls_of self.old.number front ≡ self.old.own }
-        ensures goes { Goes self.old self.new }
+    pub(crate) fn see(&mut self, prefix: HistoryPrefix<J>)
+        requires seen { IsPrefix self.old.seen prefix }
+        requires own { calls_of self.old.number prefix ≡ self.old.own }
+        ensures goes { DuringCall self.old self.new }
         ensures own { self.new.own ≡ self.old.own }
-        ensures seen { self.new.seen ≡ front }
+        ensures seen { self.new.seen ≡ prefix }
     {
-        self.seen = front;
+        self.seen = prefix;
     }
 
     /// Advances the seat to a journal with one more item, which is the seat's own.
-    pub(crate) fn see_own(&mut self, front: Front<J>, item: &Item)
-        requires seen { front ≡ self.old.seen ++ item.now ∷ [] }
+    pub(crate) fn see_own(&mut self, prefix: HistoryPrefix<J>, item: &Item)
+        requires seen { prefix ≡ self.old.seen ++ item.now ∷ [] }
         requires seat { item.now.seat ≡ self.old.number }
         requires call { item.now.call ≡ self.old.calls }
-        ensures goes { Goes self.old self.new }
+        ensures goes { DuringCall self.old self.new }
         ensures own { self.new.own ≡ self.old.own ++ self.old.calls ∷ [] }
-        ensures seen { self.new.seen ≡ front }
+        ensures seen { self.new.seen ≡ prefix }
     {
         let _call = item.call;
-        let _items = front.len();
-        self.seen = front;
+        let _items = prefix.len();
+        self.seen = prefix;
         self.count += 1;
     }
 
     /// Replaces the page, and returns the one before.
-    pub(crate) fn turn_to(&mut self, page: Published) -> Published
-        requires page { IsOf J.history J.domain page }
-        ensures { self.new ≡ record self.old { found = page.journal } }
+    pub(crate) fn turn_to(&mut self, snapshot: Published) -> Published
+        requires snapshot { IsOf J.history J.domain snapshot }
+        ensures { self.new ≡ record self.old { found = snapshot.journal } }
     {
-        replace(&mut self.page, page)
+        replace(&mut self.snapshot, snapshot)
     }
 
     /// Takes the number of one more call.
@@ -210,35 +210,35 @@ impl<J: Naming> Seat<J> {
     /// the gate after its begin. It waits for no other thread.
     pub(crate) fn read<G: Gate>(&mut self, gate: &G, batch: Batch) -> Result<Work, NoAnswer>
         requires domain { batch.domain ≡ J.domain }
-        ensures goes { Goes self.old self.new }
+        ensures goes { DuringCall self.old self.new }
         ensures own { self.new.own ≡ self.old.own }
-        ensures heard { IfOk result (λ _. IsPrefix self.old.told self.new.seen) }
+        ensures heard { IfOk result (λ _. IsPrefix self.old.learnt self.new.seen) }
         ensures read { IfOk result (IsRead J.domain self.new.seen batch) }
     {
         let found = find(
             &mut self.reader,
-            &mut self.page,
+            &mut self.snapshot,
             &self.seen,
-            &self.told,
+            &self.learnt,
             self.number,
             self.count,
         );
-        let front = match found {
-            Ok(front) => front,
+        let prefix = match found {
+            Ok(prefix) => prefix,
             Err(why) => {
                 drop(batch);
                 return Err(why);
             }
         };
         let _made = batch.ops();
-        let _place = front.len();
-        let _window = self.page.window();
-        let Ok(work) = begun(self.alloc, &self.page, batch) else {
+        let _place = prefix.len();
+        let _window = self.snapshot.window();
+        let Ok(work) = begun(self.alloc, &self.snapshot, batch) else {
             return Err(NoAnswer::NoMemory);
         };
-        self.seen = front;
+        self.seen = prefix;
         gate.pass(Point::AfterBegin, self.number as u32, self.calls);
-        match ran(&self.page, work) {
+        match ran(&self.snapshot, work) {
             Ok(work) => Ok(work),
             Err(AllocError) => Err(NoAnswer::NoMemory),
         }
@@ -249,22 +249,22 @@ impl<J: Naming> Seat<J> {
     pub fn look(&mut self) -> Result<(), NoAnswer>
         requires has_calls { self.old.calls < 2 ^ 48 }
         ensures found { IfOk result (λ _. MaySee J.domain self.new) }
-        ensures stays { Stays J.domain self.old self.new }
+        ensures is_unchanged { SawNothingNew J.domain self.old self.new }
         ensures own { self.new.own ≡ self.old.own }
     {
         let _before = self.seen.len();
         self.calls += 1;
         let found = find(
             &mut self.reader,
-            &mut self.page,
+            &mut self.snapshot,
             &self.seen,
-            &self.told,
+            &self.learnt,
             self.number,
             self.count,
         );
         match found {
-            Ok(front) => {
-                let _after = front.len();
+            Ok(prefix) => {
+                let _after = prefix.len();
                 Ok(())
             }
             Err(why) => Err(why),
@@ -274,14 +274,14 @@ impl<J: Naming> Seat<J> {
     /// Returns the answer to a query, on the books of what the seat has found; the answer borrows its rows from the seat.
     /// The seat must have found it by a look or by its own commit. It waits for no other thread. The only error is a failed
     /// allocation.
-    pub fn answer(&self, batch: &Batch) -> Result<LentReply<'_>, AllocError>
+    pub fn answer(&self, batch: &Batch) -> Result<BorrowedReply<'_>, AllocError>
         requires found { MaySee J.domain self.now }
         requires query { is_query batch.now.ops ≡ true }
         requires domain { batch.now.domain ≡ J.domain }
         ensures answer { IfOk result (λ reply. reply ≡ reply_to batch.now (books_of (batches_of self.now.found))) }
         ensures place { IfOk result (λ reply. reply.place ≡ length self.now.found) }
     {
-        lent_answer(self.alloc, &self.page, batch)
+        borrowed_answer(self.alloc, &self.snapshot, batch)
     }
 
     /// Lets the seat see what it has found. Takes no memory.
@@ -289,7 +289,7 @@ impl<J: Naming> Seat<J> {
         requires found { MaySee J.domain self.old }
         ensures { self.new ≡ record self.old { seen = self.old.found } }
     {
-        self.seen = self.page.front();
+        self.seen = self.snapshot.prefix();
     }
 
     /// Returns the answer to a query, on the books of what is then seen. The answer owns its rows. It waits for no other
@@ -300,7 +300,7 @@ impl<J: Naming> Seat<J> {
         requires domain { batch.now.domain ≡ J.domain }
         ensures answer { IfOk result (λ reply. reply ≡ reply_to batch.now (books_of (batches_of self.new.seen))) }
         ensures place { IfOk result (λ reply. reply.place ≡ length self.new.seen) }
-        ensures entered { MatchResult result (λ _. Entered J.domain self.old self.new) (λ _. Stays J.domain self.old self.new) }
+        ensures entered { MatchResult result (λ _. CaughtUp J.domain self.old self.new) (λ _. SawNothingNew J.domain self.old self.new) }
         ensures own { self.new.own ≡ self.old.own }
     {
         self.look()?;
@@ -322,18 +322,18 @@ impl<J: Naming> Seat<J> {
         ensures answer { IfOk result (λ reply. reply ≡ reply_to batch.now (books_of (batches_of self.now.found))) }
         ensures place { IfOk result (λ reply. reply.place ≡ length self.now.found) }
     {
-        let lent = self.answer(batch)?;
-        let reply = lent.kept(self.alloc);
-        drop(lent);
+        let borrowed = self.answer(batch)?;
+        let reply = borrowed.kept(self.alloc);
+        drop(borrowed);
         reply
     }
 
     /// Makes later queries and submits begin with what the receipt's seat had seen. It waits for no other thread and takes
     /// no memory.
     pub fn learn(&mut self, receipt: &Receipt<J>)
-        ensures told { IsPrefix receipt.now self.new.told × IsPrefix self.old.told self.new.told }
+        ensures learnt { IsPrefix receipt.now self.new.learnt × IsPrefix self.old.learnt self.new.learnt }
         ensures seen { (self.new.seen ≡ self.old.seen) × (self.new.own ≡ self.old.own) × (self.new.number ≡ self.old.number) × (self.new.calls ≡ self.old.calls) × (self.new.found ≡ self.old.found) }
     {
-        self.told = self.told.longer(&receipt.seen);
+        self.learnt = self.learnt.longer(&receipt.seen);
     }
 }

@@ -6,7 +6,7 @@ use crate::talks::{THREADS, Talk, lines_of};
 use crate::telling::{kind_of, place_of};
 use crate::turnstile::Turnstile;
 use crate::wanted::{holds, is_number, is_text};
-use shared_registry::{Naming, Seat};
+use shared_registry::{RegistryId, Seat};
 use std::alloc::Global;
 use std::process::Abort;
 use std::sync::Wait;
@@ -18,12 +18,12 @@ use test_batches::{batch_text, below};
 #[derive(Drop)]
 pub struct Call {
     pub text: String,
-    pub told: String,
+    pub as_text: String,
 }
 
 /// Returns true if the reply is that to a batch, and not to a letter.
 pub fn is_of_batch(call: &Call) -> bool {
-    !matches!(kind_of(call.told.as_str()), "sent" | "taken")
+    !matches!(kind_of(call.as_text.as_str()), "sent" | "taken")
 }
 
 /// A random batch, with a number of tries.
@@ -44,43 +44,43 @@ fn text_of(alloc: Global, line: &str, state: &mut u64, place: u64) -> Result<Str
 }
 
 /// Asserts the replies to the operations, which follow the outcome and its place, if the line has any.
-fn check_told(rt: &impl Abort, line: &str, told: &str) {
-    if let Some((_, want)) = line.split_once(" => ") {
-        let (_, replies) = told.split_once("; ").unwrap_or((told, ""));
-        is_text(rt, replies, want, line);
+fn check_text(rt: &impl Abort, line: &str, as_text: &str) {
+    if let Some((_, expected)) = line.split_once(" => ") {
+        let (_, replies) = as_text.split_once("; ").unwrap_or((as_text, ""));
+        is_text(rt, replies, expected, line);
     }
 }
 
 /// Checks the place of a reply, which is the place that the seat has then seen, or that of the first commit for a repeated batch. The
 /// seat has seen at least what it had seen or was informed of before, and more after a conflict. Returns the least place that the next
 /// call must see: the seat is informed of the place of a letter.
-fn check_place(rt: &impl Abort, told: &str, least: u64, seen: u64) -> Result<u64, Failed> {
-    let place = place_of(told)?;
-    let kind = kind_of(told);
+fn check_place(rt: &impl Abort, as_text: &str, least: u64, seen: u64) -> Result<u64, Failed> {
+    let place = place_of(as_text)?;
+    let kind = kind_of(as_text);
     if kind == "taken" {
         return Ok(least.max(place));
     }
     if kind != "repeated" {
-        is_number(rt, seen, place, told);
+        is_number(rt, seen, place, as_text);
     }
-    holds(rt, seen >= least, told);
-    holds(rt, kind != "conflict" || seen > least, told);
+    holds(rt, seen >= least, as_text);
+    holds(rt, kind != "conflict" || seen > least, as_text);
     Ok(seen)
 }
 
-fn calls_once<J: Naming, R: Wait + Clock>(
+fn calls_once<J: RegistryId, R: Wait + Clock>(
     site: &Site<J, R>,
     seat: &mut Seat<J>,
     gate: &Turnstile<R>,
     thread: u64,
     text: String,
 ) -> Result<Call, Failed> {
-    let told = site.answer(seat, gate, thread, text.as_str())?;
-    Ok(Call { text, told })
+    let as_text = site.answer(seat, gate, thread, text.as_str())?;
+    Ok(Call { text, as_text })
 }
 
 /// The calls of a seat that runs these lines.
-fn calls_of<J: Naming, R: Wait + Clock + Abort>(
+fn calls_of<J: RegistryId, R: Wait + Clock + Abort>(
     site: &Site<J, R>,
     seat: &mut Seat<J>,
     gate: &Turnstile<R>,
@@ -92,8 +92,8 @@ fn calls_of<J: Naming, R: Wait + Clock + Abort>(
     for line in lines.lines() {
         let text = text_of(site.alloc, line, &mut state, seat.place())?;
         let call = calls_once(site, seat, gate, thread, text)?;
-        check_told(site.rt, line, call.told.as_str());
-        least = check_place(site.rt, call.told.as_str(), least, seat.place())?;
+        check_text(site.rt, line, call.as_text.as_str());
+        least = check_place(site.rt, call.as_text.as_str(), least, seat.place())?;
         calls.push(call)?;
     }
     Ok(calls)
@@ -109,7 +109,7 @@ fn check_count(rt: &impl Abort, calls: &[Call], count: u64) {
 }
 
 /// The calls of one thread, which has a seat of its own.
-fn calls_of_thread<J: Naming, R: Wait + Clock + Abort>(
+fn calls_of_thread<J: RegistryId, R: Wait + Clock + Abort>(
     site: &Site<J, R>,
     gate: &Turnstile<R>,
     talk: Talk,
@@ -123,7 +123,7 @@ fn calls_of_thread<J: Naming, R: Wait + Clock + Abort>(
 }
 
 /// The same. Afterwards, no other thread waits for this one at the gate.
-fn thread_calls<J: Naming, R: Wait + Clock + Abort>(
+fn thread_calls<J: RegistryId, R: Wait + Clock + Abort>(
     site: &Site<J, R>,
     gate: &Turnstile<R>,
     talk: Talk,
@@ -145,7 +145,7 @@ fn joined(alloc: Global, done: Vec<Result<Vec<Call>, Failed>>) -> Result<Vec<Cal
 }
 
 /// The calls of all threads.
-pub fn calls_of_all<J: Naming + Send + Sync, R: Threads + Wait + Clock + Abort + Sync>(
+pub fn calls_of_all<J: RegistryId + Send + Sync, R: Threads + Wait + Clock + Abort + Sync>(
     site: &Site<J, R>,
     gate: &Turnstile<R>,
     talk: Talk,

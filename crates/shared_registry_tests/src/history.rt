@@ -11,7 +11,7 @@ use crate::turnstile::Turnstile;
 use crate::wanted::{holds, is_number, is_text};
 use entry_book::{Batch, Reply};
 use plain_book::PlainBook;
-use shared_registry::{Naming, Point};
+use shared_registry::{RegistryId, Point};
 use std::alloc::Global;
 use std::env;
 use std::process::Abort;
@@ -34,8 +34,8 @@ type Turn = (u64, bool, usize);
 fn in_order(alloc: Global, calls: &[Call]) -> Result<Vec<Turn>, Failed> {
     let mut order = Vec::new(alloc);
     for (index, call) in calls.iter().enumerate() {
-        let told = call.told.as_str();
-        order.push((place_of(told)?, kind_of(told) != "committed", index))?;
+        let as_text = call.as_text.as_str();
+        order.push((place_of(as_text)?, kind_of(as_text) != "committed", index))?;
     }
     order.sort()?;
     Ok(order)
@@ -49,7 +49,7 @@ fn plain_reply(book: &mut PlainBook, batch: &Batch) -> Result<Reply, Failed> {
     Ok(book.run(batch)?)
 }
 
-fn told_by(alloc: Global, reply: Reply) -> Result<String, Failed> {
+fn text_by(alloc: Global, reply: Reply) -> Result<String, Failed> {
     Ok(reply_text(alloc, &reply)?)
 }
 
@@ -58,7 +58,7 @@ fn plain_text(alloc: Global, book: &mut PlainBook, text: &str) -> Result<String,
     let batch = batch(alloc, without_tries(text))?;
     let reply = plain_reply(book, &batch);
     drop(batch);
-    told_by(alloc, reply?)
+    text_by(alloc, reply?)
 }
 
 /// Asserts that the plain book gives the same reply as the call got; the book is at the call's place, or one before it. The plain book
@@ -69,13 +69,13 @@ fn check_call(
     book: &mut PlainBook,
     call: &Call,
 ) -> Result<(), Failed> {
-    let (text, told) = (call.text.as_str(), call.told.as_str());
-    if !is_of_batch(call) || kind_of(told) == "conflict" {
+    let (text, as_text) = (call.text.as_str(), call.as_text.as_str());
+    if !is_of_batch(call) || kind_of(as_text) == "conflict" {
         return Ok(());
     }
-    let want = plain_text(alloc, book, text)?;
-    is_text(rt, told, want.as_str(), text);
-    is_number(rt, book.place(), place_of(told)?, text);
+    let expected = plain_text(alloc, book, text)?;
+    is_text(rt, as_text, expected.as_str(), text);
+    is_number(rt, book.place(), place_of(as_text)?, text);
     Ok(())
 }
 
@@ -113,7 +113,7 @@ fn check_places(rt: &impl Abort, order: &[Turn], place: u64) {
 fn count_of(calls: &[Call], kind: &str) -> u64 {
     let mut count: u64 = 0;
     for call in calls {
-        count = count.wrapping_add((kind_of(call.told.as_str()) == kind) as u64);
+        count = count.wrapping_add((kind_of(call.as_text.as_str()) == kind) as u64);
     }
     count
 }
@@ -130,9 +130,9 @@ fn counts_text(alloc: Global, calls: &[Call], begun: u64) -> Result<String, Fail
 }
 
 /// Asserts these counts. If none are given, prints them and asserts that none is 0.
-fn check_counts(rt: &(impl Abort + Print), counts: &str, want: &str) -> Result<(), Failed> {
-    if !want.is_empty() {
-        is_text(rt, counts, want, "counts");
+fn check_counts(rt: &(impl Abort + Print), counts: &str, expected: &str) -> Result<(), Failed> {
+    if !expected.is_empty() {
+        is_text(rt, counts, expected, "counts");
         return Ok(());
     }
     println!(rt; "{counts}")?;
@@ -161,10 +161,10 @@ fn check_list(
 
 /// Runs a talk of eight threads, and asserts that one list of committed batches explains it, and the number of calls with each kind of
 /// reply. All first batches begin before one of them goes on.
-pub fn explains<J: Naming + Send + Sync, R: Threads + Wait + Clock + Abort + Print + Sync>(
+pub fn explains<J: RegistryId + Send + Sync, R: Threads + Wait + Clock + Abort + Print + Sync>(
     site: &Site<J, R>,
     talk: Talk,
-    want: &str,
+    expected: &str,
 ) -> Result<(), Failed> {
     let gate = Turnstile::new(site.rt, Point::AfterBegin, 0, THREADS);
     let calls = calls_of_all(site, &gate, talk)?;
@@ -172,7 +172,7 @@ pub fn explains<J: Naming + Send + Sync, R: Threads + Wait + Clock + Abort + Pri
     let place = site.place()?;
     check_list(site.rt, site.alloc, talk, calls.as_slice(), place)?;
     let counts = counts_text(site.alloc, calls.as_slice(), begun)?;
-    check_counts(site.rt, counts.as_str(), want)
+    check_counts(site.rt, counts.as_str(), expected)
 }
 
 /// The word after the test's name, if the program gets one, is the number of calls.

@@ -69,7 +69,7 @@ fn of_two_creates_of_a_group_one_is_a_conflict(rt: HostRuntime) -> Result<(), Fa
 }
 
 #[test]
-fn a_conflict_comes_after_all_tries(rt: HostRuntime) -> Result<(), Fail> {
+fn a_conflict_is_answered_after_all_tries(rt: HostRuntime) -> Result<(), Fail> {
     plays(&rt, rt.alloc(), ALL_TRIES)
 }
 
@@ -79,6 +79,6 @@ fn the_last_try_commits_that_is_not_overtaken(rt: HostRuntime) -> Result<(), Fai
 }
 
 #[test]
-fn a_query_answers_beside_a_batch_under_the_lock(rt: HostRuntime) -> Result<(), Fail> {
+fn a_query_answers_during_a_batch_under_the_lock(rt: HostRuntime) -> Result<(), Fail> {
     plays(&rt, rt.alloc(), UNDER_THE_LOCK)
 }

@@ -7,7 +7,7 @@ use crate::history::explains;
 use crate::scripts::plays_script;
 use crate::site::Site;
 use crate::talks::Talk;
-use shared_registry::{Naming, Opened};
+use shared_registry::{RegistryId, NewHistory};
 use spiffe_name::TrustDomain;
 use std::alloc::Global;
 use std::marker::Brand;
@@ -26,7 +26,7 @@ enum Play<'a> {
     Talk(Talk, &'a str),
 }
 
-fn plays_on<J: Naming + Send + Sync, R: Threads + Wait + Clock + Abort + Print + Sync>(
+fn plays_on<J: RegistryId + Send + Sync, R: Threads + Wait + Clock + Abort + Print + Sync>(
     site: &Site<J, R>,
     play: Play,
 ) -> Result<(), Failed> {
@@ -37,18 +37,18 @@ fn plays_on<J: Naming + Send + Sync, R: Threads + Wait + Clock + Abort + Print +
 }
 
 /// Opens a site with this history and trust domain, runs the play there, and closes it.
-fn plays_at<J: Naming + Send + Sync, R: Threads + Wait + Clock + Abort + Print + Sync>(
+fn plays_at<J: RegistryId + Send + Sync, R: Threads + Wait + Clock + Abort + Print + Sync>(
     rt: &R,
     alloc: Global,
-    opened: Opened,
+    new_history: NewHistory,
     domain: TrustDomain,
-    own: TrustDomain,
+    own_domain: TrustDomain,
     play: Play,
 ) -> Result<(), Failed>
-    requires history { opened.seen.book ≡ J.history }
-    requires domain { (domain ≡ J.domain) × (own ≡ J.domain) }
+    requires history { new_history.seen.book ≡ J.history }
+    requires domain { (domain ≡ J.domain) × (own_domain ≡ J.domain) }
 {
-    let site = Site::<J, R>::open(rt, alloc, opened, domain, own)?;
+    let site = Site::<J, R>::open(rt, alloc, new_history, domain, own_domain)?;
     let played = plays_on(&site, play);
     site.close();
     played
@@ -61,8 +61,8 @@ fn plays_anew<R: Threads + Wait + Clock + Abort + Print + Sync>(
     play: Play,
 ) -> Result<(), Fail> {
     let domain = trust_domain(alloc, "ex.org")?;
-    let own = domain.clone()?;
-    let played = plays_at::<Brand, R>(rt, alloc, Opened::new(), domain, own, play);
+    let own_domain = domain.clone()?;
+    let played = plays_at::<Brand, R>(rt, alloc, NewHistory::new(), domain, own_domain, play);
     as_fail(played)
 }
 

@@ -12,14 +12,14 @@ use crate::site::Site;
 use crate::telling::seat_text;
 use crate::turnstile::Turnstile;
 use crate::wanted::is_text;
-use shared_registry::{Naming, OpenGate, Point, Seat};
+use shared_registry::{RegistryId, OpenGate, Point, Seat};
 use std::process::Abort;
 use std::sync::Wait;
 use std::thread::{Threads, join};
 use std::time::Clock;
 
 /// The answer to the seat whose number begins the line.
-fn seat_answer<J: Naming, R: Wait + Clock>(
+fn seat_answer<J: RegistryId, R: Wait + Clock>(
     site: &Site<J, R>,
     seats: &mut [Seat<J>],
     line: &str,
@@ -33,25 +33,25 @@ fn seat_answer<J: Naming, R: Wait + Clock>(
 }
 
 /// Takes a seat, and returns its text.
-fn takes_seat<J: Naming, R: Wait + Clock>(
+fn takes_seat<J: RegistryId, R: Wait + Clock>(
     site: &Site<J, R>,
     seats: &mut Vec<Seat<J>>,
 ) -> Result<String, Failed> {
     let seat = site.seat()?;
-    let told = seat_text(site.alloc, &seat)?;
+    let as_text = seat_text(site.alloc, &seat)?;
     seats.push(seat)?;
-    Ok(told)
+    Ok(as_text)
 }
 
 /// Whether another seat is left.
-fn seat_left<J: Naming, R: Wait + Clock>(site: &Site<J, R>) -> &'static str {
+fn seat_left<J: RegistryId, R: Wait + Clock>(site: &Site<J, R>) -> &'static str {
     match site.seat() {
         Ok(_) => "one",
         Err(_) => "none",
     }
 }
 
-fn answer<J: Naming, R: Wait + Clock>(
+fn answer<J: RegistryId, R: Wait + Clock>(
     site: &Site<J, R>,
     seats: &mut Vec<Seat<J>>,
     line: &str,
@@ -76,26 +76,26 @@ fn question_of(line: &str) -> &str {
 }
 
 /// Asserts the answer that the line expects, if it has one.
-fn check_told(rt: &impl Abort, line: &str, told: &str) {
-    if let Some((question, want)) = line.split_once(" => ") {
-        is_text(rt, told, want, question);
+fn check_text(rt: &impl Abort, line: &str, as_text: &str) {
+    if let Some((question, expected)) = line.split_once(" => ") {
+        is_text(rt, as_text, expected, question);
     }
 }
 
-fn plays_lines<J: Naming, R: Wait + Clock + Abort>(
+fn plays_lines<J: RegistryId, R: Wait + Clock + Abort>(
     site: &Site<J, R>,
     seats: &mut Vec<Seat<J>>,
     lines: &str,
 ) -> Result<(), Failed> {
     for line in lines.lines() {
-        let told = answer(site, seats, question_of(line))?;
-        check_told(site.rt, line, told.as_str());
+        let as_text = answer(site, seats, question_of(line))?;
+        check_text(site.rt, line, as_text.as_str());
     }
     Ok(())
 }
 
 /// Runs a line when the held batch has reached its point this many times, and then lets it continue.
-fn plays_beside<J: Naming, R: Wait + Clock + Abort>(
+fn plays_concurrently<J: RegistryId, R: Wait + Clock + Abort>(
     site: &Site<J, R>,
     seats: &mut [Seat<J>],
     gate: &Turnstile<R>,
@@ -105,13 +105,13 @@ fn plays_beside<J: Naming, R: Wait + Clock + Abort>(
     if !gate.holds(count) {
         return Err(Failed("nobody came, as where there is no memory for a thread"));
     }
-    let told = seat_answer(site, seats, question_of(line))?;
-    check_told(site.rt, line, told.as_str());
+    let as_text = seat_answer(site, seats, question_of(line))?;
+    check_text(site.rt, line, as_text.as_str());
     gate.lets_on(count);
     Ok(())
 }
 
-fn plays_all_beside<J: Naming, R: Wait + Clock + Abort>(
+fn plays_all_concurrently<J: RegistryId, R: Wait + Clock + Abort>(
     site: &Site<J, R>,
     seats: &mut [Seat<J>],
     gate: &Turnstile<R>,
@@ -120,54 +120,54 @@ fn plays_all_beside<J: Naming, R: Wait + Clock + Abort>(
     let mut count: u64 = 0;
     for line in lines.lines() {
         count = count.wrapping_add(1);
-        plays_beside(site, seats, gate, line, count)?;
+        plays_concurrently(site, seats, gate, line, count)?;
     }
     Ok(())
 }
 
 /// Runs the lines while the batch is held. Afterwards it is held no longer, whatever the result.
-fn overtakes<J: Naming, R: Wait + Clock + Abort>(
+fn overtakes<J: RegistryId, R: Wait + Clock + Abort>(
     site: &Site<J, R>,
     seats: &mut [Seat<J>],
     gate: &Turnstile<R>,
     lines: &str,
 ) -> Result<(), Failed> {
-    let played = plays_all_beside(site, seats, gate, lines);
+    let played = plays_all_concurrently(site, seats, gate, lines);
     gate.opens();
     played
 }
 
 /// The reply to the batch that a line holds. It makes no assertions, since the concurrent lines may have failed.
-fn is_held<J: Naming, R: Wait + Clock>(
+fn is_held<J: RegistryId, R: Wait + Clock>(
     site: &Site<J, R>,
     seat: &mut Seat<J>,
     gate: &Turnstile<R>,
     line: &str,
 ) -> Result<String, Failed> {
     let (_, text) = line.split_once(": ").unwrap_or((line, ""));
-    let told = site.answer(seat, gate, 0, text);
+    let as_text = site.answer(seat, gate, 0, text);
     gate.leaves();
-    told
+    as_text
 }
 
 /// The reply to the last seat's batch, which the first of the lines holds; the other lines run concurrently.
-fn told_beside<J: Naming + Send + Sync, R: Threads + Wait + Clock + Abort + Sync>(
+fn concurrent_text<J: RegistryId + Send + Sync, R: Threads + Wait + Clock + Abort + Sync>(
     site: &Site<J, R>,
     seats: &mut [Seat<J>],
     gate: &Turnstile<R>,
     lines: &str,
 ) -> Result<String, Failed> {
-    let (line, beside) = lines.split_once("\n").unwrap_or((lines, ""));
+    let (line, concurrent) = lines.split_once("\n").unwrap_or((lines, ""));
     let Some((held, others)) = seats.split_last_mut() else {
         return Err(Failed("no seat in a script"));
     };
-    let (told, played) = join(
+    let (as_text, played) = join(
         site.rt,
         || is_held(site, held, gate, line),
-        || overtakes(site, others, gate, beside),
+        || overtakes(site, others, gate, concurrent),
     );
     played?;
-    told
+    as_text
 }
 
 /// The point at which a line holds a batch.
@@ -179,20 +179,20 @@ fn point_of(line: &str) -> Point {
 }
 
 /// How often the batch that the first line holds reached its point, and the reply to it.
-fn plays_held<J: Naming + Send + Sync, R: Threads + Wait + Clock + Abort + Sync>(
+fn plays_held<J: RegistryId + Send + Sync, R: Threads + Wait + Clock + Abort + Sync>(
     site: &Site<J, R>,
     seats: &mut Vec<Seat<J>>,
     lines: &str,
 ) -> Result<String, Failed> {
     let last = seats.len().saturating_sub(1);
     let gate = Turnstile::new(site.rt, point_of(lines), last, u64::MAX);
-    let told = told_beside(site, seats.as_mut_slice(), &gate, lines)?;
-    let (passes, told) = (gate.passes()?, told.as_str());
-    Ok(format!(in site.alloc; "{passes}; {told}")?)
+    let as_text = concurrent_text(site, seats.as_mut_slice(), &gate, lines)?;
+    let (passes, as_text) = (gate.passes()?, as_text.as_str());
+    Ok(format!(in site.alloc; "{passes}; {as_text}")?)
 }
 
 /// Runs a script.
-pub fn plays_script<J: Naming + Send + Sync, R: Threads + Wait + Clock + Abort + Sync>(
+pub fn plays_script<J: RegistryId + Send + Sync, R: Threads + Wait + Clock + Abort + Sync>(
     site: &Site<J, R>,
     script: &str,
 ) -> Result<(), Failed> {
@@ -200,9 +200,9 @@ pub fn plays_script<J: Naming + Send + Sync, R: Threads + Wait + Clock + Abort +
     let (before, rest) = script.split_once("HOLD ").unwrap_or((script, ""));
     plays_lines(site, &mut seats, before)?;
     if let Some((lines, rest)) = rest.split_once("DONE => ") {
-        let (want, after) = rest.split_once("\n").unwrap_or((rest, ""));
-        let told = plays_held(site, &mut seats, lines)?;
-        is_text(site.rt, told.as_str(), want, "DONE");
+        let (expected, after) = rest.split_once("\n").unwrap_or((rest, ""));
+        let as_text = plays_held(site, &mut seats, lines)?;
+        is_text(site.rt, as_text.as_str(), expected, "DONE");
         plays_lines(site, &mut seats, after)?;
     }
     Ok(())

@@ -118,7 +118,7 @@ KEPT => 968
 ";
 
 #[test]
-fn a_seat_is_told_what_became_of_each_batch(rt: HostRuntime) -> Result<(), Fail> {
+fn a_seat_gets_the_outcome_of_each_batch(rt: HostRuntime) -> Result<(), Fail> {
     plays(&rt, rt.alloc(), ONE_SEAT)
 }
 

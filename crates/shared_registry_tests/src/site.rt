@@ -8,7 +8,7 @@ use crate::telling::{outcome_text, seat_text};
 use crate::turnstile::TURNS;
 use entry_book::Batch;
 use shared_registry::{
-    Answer, Gate, Naming, OpenGate, Opened, Outcome, Receipt, Registry, Seat, commits_law,
+    Answer, Gate, RegistryId, OpenGate, NewHistory, Outcome, Receipt, Registry, Seat, commits_law,
 };
 use spiffe_name::TrustDomain;
 use std::alloc::Global;
@@ -16,11 +16,11 @@ use std::collections::VecDeque;
 use std::sync::{Mutex, Wait};
 use std::thread;
 use std::time::{Clock, Duration};
-use test_batches::{batch, placed, reply_text};
+use test_batches::{batch, kind_at_place, reply_text};
 
 /// What one seat sends to another: a receipt, and the place up to which it had then seen.
 #[derive(Drop)]
-struct Letter<J: Naming> {
+struct Letter<J: RegistryId> {
     receipt: Receipt<J>,
     place: u64,
 }
@@ -29,7 +29,7 @@ struct Letter<J: Naming> {
 type Mailbox<J> = Mutex<VecDeque<Letter<J>>>;
 
 /// One mailbox for each thread.
-fn mailboxes<J: Naming>(alloc: Global) -> Result<Vec<Mailbox<J>>, Failed> {
+fn mailboxes<J: RegistryId>(alloc: Global) -> Result<Vec<Mailbox<J>>, Failed> {
     let mut mailboxes = Vec::new(alloc);
     for _ in 0..THREADS {
         mailboxes.push(Mutex::new(VecDeque::new(alloc)))?;
@@ -55,54 +55,54 @@ pub fn without_tries(text: &str) -> &str {
 }
 
 /// The reply to a query, alternately with borrowed and with owned rows from call to call. It has no `Wait` handle.
-fn query<J: Naming>(
+fn query<J: RegistryId>(
     registry: &Registry<J>,
     alloc: Global,
-    own: &TrustDomain,
+    own_domain: &TrustDomain,
     seat: &mut Seat<J>,
     batch: Batch,
 ) -> Result<Answer, Failed>
-    requires { own.now ≡ J.domain }
+    requires { own_domain.now ≡ J.domain }
 {
-    if batch.domain() != own || !batch.is_query() || !seat.has_calls() {
+    if batch.domain() != own_domain || !batch.is_query() || !seat.has_calls() {
         return Err(Failed("a batch isn't for a query"));
     }
     if !seat.calls().is_multiple_of(2) {
         return Ok(registry.query(seat, &batch)?);
     }
     seat.look()?;
-    let lent = seat.answer(&batch)?;
-    let reply = lent.kept(alloc);
-    drop(lent);
+    let borrowed = seat.answer(&batch)?;
+    let reply = borrowed.kept(alloc);
+    drop(borrowed);
     drop(batch);
     seat.see_found();
     Ok(reply?)
 }
 
 /// Commits a batch of changes, and returns the reply to a query on what the seat has then seen, without looking for news.
-fn query_after<J: Naming, R: Wait>(
+fn query_after<J: RegistryId, R: Wait>(
     rt: &R,
     registry: &Registry<J>,
     alloc: Global,
-    own: &TrustDomain,
+    own_domain: &TrustDomain,
     seat: &mut Seat<J>,
     changes: Batch,
     query: &Batch,
 ) -> Result<Answer, Failed>
-    requires { own.now ≡ J.domain }
+    requires { own_domain.now ≡ J.domain }
 {
-    if changes.domain() != own || changes.is_query() || !seat.has_calls() {
+    if changes.domain() != own_domain || changes.is_query() || !seat.has_calls() {
         return Err(Failed("a batch isn't to be handed in"));
     }
-    if query.domain() != own || !query.is_query() {
+    if query.domain() != own_domain || !query.is_query() {
         return Err(Failed("a batch isn't for a query"));
     }
     commits_law();
     match registry.submit(rt, seat, &OpenGate, changes, 1) {
         Outcome::Committed(_) => {
-            let lent = seat.answer(query)?;
-            let reply = lent.kept(alloc);
-            drop(lent);
+            let borrowed = seat.answer(query)?;
+            let reply = borrowed.kept(alloc);
+            drop(borrowed);
             Ok(reply?)
         }
         _ => Err(Failed("a batch isn't committed")),
@@ -110,41 +110,41 @@ fn query_after<J: Naming, R: Wait>(
 }
 
 /// Learns a receipt. It has no `Wait` handle, either.
-fn learn<J: Naming>(seat: &mut Seat<J>, receipt: &Receipt<J>) {
+fn learn<J: RegistryId>(seat: &mut Seat<J>, receipt: &Receipt<J>) {
     seat.learn(receipt);
 }
 
 /// A registry, its trust domain, and the mailboxes of its seats, with what threads need to use it.
-pub struct Site<'a, J: Naming, R: Wait + Clock> {
+pub struct Site<'a, J: RegistryId, R: Wait + Clock> {
     pub rt: &'a R,
     pub alloc: Global,
     registry: Registry<J>,
     domain: TrustDomain,
     mailboxes: Vec<Mailbox<J>>,
-    ghost own: { domain ≡ J.domain },
+    ghost own_domain: { domain ≡ J.domain },
 }
 
-impl<'a, J: Naming, R: Wait + Clock> Site<'a, J, R> {
+impl<'a, J: RegistryId, R: Wait + Clock> Site<'a, J, R> {
     ghost use Rattle.std.specs.Prelude.{◌≡◌};
 
     /// A site with this history and trust domain, which is passed twice.
     pub fn open(
         rt: &'a R,
         alloc: Global,
-        opened: Opened,
+        new_history: NewHistory,
         domain: TrustDomain,
-        own: TrustDomain,
+        own_domain: TrustDomain,
     ) -> Result<Site<'a, J, R>, Failed>
-        requires history { opened.seen.book ≡ J.history }
-        requires domain { (domain ≡ J.domain) × (own ≡ J.domain) }
+        requires history { new_history.seen.book ≡ J.history }
+        requires domain { (domain ≡ J.domain) × (own_domain ≡ J.domain) }
     {
-        let registry = Registry::<J>::new(alloc, opened, domain)?;
+        let registry = Registry::<J>::new(alloc, new_history, domain)?;
         match mailboxes(alloc) {
             Ok(mailboxes) => Ok(Site {
                 rt,
                 alloc,
                 registry,
-                domain: own,
+                domain: own_domain,
                 mailboxes,
             }),
             Err(failed) => {
@@ -256,7 +256,7 @@ impl<'a, J: Naming, R: Wait + Clock> Site<'a, J, R> {
         let receipt = self.registry.news(self.rt, seat)?;
         let place = seat.place();
         self.posts(Letter { receipt, place }, to)?;
-        Ok(placed(self.alloc, "sent", place)?)
+        Ok(kind_at_place(self.alloc, "sent", place)?)
     }
 
     /// Waits for a letter.
@@ -280,7 +280,7 @@ impl<'a, J: Naming, R: Wait + Clock> Site<'a, J, R> {
         let place = letter.place;
         learn(seat, &letter.receipt);
         drop(letter);
-        Ok(placed(self.alloc, "taken", place)?)
+        Ok(kind_at_place(self.alloc, "taken", place)?)
     }
 
     /// The answer to a seat, with the mailbox of a number, that runs a line. `SEND 2` sends a receipt to mailbox 2, `TAKE` waits for a

@@ -19,7 +19,7 @@ fn a_token_of_many_threads_commits_once(rt: HostRuntime) -> Result<(), Fail> {
 
 /// Receipts go round a ring of eight threads.
 #[test]
-fn a_query_shows_all_that_receipts_told(rt: HostRuntime) -> Result<(), Fail> {
+fn a_query_shows_all_that_receipts_pass_on(rt: HostRuntime) -> Result<(), Fail> {
     let counts = "committed 160; repeated 0; refused 0; conflict 0; answered 1056; begun 160";
     talks(&rt, rt.alloc(), Talk::Ring, counts)
 }

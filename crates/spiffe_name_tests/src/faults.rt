@@ -51,16 +51,16 @@ fn fault(rt: &impl Abort, alloc: Global, kind: &str, text: &str) -> Result<&'sta
 }
 
 /// Expands `START*COUNT PIECE` to the start and that many copies of the piece. A text without a star stays as it is.
-fn text_of(alloc: Global, told: &str) -> Result<String, Fail> {
-    let (start, pieces) = told.split_once('*').unwrap_or((told, "0 "));
+fn text_of(alloc: Global, as_text: &str) -> Result<String, Fail> {
+    let (start, pieces) = as_text.split_once('*').unwrap_or((as_text, "0 "));
     let (count, piece) = pieces.split_once(' ').unwrap_or((pieces, ""));
     let pieces = piece.repeat(alloc, count.parse::<usize>()?)?;
     Ok(format!(in alloc; "{start}{pieces}")?)
 }
 
 fn check_line(rt: &impl Abort, alloc: Global, kind: &str, line: &str) -> Result<(), Fail> {
-    let (code, told) = line.split_once(' ').unwrap_or((line, ""));
-    let text = text_of(alloc, told)?;
+    let (code, as_text) = line.split_once(' ').unwrap_or((line, ""));
+    let text = text_of(alloc, as_text)?;
     is_text(rt, fault(rt, alloc, kind, text.as_str())?, code, line);
     Ok(())
 }

@@ -106,11 +106,11 @@ fn has_parts(rt: &impl Abort, alloc: Global, line: &str) -> Result<(), Fail> {
 }
 
 /// Asserts that the ID of a trust domain's server is this one, and that the domain equals its clone.
-fn has_server(rt: &impl Abort, alloc: Global, text: &str, want: &str) -> Result<(), Fail> {
+fn has_server(rt: &impl Abort, alloc: Global, text: &str, expected: &str) -> Result<(), Fail> {
     let domain = domain_of(alloc, text)?;
     holds(rt, domain.clone()? == domain, text);
     let server = SpiffeId::server_of(alloc, &domain)?;
-    is_text(rt, server.as_str(), want, text);
+    is_text(rt, server.as_str(), expected, text);
     Ok(())
 }
 

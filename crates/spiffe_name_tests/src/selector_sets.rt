@@ -59,7 +59,7 @@ x:1 and => apart
 ";
 
 /// Describes whether the first set is a subset of the second, and whether each meets the other.
-fn told(own: &SelectorSet, other: &SelectorSet) -> &'static str {
+fn as_text(own: &SelectorSet, other: &SelectorSet) -> &'static str {
     match (own.within(other), own.meets(other), other.meets(own)) {
         (true, true, true) => "within, meets, is met",
         (false, true, true) => "meets, is met",
@@ -71,11 +71,11 @@ fn told(own: &SelectorSet, other: &SelectorSet) -> &'static str {
 
 /// Asserts that the two sets of a line are related as it says.
 fn lie(rt: &impl Abort, alloc: Global, case: &str) -> Result<(), Fail> {
-    let (sets, want) = case.split_once(" => ").unwrap_or((case, "no arrow"));
+    let (sets, expected) = case.split_once(" => ").unwrap_or((case, "no arrow"));
     let (own, other) = sets.split_once("and").unwrap_or((sets, "no other set"));
     let own = set_of(alloc, own)?;
     let other = set_of(alloc, other)?;
-    is_text(rt, told(&own, &other), want, case);
+    is_text(rt, as_text(&own, &other), expected, case);
     Ok(())
 }
 

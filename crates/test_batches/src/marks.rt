@@ -13,7 +13,7 @@ fn expiring_text(alloc: Global, moment: u64) -> Result<String, Failed> {
     Ok(format!(in alloc; "expiring {moment}")?)
 }
 
-pub fn mark_text(alloc: Global, mark: &Mark) -> Result<String, Failed> {
+pub fn mark_words(alloc: Global, mark: &Mark) -> Result<String, Failed> {
     match mark.kind() {
         MarkKind::Entry(id) => of_number(alloc, "entry", id),
         MarkKind::Token(token) => of_number(alloc, "token", token),
@@ -43,6 +43,6 @@ pub fn add_mark(alloc: Global, text: &mut String, mark: &Mark) -> Result<(), Fai
     if !text.is_empty() {
         text.push_str(" | ")?;
     }
-    text.push_str(mark_text(alloc, mark)?.as_str())?;
+    text.push_str(mark_words(alloc, mark)?.as_str())?;
     Ok(())
 }

@@ -2,7 +2,7 @@
 //! and its revision, followed by its domains.
 
 use crate::failed::Failed;
-use entry_book::{Agent, Bundle, Entry, OpRefusal, OpReply, Outcome, Refusal, Reply};
+use entry_book::{Agent, Bundle, Entry, OpRefusal, OpReply, ReplyOutcome, Refusal, Reply};
 use spiffe_name::SpiffeId;
 use std::alloc::Global;
 use uuid::Uuid;
@@ -134,7 +134,7 @@ pub fn replies_text(alloc: Global, kind: &str, replies: &[OpReply]) -> Result<St
 }
 
 /// The kind of an outcome, and its place.
-pub fn placed(alloc: Global, kind: &str, place: u64) -> Result<String, Failed> {
+pub fn kind_at_place(alloc: Global, kind: &str, place: u64) -> Result<String, Failed> {
     Ok(format!(in alloc; "{kind} at {place}")?)
 }
 
@@ -145,7 +145,7 @@ pub fn accepted_text(
     place: u64,
     replies: &[OpReply],
 ) -> Result<String, Failed> {
-    let head = placed(alloc, kind, place)?;
+    let head = kind_at_place(alloc, kind, place)?;
     replies_text(alloc, head.as_str(), replies)
 }
 
@@ -171,18 +171,18 @@ fn refused_text(alloc: Global, place: u64, refusal: &Refusal) -> Result<String, 
 
 /// A batch's outcome, its place, and the replies to its operations; or the code of the refusal, with the index and the detail of an
 /// operation that is refused.
-pub fn outcome_text(alloc: Global, place: u64, outcome: &Outcome) -> Result<String, Failed> {
+pub fn outcome_text(alloc: Global, place: u64, outcome: &ReplyOutcome) -> Result<String, Failed> {
     match outcome {
-        Outcome::Committed(replies) => {
+        ReplyOutcome::Committed(replies) => {
             accepted_text(alloc, "committed", place, replies.get().as_slice())
         }
-        Outcome::Answered(replies) => {
+        ReplyOutcome::Answered(replies) => {
             accepted_text(alloc, "answered", place, replies.get().as_slice())
         }
-        Outcome::Repeated(replies) => {
+        ReplyOutcome::Repeated(replies) => {
             accepted_text(alloc, "repeated", place, replies.get().as_slice())
         }
-        Outcome::Refused(refusal) => refused_text(alloc, place, refusal),
+        ReplyOutcome::Refused(refusal) => refused_text(alloc, place, refusal),
     }
 }
 

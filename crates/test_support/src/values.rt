@@ -12,7 +12,7 @@ pub fn where_done<T: Drop, E>(done: Result<(), E>, worked_on: T) -> Result<T, E>
 }
 
 /// Returns the value with the other one if that was made, and drops it otherwise.
-pub fn beside<A: Drop, B, E>(first: A, made: Result<B, E>) -> Result<(A, B), E> {
+pub fn pair_with<A: Drop, B, E>(first: A, made: Result<B, E>) -> Result<(A, B), E> {
     match made {
         Ok(made) => Ok((first, made)),
         Err(why) => Err(why),

@@ -8,7 +8,7 @@ use Rattle.entry_book.specs.Lawful.{Lawful}
 use Rattle.entry_book.specs.Laws.{IsWithinLimits}
 use Rattle.entry_book.specs.History.{batch_writes, kept_under}
 use Rattle.version_book.specs.Applying.{MayApply}
-use Rattle.version_book.specs.CommittedRows.{State, book_of}
+use Rattle.version_book.specs.CommittedRows.{VersionState, book_of}
 use Rattle.version_book.specs.Laws.{PlacesPut, RunMayApply}
 use Rattle.version_book.specs.Written.{placed}
 use Rattle.batch_work.specs.Working.{IsAccepted}
@@ -16,7 +16,7 @@ use Rattle.batch_work.specs.Working.{IsAccepted}
 of_ok : (P : RunEffect → Type 0) (r : RunResult) (t : RunEffect) → r ≡ Ok t → IfOk r P → P t
 of_ok P r t e h = let k : IfOk {E = RefusedOp} (Ok t) P = subst (λ r. IfOk r P) e h in k
 
-pub may_apply : (batch : Batch) (s : State) (ws : List RowWrite) (replies : List OpReply) → IsAccepted batch (book_of s.rows) replies ws → IsMadeFor batch.domain batch → batch.domain ≡ s.domain → Lawful s.domain (64 * s.number) (book_of s.rows) → IsWithinLimits (book_of s.rows) → kept_under batch.token (book_of s.rows) ≡ None → PlacesPut → RunMayApply → MayApply (placed (s.number + 1) ws) (s.number + 1) s
+pub may_apply : (batch : Batch) (s : VersionState) (ws : List RowWrite) (replies : List OpReply) → IsAccepted batch (book_of s.rows) replies ws → IsMadeFor batch.domain batch → batch.domain ≡ s.domain → Lawful s.domain (64 * s.number) (book_of s.rows) → IsWithinLimits (book_of s.rows) → kept_under batch.token (book_of s.rows) ≡ None → PlacesPut → RunMayApply → MayApply (placed (s.number + 1) ws) (s.number + 1) s
 may_apply batch s ws replies a m e l w k places applying =
     let n = s.number + 1 in
     let made : IsMadeFor s.domain batch = subst (λ own. IsMadeFor own batch) e m in

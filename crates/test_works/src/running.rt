@@ -14,7 +14,7 @@ use batch_work::{Status, Window, Work};
 use entry_book::Batch;
 use std::alloc::{AllocError, Global};
 use std::test::Fail;
-use test_support::{beside, where_done};
+use test_support::{pair_with, where_done};
 use uuid::Uuid;
 use version_book::{Changes, Mark, Version, laws};
 
@@ -44,7 +44,7 @@ pub fn begun(alloc: Global, window: &Window, batch: Batch) -> Result<Work, Fail>
 
 /// A work of the batch, begun on the version.
 fn begun_on_version(alloc: Global, version: &Version, batch: Batch) -> Result<Work, Fail> {
-    let (batch, copy) = beside(batch, version.clone())?;
+    let (batch, copy) = pair_with(batch, version.clone())?;
     let window = Window::of(copy);
     let work = begun(alloc, &window, batch);
     drop(window);

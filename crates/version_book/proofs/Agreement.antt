@@ -12,7 +12,7 @@ use Rattle.entry_book.specs.Order.{Within, Ascending, with_row}
 use Rattle.entry_book.specs.Book.{Book, AscendingBook}
 use Rattle.entry_book.specs.Writes.{RowChange, RowWrite, wrote_entry, wrote_agent, wrote_bundle, wrote_token, FitsRows, FitsBook, after, after_write}
 use Rattle.version_book.specs.declared.mark.MarkKind.{MarkKind}
-use Rattle.version_book.specs.Marks.{Agree, reads, hits, passes, seen, names_entry, names_agent, names_bundle, names_token}
+use Rattle.version_book.specs.Marks.{Agree, reads, hits, passes_if_some, seen, names_entry, names_agent, names_bundle, names_token}
 use Rattle.version_book.specs.Laws.{AgreeAfter, ReadsAfter, Unhit}
 
 reads-after_write : (m : MarkKind) (w : RowWrite) (b : Book) → reads m (after_write w b) ≡ after_write (seen m w) (reads m b)
@@ -40,26 +40,26 @@ agree_after ws b c m h = reads_after m ws b ∙ (ap (after (map (seen m) ws)) h 
 -- ---- writes that don't hit
 
 module _ {X : Type 0} (key : X → Bytes) (p : X → Bool) where
-  kept_none : (o : Option X) → passes p o ≡ false → kept_in p o ≡ None
+  kept_none : (o : Option X) → passes_if_some p o ≡ false → kept_in p o ≡ None
   kept_none None h = refl
   kept_none (Some x) h = rw h refl
 
   -- if neither the rows with the key nor the new row pass, the rows that pass are unchanged
-  pub unhit_rows : (k : Bytes) (new : Option X) (rows : List X) → Ascending key rows → ((x : X) → Within rows x → key x ≡ k → p x ≡ false) → passes p new ≡ false → filter p (with_row key k new rows) ≡ filter p rows
+  pub unhit_rows : (k : Bytes) (new : Option X) (rows : List X) → Ascending key rows → ((x : X) → Within rows x → key x ≡ k → p x ≡ false) → passes_if_some p new ≡ false → filter p (with_row key k new rows) ≡ filter p rows
   unhit_rows k new rows a old h =
       filter-with_row key p k new rows
       ∙ (ap (λ o. with_row key k o (filter p rows)) (kept_none new h)
       ∙ without_none key k (filter p rows) (ascending_filter key p rows a) (λ x w e. let r = from_within_filter p rows x w in both_ways (p x) (old x r.0 e) r.1))
 
-  not_old : (o : Option X) (x : X) → Within (option_to_list o) x → passes p o ≡ false → p x ≡ false
+  not_old : (o : Option X) (x : X) → Within (option_to_list o) x → passes_if_some p o ≡ false → p x ≡ false
   not_old None x w h = absurd w
   not_old (Some y) x w h = ⊎_elim (λ e. ap p (sym e) ∙ h) (λ n. absurd n) w
 
   -- a row with the key of a fitting write is its old row
-  pub old_fails : (c : RowChange X) (rows : List X) → FitsRows key c rows → passes p c.old ≡ false → (x : X) → Within rows x → key x ≡ c.key → p x ≡ false
+  pub old_fails : (c : RowChange X) (rows : List X) → FitsRows key c rows → passes_if_some p c.old ≡ false → (x : X) → Within rows x → key x ≡ c.key → p x ≡ false
   old_fails c rows f h x w e = not_old c.old x (subst (λ l. Within l x) f.found (within_filter (λ x. bytes_eq (key x) c.key) rows x w (text_same (key x) c.key e))) h
 
-  unhit_change : (c : RowChange X) (rows : List X) → Ascending key rows → FitsRows key c rows → passes p c.old ≡ false → passes p c.new ≡ false → filter p rows ≡ filter p (with_row key c.key c.new rows)
+  unhit_change : (c : RowChange X) (rows : List X) → Ascending key rows → FitsRows key c rows → passes_if_some p c.old ≡ false → passes_if_some p c.new ≡ false → filter p rows ≡ filter p (with_row key c.key c.new rows)
   unhit_change c rows a f old new = sym (unhit_rows c.key c.new rows a (old_fails c rows f old) new)
 
 unhit_write : (w : RowWrite) (b : Book) (m : MarkKind) → AscendingBook b → FitsBook w b → hits w m ≡ false → Agree b (after_write w b) m

@@ -19,5 +19,5 @@ run_may_apply batch s t m l w k e =
       next = refl;
       fits = subst (λ r. IfOk r (λ t. FitAll (batch_writes batch n t) b)) e (all_fit batch n b l.ascending k);
       lawful = subst (λ r. IfOk r (λ t. Lawful s.domain (64 * n) (after (batch_writes batch n t) b))) e (batch_keeps s.domain batch s.number b m l);
-      room = room_in_run s.domain (64 * s.number) batch n b t m l w (ap (λ own. run own batch.ops b) (sym m.domain_is) ∙ e);
+      room = room_in_run s.domain (64 * s.number) batch n b t m l w (ap (λ own_domain. run own_domain batch.ops b) (sym m.domain_is) ∙ e);
     }

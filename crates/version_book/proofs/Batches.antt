@@ -4,26 +4,26 @@ use Rattle.entry_book.proofs.Histories.{last-snoc}
 use Rattle.entry_book.specs.Book.{Book, empty_book}
 use Rattle.entry_book.specs.Batches.{Batch, past_place}
 use Rattle.entry_book.specs.History.{Verdict, book_for, verdict, last_book, place_of, books_with, books_after, books_from, reply_to, reply_with, CommitAll, replies_from}
-use Rattle.version_book.specs.CommittedRows.{State, book_of}
-use Rattle.version_book.specs.History.{Commits, IsLast, state_with}
+use Rattle.version_book.specs.CommittedRows.{VersionState, book_of}
+use Rattle.version_book.specs.History.{CommitsOn, IsLast, version_with}
 use Rattle.version_book.specs.Laws.{BooksJoin, CommitsJoin, RepliesFollow}
 use Rattle.version_book.proofs.Histories.{newest_read, verdict_last}
 
 -- ---- one batch on the list of books
 
 -- the verdict on a batch that commits on a version, for a list of books whose last one is the version's
-verdict_of : (batch : Batch) (s : State) (books : List Book) → IsLast s books → Commits batch s → verdict batch (place_of books) (book_for (past_place batch.ops) books) ≡ verdict batch s.number (Some (book_of s.rows))
+verdict_of : (batch : Batch) (s : VersionState) (books : List Book) → IsLast s books → CommitsOn batch s → verdict batch (place_of books) (book_for (past_place batch.ops) books) ≡ verdict batch s.number (Some (book_of s.rows))
 verdict_of batch s books l c = verdict_last batch s books l.book l.place (newest_read batch s c)
 
 -- a list with one more book
-last_of_more : (s : State) (books later : List Book) (n : ℕ) → 0 < length books → place_of books ≡ n → later ≡ books ++ book_of s.rows ∷ [] → s.number ≡ n + 1 → IsLast s later × (0 < length later)
+last_of_more : (s : VersionState) (books later : List Book) (n : ℕ) → 0 < length books → place_of books ≡ n → later ≡ books ++ book_of s.rows ∷ [] → s.number ≡ n + 1 → IsLast s later × (0 < length later)
 last_of_more s books later n l p e q =
     let m : length later ≡ length books + 1 = ap length e ∙ length-append books (book_of s.rows ∷ []) in
     (record { book = ap last_book e ∙ last-snoc empty_book books (book_of s.rows); place = omega arith }, omega arith)
 
 -- if a batch commits on a version, the version after it has the last of the books after it
-pub stands_next : (batch : Batch) (s : State) (books : List Book) → 0 < length books → IsLast s books → Commits batch s → IsLast (state_with batch s) (books_after batch books) × (0 < length (books_after batch books))
-stands_next batch s books l k c = last_of_more (state_with batch s) books (books_after batch books) s.number l k.place (ap (books_with books) (verdict_of batch s books k c ∙ c.added)) refl
+pub represents_next : (batch : Batch) (s : VersionState) (books : List Book) → 0 < length books → IsLast s books → CommitsOn batch s → IsLast (version_with batch s) (books_after batch books) × (0 < length (books_after batch books))
+represents_next batch s books l k c = last_of_more (version_with batch s) books (books_after batch books) s.number l k.place (ap (books_with books) (verdict_of batch s books k c ∙ c.added)) refl
 
 -- ---- many batches on the list of books
 
@@ -45,8 +45,8 @@ commits_join first second books = (commit_both first second books, λ c. commit_
 pub replies_follow : RepliesFollow
 replies_follow [] older newer books l k f = refl
 replies_follow (batch ∷ batches) older newer books l k f =
-    let n = stands_next batch older books l k f.0 in
+    let n = represents_next batch older books l k f.0 in
     let v : Verdict = verdict batch older.number (Some (book_of older.rows)) in
     let reply : reply_to batch books ≡ reply_with older.number v = ap (λ v. reply_with (place_of books) v) (verdict_of batch older books k f.0) ∙ ap (λ p. reply_with p v) k.place in
     ap (λ r. r ∷ replies_from (books_after batch books) batches) reply
-    ∙ ap (λ rs. reply_with older.number v ∷ rs) (replies_follow batches (state_with batch older) newer (books_after batch books) n.1 n.0 f.1)
+    ∙ ap (λ rs. reply_with older.number v ∷ rs) (replies_follow batches (version_with batch older) newer (books_after batch books) n.1 n.0 f.1)

@@ -26,10 +26,10 @@ use Rattle.entry_book.specs.Limits.{limit_passed}
 use Rattle.entry_book.specs.History.{Verdict, refuses, adds, adds_within, batch_writes, book_for, kept_under, verdict, verdict_on, verdict_over, verdict_run, verdict_when, last_book, place_of, books_with, books_after, reply_with, is_committed}
 use Rattle.version_book.specs.declared.mark.MarkKind.{MarkKind}
 use Rattle.version_book.specs.declared.committed_row.CommittedRow.{CommittedRow}
-use Rattle.version_book.specs.Marks.{hits, passes, names_entry, names_agent, names_bundle, names_token}
-use Rattle.version_book.specs.CommittedRows.{CommittedRows, State, row_of, numbered, of_row, book_of, marked, next_state, rows_after, rows_after_write}
-use Rattle.version_book.specs.History.{Commits, Follows, any_hits, state_with, writes_at, writes_in}
-use Rattle.version_book.specs.Laws.{BatchCommits, FollowsJoined, BooksFollow, DomainStays, LimitsFollow, UnhitHistory}
+use Rattle.version_book.specs.Marks.{hits, passes_if_some, names_entry, names_agent, names_bundle, names_token}
+use Rattle.version_book.specs.CommittedRows.{CommittedRows, VersionState, row_of, numbered, of_row, book_of, marked, next_state, rows_after, rows_after_write}
+use Rattle.version_book.specs.History.{CommitsOn, Follows, any_hits, version_with, writes_at, writes_in}
+use Rattle.version_book.specs.Laws.{BatchCommits, FollowsJoined, BooksFollow, DomainIsUnchanged, LimitsFollow, UnhitHistory}
 use Rattle.version_book.proofs.Agreement.{old_fails, unhit_rows}
 use Rattle.version_book.proofs.NamedRows.{book_after, book_after_write}
 use Rattle.version_book.proofs.Numbers.{ascending_rows}
@@ -51,14 +51,14 @@ ran batch n b c replies h = of_verdict (λ v. v ≡ adds replies c → (kept_und
     (λ d e k v. let q = some_is b d e in (ap (kept_under batch.token) q ∙ k, ap (verdict_run batch n) q ∙ v))
     h
 
-pub ran_on : (batch : Batch) (s : State) → (c : Commits batch s) → (kept_under batch.token (book_of s.rows) ≡ None) × (verdict_run batch s.number (book_of s.rows) ≡ adds c.replies (book_of (state_with batch s).rows))
-ran_on batch s c = ran batch s.number (book_of s.rows) (book_of (state_with batch s).rows) c.replies c.added
+pub ran_on : (batch : Batch) (s : VersionState) → (c : CommitsOn batch s) → (kept_under batch.token (book_of s.rows) ≡ None) × (verdict_run batch s.number (book_of s.rows) ≡ adds c.replies (book_of (version_with batch s).rows))
+ran_on batch s c = ran batch s.number (book_of s.rows) (book_of (version_with batch s).rows) c.replies c.added
 
 pub batch_commits : BatchCommits
 batch_commits batch s t m q a k e l =
     let n = s.number + 1 in
     let b = book_of s.rows in
-    let same : state_with batch s ≡ next_state (batch_writes batch n t) s = ap (λ r. next_state (writes_in batch n r) s) e in (
+    let same : version_with batch s ≡ next_state (batch_writes batch n t) s = ap (λ r. next_state (writes_in batch n r) s) e in (
       record {
         made = m;
         replies = t.replies;
@@ -75,8 +75,8 @@ of_writes : (P : List RowWrite → Type 0) (query : Bool) (batch : Batch) (n : �
 of_writes P query batch n b c replies (Ok t) e h = h
 of_writes P query batch n b c replies (Err s) e h = cc
 
-of_batch : (P : List RowWrite → Type 0) (batch : Batch) (s : State) → Commits batch s → IfOk (run batch.domain batch.ops (book_of s.rows)) (λ t. P (batch_writes batch (s.number + 1) t)) → P (writes_at batch s)
-of_batch P batch s c h = of_writes P (is_query batch.ops) batch s.number (book_of s.rows) (book_of (state_with batch s).rows) c.replies (run batch.domain batch.ops (book_of s.rows)) (ran_on batch s c).1 h
+of_batch : (P : List RowWrite → Type 0) (batch : Batch) (s : VersionState) → CommitsOn batch s → IfOk (run batch.domain batch.ops (book_of s.rows)) (λ t. P (batch_writes batch (s.number + 1) t)) → P (writes_at batch s)
+of_batch P batch s c h = of_writes P (is_query batch.ops) batch s.number (book_of s.rows) (book_of (version_with batch s).rows) c.replies (run batch.domain batch.ops (book_of s.rows)) (ran_on batch s c).1 h
 
 only_fit : (b : Book) (r : RunResult) → IfOk r (λ t. FitAll t.writes b × AscendingBook (after t.writes b)) → IfOk r (λ t. FitAll t.writes b)
 only_fit b (Ok t) h = h.0
@@ -87,10 +87,10 @@ pub all_fit : (batch : Batch) (n : ℕ) (b : Book) → AscendingBook b → kept_
 all_fit batch n b a k = batch_fits batch n b k (only_fit b (run batch.domain batch.ops b) (run_fits batch.domain batch.ops b a))
 
 -- the writes of a batch that commits find their old rows
-pub writes_fit : (batch : Batch) (s : State) → AscendingBook (book_of s.rows) → Commits batch s → FitAll (writes_at batch s) (book_of s.rows)
+pub writes_fit : (batch : Batch) (s : VersionState) → AscendingBook (book_of s.rows) → CommitsOn batch s → FitAll (writes_at batch s) (book_of s.rows)
 writes_fit batch s a c = of_batch (λ ws. FitAll ws (book_of s.rows)) batch s c (all_fit batch (s.number + 1) (book_of s.rows) a (ran_on batch s c).0)
 
-pub ascending_next : (batch : Batch) (s : State) → AscendingBook (book_of s.rows) → Commits batch s → AscendingBook (book_of (state_with batch s).rows)
+pub ascending_next : (batch : Batch) (s : VersionState) → AscendingBook (book_of s.rows) → CommitsOn batch s → AscendingBook (book_of (version_with batch s).rows)
 ascending_next batch s a c = subst AscendingBook (sym (book_after (s.number + 1) (writes_at batch s) s.rows)) (in_order (writes_at batch s) (book_of s.rows) a (writes_fit batch s a c))
 
 -- a batch that adds a book isn't read-only
@@ -100,11 +100,11 @@ of_changes true batch n b c replies (Ok t) e = cc
 of_changes false batch n b c replies (Ok t) e = refl
 
 -- so a batch that commits doesn't read an earlier book
-pub newest_read : (batch : Batch) (s : State) → Commits batch s → past_place batch.ops ≡ None
-newest_read batch s c = changes_newest s.domain batch c.made (of_changes (is_query batch.ops) batch s.number (book_of s.rows) (book_of (state_with batch s).rows) c.replies (run batch.domain batch.ops (book_of s.rows)) (ran_on batch s c).1)
+pub newest_read : (batch : Batch) (s : VersionState) → CommitsOn batch s → past_place batch.ops ≡ None
+newest_read batch s c = changes_newest s.domain batch c.made (of_changes (is_query batch.ops) batch s.number (book_of s.rows) (book_of (version_with batch s).rows) c.replies (run batch.domain batch.ops (book_of s.rows)) (ran_on batch s c).1)
 
 -- the verdict on a batch that doesn't read an earlier book, for a list of books whose last one is the version's
-pub verdict_last : (batch : Batch) (s : State) (books : List Book) → last_book books ≡ book_of s.rows → place_of books ≡ s.number → past_place batch.ops ≡ None → verdict batch (place_of books) (book_for (past_place batch.ops) books) ≡ verdict batch s.number (Some (book_of s.rows))
+pub verdict_last : (batch : Batch) (s : VersionState) (books : List Book) → last_book books ≡ book_of s.rows → place_of books ≡ s.number → past_place batch.ops ≡ None → verdict batch (place_of books) (book_for (past_place batch.ops) books) ≡ verdict batch s.number (Some (book_of s.rows))
 verdict_last batch s books b p e =
     ap (λ o. verdict batch (place_of books) (book_for o books)) e
     ∙ (ap (λ n. verdict batch n (Some (last_book books))) p
@@ -114,7 +114,7 @@ verdict_last batch s books b p e =
 
 pub follows_on : FollowsJoined
 follows_on [] second s t u f g = subst (λ x. Follows x second u) (sym f) g
-follows_on (batch ∷ first) second s t u f g = (f.0, follows_on first second (state_with batch s) t u f.1 g)
+follows_on (batch ∷ first) second s t u f g = (f.0, follows_on first second (version_with batch s) t u f.1 g)
 
 -- the effect on a list of books of a batch that adds a book
 added_to : (books : List Book) (v : Verdict) (replies : List OpReply) (b : Book) → v ≡ adds replies b → (is_committed (reply_with (place_of books) v).outcome ≡ true) × (books_with books v ≡ books ++ b ∷ [])
@@ -124,12 +124,12 @@ pub books_follow : BooksFollow
 books_follow [] older newer books l b p f =
     let n = ap (λ s. s.number) f in (tt, b ∙ ap (λ s. book_of s.rows) f, p ∙ n, omega arith)
 books_follow (batch ∷ batches) older newer books l b p f =
-    let c : Commits batch older = f.0 in
-    let next : Book = book_of (state_with batch older).rows in
+    let c : CommitsOn batch older = f.0 in
+    let next : Book = book_of (version_with batch older).rows in
     let v : verdict batch (place_of books) (book_for (past_place batch.ops) books) ≡ adds c.replies next = verdict_last batch older books b p (newest_read batch older c) ∙ c.added in
     let a = added_to books (verdict batch (place_of books) (book_for (past_place batch.ops) books)) c.replies next v in
     let n : length (books_after batch books) ≡ length books + 1 = ap length a.1 ∙ length-append books (next ∷ []) in
-    let r = books_follow batches (state_with batch older) newer (books_after batch books) (omega arith) (ap last_book a.1 ∙ last-snoc empty_book books next) (omega arith) f.1 in
+    let r = books_follow batches (version_with batch older) newer (books_after batch books) (omega arith) (ap last_book a.1 ∙ last-snoc empty_book books next) (omega arith) f.1 in
     let k = r.3 in
     ((a.0, r.0), r.1, r.2, omega arith)
 
@@ -139,11 +139,11 @@ within_rows : {X : Type 0} (rows : List (CommittedRow X)) (r : CommittedRow X) �
 within_rows [] r w = absurd w
 within_rows (x ∷ xs) r w = elim w [ inl e ↦ inl (ap row_of e) | inr v ↦ inr (within_rows xs r v) ]
 
-passes_numbered : {X : Type 0} (p : X → Bool) (n : ℕ) (o : Option X) → passes p o ≡ false → passes (of_row p) (option_map (numbered n) o) ≡ false
+passes_numbered : {X : Type 0} (p : X → Bool) (n : ℕ) (o : Option X) → passes_if_some p o ≡ false → passes_if_some (of_row p) (option_map (numbered n) o) ≡ false
 passes_numbered p n None h = h
 passes_numbered p n (Some x) h = h
 
-unhit_numbered : {X : Type 0} (key : X → Bytes) (p : X → Bool) (n : ℕ) (c : RowChange X) (rows : List (CommittedRow X)) → Ascending key (map row_of rows) → FitsRows key c (map row_of rows) → passes p c.old ≡ false → passes p c.new ≡ false → filter (of_row p) rows ≡ filter (of_row p) (with_row (of_row key) c.key (option_map (numbered n) c.new) rows)
+unhit_numbered : {X : Type 0} (key : X → Bytes) (p : X → Bool) (n : ℕ) (c : RowChange X) (rows : List (CommittedRow X)) → Ascending key (map row_of rows) → FitsRows key c (map row_of rows) → passes_if_some p c.old ≡ false → passes_if_some p c.new ≡ false → filter (of_row p) rows ≡ filter (of_row p) (with_row (of_row key) c.key (option_map (numbered n) c.new) rows)
 unhit_numbered key p n c rows a f old new = sym (unhit_rows (of_row key) (of_row p) c.key (option_map (numbered n) c.new) rows (ascending_rows key rows a) (λ r w e. old_fails key p c (map row_of rows) f old r.row (within_rows rows r w) e) (passes_numbered p n c.new new))
 
 unhit_write : (m : MarkKind) (n : ℕ) (w : RowWrite) (rows : CommittedRows) → AscendingBook (book_of rows) → FitsBook w (book_of rows) → hits w m ≡ false → marked m rows ≡ marked m (rows_after_write n w rows)
@@ -163,15 +163,15 @@ unhit_writes m n (w ∷ ws) rows a f h =
 pub unhit_history : UnhitHistory
 unhit_history m [] older newer a f h = ap (λ s. marked m s.rows) f
 unhit_history m (batch ∷ batches) older newer a f h =
-    let r = or_parts (list_any (λ w. hits w m) (writes_at batch older)) (any_hits m (state_with batch older) batches) h in
+    let r = or_parts (list_any (λ w. hits w m) (writes_at batch older)) (any_hits m (version_with batch older) batches) h in
     unhit_writes m (older.number + 1) (writes_at batch older) older.rows a (writes_fit batch older a f.0) r.0
-    ∙ unhit_history m batches (state_with batch older) newer (ascending_next batch older a f.0) f.1 r.1
+    ∙ unhit_history m batches (version_with batch older) newer (ascending_next batch older a f.0) f.1 r.1
 
 -- ---- what is unchanged along a history
 
-pub domain_stays : DomainStays
-domain_stays [] older newer f = (ap (λ s. s.domain) (sym f), tt)
-domain_stays (batch ∷ batches) older newer f = let r = domain_stays batches (state_with batch older) newer f.1 in (r.0, (f.0.made, r.1))
+pub domain_is_unchanged : DomainIsUnchanged
+domain_is_unchanged [] older newer f = (ap (λ s. s.domain) (sym f), tt)
+domain_is_unchanged (batch ∷ batches) older newer f = let r = domain_is_unchanged batches (version_with batch older) newer f.1 in (r.0, (f.0.made, r.1))
 
 -- a book that was added passes no limit
 added_within : (limit : Option Limit) (replies others : List OpReply) (b c : Book) → adds_within limit replies b ≡ adds others c → (limit ≡ None) × (b ≡ c)
@@ -189,4 +189,4 @@ run_within false batch n b c replies (Ok t) e =
 pub limits_follow : LimitsFollow
 limits_follow [] older newer w f = subst (λ s. IsWithinLimits (book_of s.rows)) f w
 limits_follow (batch ∷ batches) older newer w f =
-    limits_follow batches (state_with batch older) newer (run_within (is_query batch.ops) batch older.number (book_of older.rows) (book_of (state_with batch older).rows) f.0.replies (run batch.domain batch.ops (book_of older.rows)) (ran_on batch older f.0).1) f.1
+    limits_follow batches (version_with batch older) newer (run_within (is_query batch.ops) batch older.number (book_of older.rows) (book_of (version_with batch older).rows) f.0.replies (run batch.domain batch.ops (book_of older.rows)) (ran_on batch older f.0).1) f.1

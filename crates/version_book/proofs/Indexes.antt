@@ -10,7 +10,7 @@ use Rattle.entry_book.proofs.Keys.{same_key, from_with_row, within_with_row, new
 use Rattle.entry_book.proofs.Sets.{All-within, within_filter, from_within_filter, within_left, within_right, from_within_append}
 use Rattle.version_book.specs.declared.committed_row.CommittedRow.{CommittedRow}
 use Rattle.version_book.specs.CommittedRows.{of_row}
-use Rattle.version_book.specs.Index.{IsIndex, KeysTell, TellsKeys}
+use Rattle.version_book.specs.Index.{IsIndex, KeysIdentify, IsExactOrder}
 use Rattle.version_book.specs.Stores.{IsAbsent}
 
 -- ---- the list with the value under these keys, and the list without them
@@ -52,14 +52,14 @@ module _ {K V : Type 0} (cmp : K → K → Ordering) (key : K) where
   above_apart : (rows : List (K × V)) (k : K) (v : V) → Within (rows_above cmp rows key) (k, v) → Within rows (k, v) × (cmp k key ≢ Equal)
   above_apart rows k v w = let r = from_within_filter (λ row. is_gt (cmp row.0 key)) rows (k, v) w in (r.0, λ e. let f = ap is_gt e in cc (r.1, f))
 
-module _ {K V : Type 0} (cmp : K → K → Ordering) (tells : TellsKeys cmp) where
+module _ {K V : Type 0} (cmp : K → K → Ordering) (is_exact : IsExactOrder cmp) where
   -- with one more key
   pub puts_one : ((k : K) → cmp k k ≡ Equal) → (done : List K) (key : K) (value : V) (old new : List (K × V)) → Puts done value old new → Puts (done ++ key ∷ []) value old (with_key cmp new key value)
   puts_one itself done key value old new p =
       let here : Within (with_key cmp new key value) (key, value) = within_right (rows_below cmp new key) ((key, value) ∷ rows_above cmp new key) (key, value) (inl refl) in
-      let stays : (k : K) (v : V) → Within new (k, v) → (key ≢ k) → Within (with_key cmp new key value) (k, v) = λ k v w n. by_order (cmp k key)
+      let is_unchanged : (k : K) (v : V) → Within new (k, v) → (key ≢ k) → Within (with_key cmp new key value) (k, v) = λ k v w n. by_order (cmp k key)
       (λ e. within_left (rows_below cmp new key) ((key, value) ∷ rows_above cmp new key) (k, v) (within_below cmp key new k v w e))
-      (λ e. absurd (n (sym (tells k key (ap is_eq e)))))
+      (λ e. absurd (n (sym (is_exact k key (ap is_eq e)))))
       (λ e. within_right (rows_below cmp new key) ((key, value) ∷ rows_above cmp new key) (k, v) (inr (within_above cmp key new k v w e))) in
       let from_new : (k : K) (v : V) → Within new (k, v) × (cmp k key ≢ Equal) → (Within (done ++ key ∷ []) k × (v ≡ value)) ⊎ (Within old (k, v) × (Within (done ++ key ∷ []) k → ⊥)) = λ k v w. ⊎_elim
       (λ r. inl (within_left done (key ∷ []) k r.0, r.1))
@@ -70,16 +70,16 @@ module _ {K V : Type 0} (cmp : K → K → Ordering) (tells : TellsKeys cmp) whe
             (λ l. from_new k v (below_apart cmp key new k v l))
             (λ r. ⊎_elim (λ e. inl (within_right done (key ∷ []) k (inl (ap (λ x. x.0) e)), sym (ap (λ x. x.1) e))) (λ u. from_new k v (above_apart cmp key new k v u)) r)
             (from_within_append (rows_below cmp new key) ((key, value) ∷ rows_above cmp new key) (k, v) w);
-        kept = λ k v w n. stays k v (p.kept k v w (λ d. n (within_left done (key ∷ []) k d))) (λ e. n (within_right done (key ∷ []) k (inl e)));
+        kept = λ k v w n. is_unchanged k v (p.kept k v w (λ d. n (within_left done (key ∷ []) k d))) (λ e. n (within_right done (key ∷ []) k (inl e)));
         put = λ k w. by_order (cmp k key)
             (λ e. ⊎_elim (λ d. within_left (rows_below cmp new key) ((key, value) ∷ rows_above cmp new key) (k, value) (within_below cmp key new k value (p.put k d) e)) (λ s. ⊎_elim (λ q. subst (λ x. Within (with_key cmp new key value) (x, value)) q here) (λ n. absurd n) s) (from_within_append done (key ∷ []) k w))
-            (λ e. subst (λ x. Within (with_key cmp new key value) (x, value)) (sym (tells k key (ap is_eq e))) here)
+            (λ e. subst (λ x. Within (with_key cmp new key value) (x, value)) (sym (is_exact k key (ap is_eq e))) here)
             (λ e. ⊎_elim (λ d. within_right (rows_below cmp new key) ((key, value) ∷ rows_above cmp new key) (k, value) (inr (within_above cmp key new k value (p.put k d) e))) (λ s. ⊎_elim (λ q. subst (λ x. Within (with_key cmp new key value) (x, value)) q here) (λ n. absurd n) s) (from_within_append done (key ∷ []) k w));
         still = λ k v w.
             let s = p.still k v w in
             by_order (cmp k key)
             (λ e. (s.0, within_left (rows_below cmp new key) ((key, value) ∷ rows_above cmp new key) (k, s.0) (within_below cmp key new k s.0 s.1 e)))
-            (λ e. (value, subst (λ x. Within (with_key cmp new key value) (x, value)) (sym (tells k key (ap is_eq e))) here))
+            (λ e. (value, subst (λ x. Within (with_key cmp new key value) (x, value)) (sym (is_exact k key (ap is_eq e))) here))
             (λ e. (s.0, within_right (rows_below cmp new key) ((key, value) ∷ rows_above cmp new key) (k, s.0) (inr (within_above cmp key new k s.0 s.1 e))));
       }
 
@@ -96,13 +96,13 @@ module _ {K V : Type 0} (cmp : K → K → Ordering) (tells : TellsKeys cmp) whe
             let u = p.kept k v w (λ d. n (within_left done (key ∷ []) k d)) in
             by_order (cmp k key)
             (λ e. within_left (rows_below cmp new key) (rows_above cmp new key) (k, v) (within_below cmp key new k v u e))
-            (λ e. absurd (n (within_right done (key ∷ []) k (inl (sym (tells k key (ap is_eq e)))))))
+            (λ e. absurd (n (within_right done (key ∷ []) k (inl (sym (is_exact k key (ap is_eq e)))))))
             (λ e. within_right (rows_below cmp new key) (rows_above cmp new key) (k, v) (within_above cmp key new k v u e));
       }
 
 -- ---- an index with all keys of a row, and without them
 
-module _ {K : Type 0} (keys : Entry → List K) (tell : KeysTell keys) (rows : List (CommittedRow Entry)) (old new : List (K × CommittedRow Entry)) (i : IsIndex keys rows old) where
+module _ {K : Type 0} (keys : Entry → List K) (identify : KeysIdentify keys) (rows : List (CommittedRow Entry)) (old new : List (K × CommittedRow Entry)) (i : IsIndex keys rows old) where
   pub index_with : (row : CommittedRow Entry) → IsAbsent entry_key row.row.id rows → Puts (keys row.row) row old new → IsIndex keys (with_row (of_row entry_key) row.row.id (Some row) rows) new
   index_with row absent p =
       let other : (r : CommittedRow Entry) → Within rows r → r.row.id ≢ row.row.id = λ r w. All-within (λ r. r.row.id ≡ row.row.id → ⊥) rows r absent w in
@@ -113,7 +113,7 @@ module _ {K : Type 0} (keys : Entry → List K) (tell : KeysTell keys) (rows : L
             (p.sound k r w);
         complete = λ k r w v. ⊎_elim
             (λ n. ⊎_elim (λ e. subst (λ s. Within new (k, s)) e (p.put k (subst (λ s. Within (keys s.row) k) (sym e) v))) (λ n. absurd n) n)
-            (λ o. p.kept k r (i.complete k r o.0 v) (λ d. o.1 (tell r.row row.row k v d)))
+            (λ o. p.kept k r (i.complete k r o.0 v) (λ d. o.1 (identify r.row row.row k v d)))
             (from_with_row (of_row entry_key) row.row.id (Some row) rows r w);
       }
 
@@ -129,7 +129,7 @@ module _ {K : Type 0} (keys : Entry → List K) (tell : KeysTell keys) (rows : L
             (p.sound k r w);
         complete = λ k r w v. ⊎_elim
             (λ n. ⊎_elim (λ e. subst (λ s. Within new (k, s)) e (p.put k (subst (λ s. Within (keys s.row) k) (sym e) v))) (λ n. absurd n) n)
-            (λ o. p.kept k r (i.complete k r o.0 v) (λ d. o.1 (tell r.row row.row k v d)))
+            (λ o. p.kept k r (i.complete k r o.0 v) (λ d. o.1 (identify r.row row.row k v d)))
             (from_with_row (of_row entry_key) row.row.id (Some row) rows r w);
       }
 
@@ -141,6 +141,6 @@ module _ {K : Type 0} (keys : Entry → List K) (tell : KeysTell keys) (rows : L
         (within_with_row (of_row entry_key) row.row.id None rows r s.0 (λ e. o.1 (subst (λ t. Within (keys t.row) k) (same_key (of_row entry_key) rows sorted r row s.0 there e) s.1)), s.1);
     complete = λ k r w v. ⊎_elim
         (λ n. absurd n)
-        (λ o. p.kept k r (i.complete k r o.0 v) (λ d. o.1 (tell r.row row.row k v d)))
+        (λ o. p.kept k r (i.complete k r o.0 v) (λ d. o.1 (identify r.row row.row k v d)))
         (from_with_row (of_row entry_key) row.row.id None rows r w);
   }

@@ -16,7 +16,7 @@ use Rattle.spiffe_name.specs.contracts.spiffe_id.SpiffeId as spiffe_id
 use Rattle.version_book.specs.contracts.key.KeyPart as edge
 use Rattle.version_book.specs.declared.key.KeyPart.{KeyPart}
 use Rattle.version_book.specs.declared.key.KeyPart.TheVariants.{Start, At, End}
-use Rattle.version_book.specs.Index.{GroupKey, UserKey, ExpiryKey, group_keys, user_keys, expiry_keys, TellsKeys, KeysTell}
+use Rattle.version_book.specs.Index.{GroupKey, UserKey, ExpiryKey, group_keys, user_keys, expiry_keys, IsExactOrder, KeysIdentify}
 
 -- ---- keys that compare as equal are equal
 
@@ -25,11 +25,11 @@ equal_from Less h = cc
 equal_from Equal h = refl
 equal_from Greater h = cc
 
-pub tells_bytes : TellsKeys (slice_cmp nat_cmp)
-tells_bytes k l h = slice_cmp-IsAntisymmetric nat_cmp-IsAntisymmetric k l (equal_from _ h)
+pub exact_bytes : IsExactOrder (slice_cmp nat_cmp)
+exact_bytes k l h = slice_cmp-IsAntisymmetric nat_cmp-IsAntisymmetric k l (equal_from _ h)
 
-pub tells_numbers : TellsKeys nat_cmp
-tells_numbers k l h = nat_cmp-IsAntisymmetric k l (equal_from _ h)
+pub exact_numbers : IsExactOrder nat_cmp
+exact_numbers k l h = nat_cmp-IsAntisymmetric k l (equal_from _ h)
 
 -- the results of the derived order of key parts
 pub record IsEdgeOrder {T : Type 0} (at : T → T → Ordering) (cmp : KeyPart T → KeyPart T → Ordering) : Type 0 where
@@ -49,31 +49,31 @@ not_less o e h = cc
 not_greater : {G : Type 0} (o : Ordering) → o ≡ Greater → is_eq o ≡ true → G
 not_greater o e h = cc
 
-pub tells_edges : {T : Type 0} {at : T → T → Ordering} {cmp : KeyPart T → KeyPart T → Ordering} → IsEdgeOrder at cmp → TellsKeys at → TellsKeys cmp
-tells_edges o tells Start Start h = refl
-tells_edges o tells Start (At y) h = not_less _ (o.start_at y) h
-tells_edges o tells Start End h = not_less _ o.start_end h
-tells_edges o tells (At x) Start h = not_greater _ (o.at_start x) h
-tells_edges o tells (At x) (At y) h = ap At (tells x y (ap is_eq (sym (o.at_at x y)) ∙ h))
-tells_edges o tells (At x) End h = not_less _ (o.at_end x) h
-tells_edges o tells End Start h = not_greater _ o.end_start h
-tells_edges o tells End (At y) h = not_greater _ (o.end_at y) h
-tells_edges o tells End End h = refl
+pub exact_edges : {T : Type 0} {at : T → T → Ordering} {cmp : KeyPart T → KeyPart T → Ordering} → IsEdgeOrder at cmp → IsExactOrder at → IsExactOrder cmp
+exact_edges o is_exact Start Start h = refl
+exact_edges o is_exact Start (At y) h = not_less _ (o.start_at y) h
+exact_edges o is_exact Start End h = not_less _ o.start_end h
+exact_edges o is_exact (At x) Start h = not_greater _ (o.at_start x) h
+exact_edges o is_exact (At x) (At y) h = ap At (is_exact x y (ap is_eq (sym (o.at_at x y)) ∙ h))
+exact_edges o is_exact (At x) End h = not_less _ (o.at_end x) h
+exact_edges o is_exact End Start h = not_greater _ o.end_start h
+exact_edges o is_exact End (At y) h = not_greater _ (o.end_at y) h
+exact_edges o is_exact End End h = refl
 
 both_equal : (a b : Ordering) → is_eq (ordering_then a b) ≡ true → (is_eq a ≡ true) × (is_eq b ≡ true)
 both_equal Less b h = cc
 both_equal Equal b h = (refl, h)
 both_equal Greater b h = cc
 
-pub tells_pairs : {A B : Type 0} (a : A → A → Ordering) (b : B → B → Ordering) → TellsKeys a → TellsKeys b → TellsKeys {K = A × B} (λ x y. ordering_then (a x.0 y.0) (b x.1 y.1))
-tells_pairs a b first second k l h =
+pub exact_pairs : {A B : Type 0} (a : A → A → Ordering) (b : B → B → Ordering) → IsExactOrder a → IsExactOrder b → IsExactOrder {K = A × B} (λ x y. ordering_then (a x.0 y.0) (b x.1 y.1))
+exact_pairs a b first second k l h =
     let parts = both_equal _ _ h in
     let left : k.0 ≡ l.0 = first k.0 l.0 parts.0 in
     let right : k.1 ≡ l.1 = second k.1 l.1 parts.1 in
     λ i. (left i, right i)
 
-pub tells_triples : {A B C : Type 0} (a : A → A → Ordering) (b : B → B → Ordering) (c : C → C → Ordering) → TellsKeys a → TellsKeys b → TellsKeys c → TellsKeys {K = A × B × C} (λ x y. ordering_then (ordering_then (a x.0 y.0) (b x.1 y.1)) (c x.2 y.2))
-tells_triples a b c first second third k l h =
+pub exact_triples : {A B C : Type 0} (a : A → A → Ordering) (b : B → B → Ordering) (c : C → C → Ordering) → IsExactOrder a → IsExactOrder b → IsExactOrder c → IsExactOrder {K = A × B × C} (λ x y. ordering_then (ordering_then (a x.0 y.0) (b x.1 y.1)) (c x.2 y.2))
+exact_triples a b c first second third k l h =
     let parts = both_equal _ _ h in
     let fronts = both_equal _ _ parts.0 in
     let left : k.0 ≡ l.0 = first k.0 l.0 fronts.0 in
@@ -108,28 +108,28 @@ user_cmp x y = ordering_then (bytes_cmp x.0 y.0) (id_cmp x.1 y.1)
 abbrev pub expiry_cmp : ExpiryKey → ExpiryKey → Ordering
 expiry_cmp x y = ordering_then (nat_cmp x.0 y.0) (id_cmp x.1 y.1)
 
-pub tells_ids : TellsKeys id_cmp
-tells_ids = tells_edges (edges_order uuid.the_row bytes_cmp) tells_bytes
+pub exact_ids : IsExactOrder id_cmp
+exact_ids = exact_edges (edges_order uuid.the_row bytes_cmp) exact_bytes
 
-pub tells_identities : TellsKeys identity_cmp
-tells_identities = tells_edges (edges_order (shared.the_row spiffe_id.the_row) bytes_cmp) tells_bytes
+pub exact_identities : IsExactOrder identity_cmp
+exact_identities = exact_edges (edges_order (shared.the_row spiffe_id.the_row) bytes_cmp) exact_bytes
 
-pub tells_groups : TellsKeys group_cmp
-tells_groups = tells_triples identity_cmp identity_cmp id_cmp tells_identities tells_identities tells_ids
+pub exact_groups : IsExactOrder group_cmp
+exact_groups = exact_triples identity_cmp identity_cmp id_cmp exact_identities exact_identities exact_ids
 
-pub tells_users : TellsKeys user_cmp
-tells_users = tells_pairs bytes_cmp id_cmp tells_bytes tells_ids
+pub exact_users : IsExactOrder user_cmp
+exact_users = exact_pairs bytes_cmp id_cmp exact_bytes exact_ids
 
-pub tells_expiries : TellsKeys expiry_cmp
-tells_expiries = tells_pairs nat_cmp id_cmp tells_numbers tells_ids
+pub exact_expiries : IsExactOrder expiry_cmp
+exact_expiries = exact_pairs nat_cmp id_cmp exact_numbers exact_ids
 
 -- ---- keys of entries
 
 same_at : {T : Type 0} (x y : T) → At x ≡ At y → x ≡ y
 same_at x y e = cc
 
-pub groups_tell : KeysTell group_keys
-groups_tell e f k w v = ⊎_elim (λ p. ⊎_elim (λ q. same_at e.id f.id (ap (λ k. k.2) (p ∙ sym q))) (λ n. absurd n) v) (λ n. absurd n) w
+pub groups_identify : KeysIdentify group_keys
+groups_identify e f k w v = ⊎_elim (λ p. ⊎_elim (λ q. same_at e.id f.id (ap (λ k. k.2) (p ∙ sym q))) (λ n. absurd n) v) (λ n. absurd n) w
 
 -- the keys of an entry with its trust domains
 pub from_users : (id : Bytes) (domains : List Bytes) (k : UserKey) → Within (map (λ d. (d, At id)) domains) k → Within domains k.0 × (k.1 ≡ At id)
@@ -140,13 +140,13 @@ pub within_users : (id : Bytes) (domains : List Bytes) (d : Bytes) → Within do
 within_users id [] d w = absurd w
 within_users id (c ∷ cs) d w = ⊎_elim (λ e. inl (ap (λ (d : Bytes). (d, At id)) e)) (λ v. inr (within_users id cs d v)) w
 
-pub users_tell : KeysTell user_keys
-users_tell e f k w v = same_at e.id f.id (sym (from_users e.id e.domains k w).1 ∙ (from_users f.id f.domains k v).1)
+pub users_identify : KeysIdentify user_keys
+users_identify e f k w v = same_at e.id f.id (sym (from_users e.id e.domains k w).1 ∙ (from_users f.id f.domains k v).1)
 
 -- the key of an entry with its expiry
 pub from_expiry : (b : Bool) (one k : ExpiryKey) → Within (if b then one ∷ [] else []) k → (b ≡ true) × (one ≡ k)
 from_expiry true one k w = ⊎_elim (λ e. (refl, e)) (λ n. absurd n) w
 from_expiry false one k w = absurd w
 
-pub expiries_tell : KeysTell expiry_keys
-expiries_tell e f k w v = same_at e.id f.id (ap (λ k. k.1) ((from_expiry _ _ k w).1 ∙ sym (from_expiry _ _ k v).1))
+pub expiries_identify : KeysIdentify expiry_keys
+expiries_identify e f k w v = same_at e.id f.id (ap (λ k. k.1) ((from_expiry _ _ k w).1 ∙ sym (from_expiry _ _ k v).1))

@@ -11,9 +11,9 @@ use Rattle.entry_book.specs.Book.{AscendingBook}
 use Rattle.entry_book.specs.Writes.{RowWrite, wrote_entry, wrote_agent, wrote_bundle, wrote_token}
 use Rattle.entry_book.specs.Batches.{Batch}
 use Rattle.version_book.specs.declared.committed_row.CommittedRow.{CommittedRow}
-use Rattle.version_book.specs.CommittedRows.{CommittedRows, State, AllUpTo, row_of, numbered, of_row, book_of, next_state, rows_after, rows_after_write}
-use Rattle.version_book.specs.History.{Follows, state_with, writes_at}
-use Rattle.version_book.specs.Stores.{NumbersTell, TellRows}
+use Rattle.version_book.specs.CommittedRows.{CommittedRows, VersionState, AllUpTo, row_of, numbered, of_row, book_of, next_state, rows_after, rows_after_write}
+use Rattle.version_book.specs.History.{Follows, version_with, writes_at}
+use Rattle.version_book.specs.Stores.{NumbersIdentify, IdentifyRows}
 
 -- newer rows whose numbers aren't above n are also among the older rows
 abbrev WereThere : {X : Type 0} → ℕ → List (CommittedRow X) → List (CommittedRow X) → Type 0
@@ -51,8 +51,8 @@ module _ {X : Type 0} (key : X → Bytes) where
       (λ v. h r v.0 u)
       (from_with_row (of_row key) k (option_map (numbered m) new) newer r w)
 
-  tell : (n : ℕ) (older newer : List (CommittedRow X)) → Ascending key (map row_of older) → AllByRecursion (λ r. r.commit ≤ n) older → WereThere n older newer → TellRows key older newer
-  tell n older newer a u h r s v w e f =
+  identify : (n : ℕ) (older newer : List (CommittedRow X)) → Ascending key (map row_of older) → AllByRecursion (λ r. r.commit ≤ n) older → WereThere n older newer → IdentifyRows key older newer
+  identify n older newer a u h r s v w e f =
       let l = All-within (λ r. r.commit ≤ n) older r u v in
       same_key (of_row key) older (ascending_rows older a) r s v (h s w (omega arith)) e
 
@@ -72,7 +72,7 @@ up_to_writes : (n : ℕ) (ws : List RowWrite) (rows : CommittedRows) → AllUpTo
 up_to_writes n [] rows h = h
 up_to_writes n (w ∷ ws) rows h = up_to_writes n ws (rows_after_write n w rows) (up_to_write n w rows h)
 
-pub all_up_to_next : (ws : List RowWrite) (s : State) → AllUpTo s.number s.rows → AllUpTo (s.number + 1) (next_state ws s).rows
+pub all_up_to_next : (ws : List RowWrite) (s : VersionState) → AllUpTo s.number s.rows → AllUpTo (s.number + 1) (next_state ws s).rows
 all_up_to_next ws s h = up_to_writes (s.number + 1) ws s.rows (record { entries = up_to_more s.number s.rows.entries h.entries; agents = up_to_more s.number s.rows.agents h.agents; bundles = up_to_more s.number s.rows.bundles h.bundles; tokens = up_to_more s.number s.rows.tokens h.tokens })
 
 -- ---- rows whose numbers aren't above n were there before
@@ -93,16 +93,16 @@ there_after : (n m : ℕ) (ws : List RowWrite) (older newer : CommittedRows) →
 there_after n m [] older newer l h = h
 there_after n m (w ∷ ws) older newer l h = there_after n m ws older (rows_after_write m w newer) l (there_after_write n m w older newer l h)
 
-there_since : (n : ℕ) (older : CommittedRows) (batches : List Batch) (s newer : State) → n ≤ s.number → AllWereThere n older s.rows → Follows s batches newer → AllWereThere n older newer.rows
+there_since : (n : ℕ) (older : CommittedRows) (batches : List Batch) (s newer : VersionState) → n ≤ s.number → AllWereThere n older s.rows → Follows s batches newer → AllWereThere n older newer.rows
 there_since n older [] s newer l h f = subst (λ t. AllWereThere n older t.rows) f h
-there_since n older (batch ∷ batches) s newer l h f = there_since n older batches (state_with batch s) newer (omega arith) (there_after n (s.number + 1) (writes_at batch s) older s.rows (omega arith) h) f.1
+there_since n older (batch ∷ batches) s newer l h f = there_since n older batches (version_with batch s) newer (omega arith) (there_after n (s.number + 1) (writes_at batch s) older s.rows (omega arith) h) f.1
 
-pub numbers_tell : (batches : List Batch) (older newer : State) → AscendingBook (book_of older.rows) → AllUpTo older.number older.rows → Follows older batches newer → NumbersTell older.rows newer.rows
-numbers_tell batches older newer a u f =
+pub numbers_identify : (batches : List Batch) (older newer : VersionState) → AscendingBook (book_of older.rows) → AllUpTo older.number older.rows → Follows older batches newer → NumbersIdentify older.rows newer.rows
+numbers_identify batches older newer a u f =
     let h = there_since older.number older.rows batches older newer (omega arith) (record { entries = λ r w l. w; agents = λ r w l. w; bundles = λ r w l. w; tokens = λ r w l. w }) f in
     record {
-      entries = tell entry_key older.number older.rows.entries newer.rows.entries a.entries u.entries h.entries;
-      agents = tell agent_key older.number older.rows.agents newer.rows.agents a.agents u.agents h.agents;
-      bundles = tell bundle_key older.number older.rows.bundles newer.rows.bundles a.bundles u.bundles h.bundles;
-      tokens = tell token_key older.number older.rows.tokens newer.rows.tokens a.tokens u.tokens h.tokens;
+      entries = identify entry_key older.number older.rows.entries newer.rows.entries a.entries u.entries h.entries;
+      agents = identify agent_key older.number older.rows.agents newer.rows.agents a.agents u.agents h.agents;
+      bundles = identify bundle_key older.number older.rows.bundles newer.rows.bundles a.bundles u.bundles h.bundles;
+      tokens = identify token_key older.number older.rows.tokens newer.rows.tokens a.tokens u.tokens h.tokens;
     }

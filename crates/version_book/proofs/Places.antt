@@ -16,18 +16,18 @@ use Rattle.entry_book.specs.History.{batch_writes, token_writes}
 use Rattle.entry_book.proofs.Changed.{rewritten}
 use Rattle.entry_book.proofs.Shapes.{Shape, nothing, one_row, entries, entries_then, by_shape}
 use Rattle.version_book.specs.declared.mark.MarkKind.{MarkKind}
-use Rattle.version_book.specs.Marks.{hits, names_token, passes}
+use Rattle.version_book.specs.Marks.{hits, names_token, passes_if_some}
 use Rattle.version_book.specs.Laws.{HitsAtAnyPlace, PlacesPut}
 use Rattle.version_book.specs.Written.{at_place, placed, placed_write}
 
 -- ---- no mark depends on a place
 
-passes_at_place : (m : MarkKind) (n : ℕ) (new : Option KeptBatch) → passes (names_token m) (option_map (at_place n) new) ≡ passes (names_token m) new
+passes_at_place : (m : MarkKind) (n : ℕ) (new : Option KeptBatch) → passes_if_some (names_token m) (option_map (at_place n) new) ≡ passes_if_some (names_token m) new
 passes_at_place m n None = refl
 passes_at_place m n (Some k) = refl
 
 write_hits : (n : ℕ) (w : RowWrite) (m : MarkKind) → hits (placed_write n w) m ≡ hits w m
-write_hits n (wrote_token c) m = ap (λ b. passes (names_token m) c.old || b) (passes_at_place m n c.new)
+write_hits n (wrote_token c) m = ap (λ b. passes_if_some (names_token m) c.old || b) (passes_at_place m n c.new)
 write_hits n w m = refl
 
 pub hits_at_any_place : HitsAtAnyPlace
@@ -84,9 +84,9 @@ then_unplaced : (o : OpResult) (f : OpEffect → RunResult) → IfOk o (λ d. Un
 then_unplaced (Ok d) f h k = onto_unplaced d (f d) h (k d)
 then_unplaced (Err r) f h k = tt
 
-pub run_unplaced : (own : Bytes) (ops : List Op) (b : Book) → IfOk (run own ops b) (λ t. Unplaced t.writes)
-run_unplaced own [] b = λ n. refl
-run_unplaced own (op ∷ ops) b = then_unplaced (op_of own op b) (λ d. run own ops (after d.writes b)) (by_shape own op b (λ d. Unplaced d.writes) (λ d s. shape_unplaced op b d s)) (λ d. run_unplaced own ops (after d.writes b))
+pub run_unplaced : (own_domain : Bytes) (ops : List Op) (b : Book) → IfOk (run own_domain ops b) (λ t. Unplaced t.writes)
+run_unplaced own_domain [] b = λ n. refl
+run_unplaced own_domain (op ∷ ops) b = then_unplaced (op_of own_domain op b) (λ d. run own_domain ops (after d.writes b)) (by_shape own_domain op b (λ d. Unplaced d.writes) (λ d s. shape_unplaced op b d s)) (λ d. run_unplaced own_domain ops (after d.writes b))
 
 -- ---- the writes of a batch
 
@@ -96,9 +96,9 @@ token_placed (Some k) ops m n replies = refl
 
 all_placed : (batch : Batch) (m n : ℕ) (r : RunResult) → IfOk r (λ t. Unplaced t.writes) → IfOk r (λ t. placed n (batch_writes batch m t) ≡ batch_writes batch n t)
 all_placed batch m n (Ok t) h =
-    let own = h n in
+    let own_domain = h n in
     let token = token_placed batch.token batch.ops m n t.replies in
-    placed_append n t.writes (token_writes batch.token batch.ops m t.replies) ∙ (λ i. own i ++ token i)
+    placed_append n t.writes (token_writes batch.token batch.ops m t.replies) ∙ (λ i. own_domain i ++ token i)
 all_placed batch m n (Err s) h = tt
 
 pub places_put : PlacesPut

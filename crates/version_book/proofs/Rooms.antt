@@ -26,7 +26,7 @@ use Rattle.entry_book.specs.Order.{Within, is_before, with_row}
 use Rattle.entry_book.specs.Book.{Book, AscendingBook, entry_at, agent_at, bundle_at, names, users_of, expired_before}
 use Rattle.entry_book.specs.Writes.{RowWrite, wrote_entry, wrote_agent, wrote_bundle, wrote_token, FitsBook, FitAll, after, after_write}
 use Rattle.entry_book.specs.Batches.{Batch, IsMadeFor, IsProperOp, entry_fault, op_fault, is_foreign, has_no_path, is_outside}
-use Rattle.entry_book.specs.Ops.{OpEffect, OpResult, similar, lacking, put_named, put_beside, create_over, is_stale, update_when, update_over, removed, delete_when, delete_over, for_agent, agent_dropped, bundle_removed, freed, drop_in, drop_over, op_of}
+use Rattle.entry_book.specs.Ops.{OpEffect, OpResult, similar, lacking, put_named, put_unless_similar, create_over, is_stale, update_when, update_over, removed, delete_when, delete_over, for_agent, agent_dropped, bundle_removed, freed, drop_in, drop_over, op_of}
 use Rattle.entry_book.specs.Runs.{RunEffect, RefusedOp, RunResult, onto, then_run, run}
 use Rattle.entry_book.specs.History.{token_writes}
 use Rattle.entry_book.specs.Laws.{AreFaultless, IsWithinLimits}
@@ -214,12 +214,12 @@ fifth false false false true t later h = cc
 fifth false false false false true later h = cc
 fifth false false false false false later h = refl
 
-few_domains : (own : Bytes) (e : NewEntry) → entry_fault own e ≡ None → nat_lt 8 (length e.domains) ≡ false
+few_domains : (own_domain : Bytes) (e : NewEntry) → entry_fault own_domain e ≡ None → nat_lt 8 (length e.domains) ≡ false
 unfolding entry_fault
-few_domains own e h = fifth (is_foreign own e.parent || is_foreign own e.identity) (has_no_path e.parent || has_no_path e.identity) (bytes_eq e.identity (server_text own)) (is_outside e.selectors) (nat_lt 8 (length e.domains)) _ h
+few_domains own_domain e h = fifth (is_foreign own_domain e.parent || is_foreign own_domain e.identity) (has_no_path e.parent || has_no_path e.identity) (bytes_eq e.identity (server_text own_domain)) (is_outside e.selectors) (nat_lt 8 (length e.domains)) _ h
 
-few_names : (own : Bytes) (e : NewEntry) → entry_fault own e ≡ None → length e.domains ≤ 8
-few_names own e h = let q = few_domains own e h in grind (arith, nat_tests, q)
+few_names : (own_domain : Bytes) (e : NewEntry) → entry_fault own_domain e ≡ None → length e.domains ≤ 8
+few_names own_domain e h = let q = few_domains own_domain e h in grind (arith, nat_tests, q)
 
 -- ---- each operation adds at most one row
 
@@ -266,17 +266,17 @@ named_modest : (q : Option Bytes) (old : Option Entry) (e : Entry) → HasFewNam
 named_modest (Some d) old e h = tt
 named_modest None old e h = modest_one _ h
 
-beside_modest : (p old : Option Entry) (e : Entry) (b : Book) → HasFewNames e → IsModest (put_beside p old e b)
-beside_modest (Some o) old e b h = tt
-beside_modest None old e b h = named_modest (lacking e.domains b) old e h
+unless_similar_modest : (p old : Option Entry) (e : Entry) (b : Book) → HasFewNames e → IsModest (put_unless_similar p old e b)
+unless_similar_modest (Some o) old e b h = tt
+unless_similar_modest None old e b h = named_modest (lacking e.domains b) old e h
 
 create_modest : (o : Option Entry) (e : Entry) (b : Book) → HasFewNames e → IsModest (create_over o e b)
 create_modest (Some o) e b h = tt
-create_modest None e b h = beside_modest (similar e b) None e b h
+create_modest None e b h = unless_similar_modest (similar e b) None e b h
 
 update_modest_when : (stale : Bool) (old : Entry) (e : NewEntry) (b : Book) → length e.domains ≤ 8 → IsModest (update_when stale old e b)
 update_modest_when true old e b h = tt
-update_modest_when false old e b h = beside_modest (similar (at_revision (old.revision + 1) e) b) (Some old) (at_revision (old.revision + 1) e) b h
+update_modest_when false old e b h = unless_similar_modest (similar (at_revision (old.revision + 1) e) b) (Some old) (at_revision (old.revision + 1) e) b h
 
 update_modest : (o : Option Entry) (e : NewEntry) (expected : Option ℕ) (b : Book) → length e.domains ≤ 8 → IsModest (update_over o e expected b)
 update_modest None e expected b h = tt
@@ -300,8 +300,8 @@ drop_in_modest mode.Restrict (e ∷ es) d h = tt
 drop_in_modest mode.Delete es d h = modest_both 0 1 (map removed es) (bundle_removed d ∷ []) (modest_removed es) (modest_one _ tt)
 drop_in_modest mode.Dissociate es d h = modest_both 0 1 (map (freed d.domain) es) (bundle_removed d ∷ []) (modest_freed d.domain es h) (modest_one _ tt)
 
-few_in : (own : Bytes) (m : ℕ) (b : Book) → Lawful own m b → AllByRecursion HasFewNames b.entries
-few_in own m b l = All-from_within HasFewNames b.entries (λ e w. few_names own (given_of e) (l.no_fault e w))
+few_in : (own_domain : Bytes) (m : ℕ) (b : Book) → Lawful own_domain m b → AllByRecursion HasFewNames b.entries
+few_in own_domain m b l = All-from_within HasFewNames b.entries (λ e w. few_names own_domain (given_of e) (l.no_fault e w))
 
 few_users : (domain : Bytes) (b : Book) → AllByRecursion HasFewNames b.entries → AllByRecursion HasFewNames (users_of domain b)
 few_users domain b h = All-from_within HasFewNames (users_of domain b) (λ e w. All-within HasFewNames b.entries e h (from_within_filter (names domain) b.entries e w).0)
@@ -310,22 +310,22 @@ drop_modest : (o : Option Bundle) (domain : Bytes) (m : DropMode) (b : Book) →
 drop_modest None domain m b h = tt
 drop_modest (Some d) domain m b h = drop_in_modest m (users_of d.domain b) d (few_users d.domain b h)
 
-op_modest : (own : Bytes) (op : Op) (b : Book) → op_fault own op ≡ None → AllByRecursion HasFewNames b.entries → IsModest (op_of own op b)
-op_modest own (Create e) b f h = create_modest (entry_at e.id b) (at_revision 0 e) b (few_names own e f)
-op_modest own (Update e expected) b f h = update_modest (entry_at e.id b) e expected b (few_names own e f)
-op_modest own (Delete k expected) b f h = delete_modest (entry_at k b) expected
-op_modest own (Show k) b f h = modest_none
-op_modest own (ShowAgent k) b f h = modest_none
-op_modest own (ShowBundle k) b f h = modest_none
-op_modest own (Children k) b f h = modest_none
-op_modest own (Page q) b f h = modest_none
-op_modest own (Authorised k) b f h = read_modest (agent_at k b) _ (λ a. modest_none)
-op_modest own (Trust k) b f h = read_modest (agent_at k b) _ (λ a. modest_none)
-op_modest own (Prune moment) b f h = modest_more _ (modest_removed (expired_before moment b))
-op_modest own (SetAgent a) b f h = modest_one _ tt
-op_modest own (DropAgent k) b f h = read_modest (agent_at k b) agent_dropped (λ a. modest_one _ tt)
-op_modest own (SetBundle k text) b f h = modest_one _ tt
-op_modest own (DropBundle k m) b f h = drop_modest (bundle_at k b) k m b h
+op_modest : (own_domain : Bytes) (op : Op) (b : Book) → op_fault own_domain op ≡ None → AllByRecursion HasFewNames b.entries → IsModest (op_of own_domain op b)
+op_modest own_domain (Create e) b f h = create_modest (entry_at e.id b) (at_revision 0 e) b (few_names own_domain e f)
+op_modest own_domain (Update e expected) b f h = update_modest (entry_at e.id b) e expected b (few_names own_domain e f)
+op_modest own_domain (Delete k expected) b f h = delete_modest (entry_at k b) expected
+op_modest own_domain (Show k) b f h = modest_none
+op_modest own_domain (ShowAgent k) b f h = modest_none
+op_modest own_domain (ShowBundle k) b f h = modest_none
+op_modest own_domain (Children k) b f h = modest_none
+op_modest own_domain (Page q) b f h = modest_none
+op_modest own_domain (Authorised k) b f h = read_modest (agent_at k b) _ (λ a. modest_none)
+op_modest own_domain (Trust k) b f h = read_modest (agent_at k b) _ (λ a. modest_none)
+op_modest own_domain (Prune moment) b f h = modest_more _ (modest_removed (expired_before moment b))
+op_modest own_domain (SetAgent a) b f h = modest_one _ tt
+op_modest own_domain (DropAgent k) b f h = read_modest (agent_at k b) agent_dropped (λ a. modest_one _ tt)
+op_modest own_domain (SetBundle k text) b f h = modest_one _ tt
+op_modest own_domain (DropBundle k m) b f h = drop_modest (bundle_at k b) k m b h
 
 -- ---- the run of a batch adds at most as many rows as it has operations
 
@@ -336,31 +336,31 @@ onto_modest : (n : ℕ) (d : OpEffect) (r : RunResult) → AreModest 1 d.writes 
 onto_modest n d (Ok t) h k = modest_both 1 n d.writes t.writes h k
 onto_modest n d (Err s) h k = tt
 
-then_modest : (own : Bytes) (m n : ℕ) (b : Book) (o : OpResult) (f : OpEffect → RunResult) → IfOk o (λ d. Lawful own m (after d.writes b)) → IsModest o → ((d : OpEffect) → Lawful own m (after d.writes b) → RunsModestly n (f d)) → RunsModestly (1 + n) (then_run o f)
-then_modest own m n b (Ok d) f l h k = onto_modest n d (f d) h (k d l)
-then_modest own m n b (Err r) f l h k = tt
+then_modest : (own_domain : Bytes) (m n : ℕ) (b : Book) (o : OpResult) (f : OpEffect → RunResult) → IfOk o (λ d. Lawful own_domain m (after d.writes b)) → IsModest o → ((d : OpEffect) → Lawful own_domain m (after d.writes b) → RunsModestly n (f d)) → RunsModestly (1 + n) (then_run o f)
+then_modest own_domain m n b (Ok d) f l h k = onto_modest n d (f d) h (k d l)
+then_modest own_domain m n b (Err r) f l h k = tt
 
-run_modest : (own : Bytes) (m : ℕ) (ops : List Op) (b : Book) → AllByRecursion IsProperOp ops → AllByRecursion (λ op. op_fault own op ≡ None) ops → Lawful own m b → RunsModestly (length ops) (run own ops b)
-run_modest own m [] b p f l = record { grow = omega arith; few = tt }
-run_modest own m (op ∷ ops) b p f l =
+run_modest : (own_domain : Bytes) (m : ℕ) (ops : List Op) (b : Book) → AllByRecursion IsProperOp ops → AllByRecursion (λ op. op_fault own_domain op ≡ None) ops → Lawful own_domain m b → RunsModestly (length ops) (run own_domain ops b)
+run_modest own_domain m [] b p f l = record { grow = omega arith; few = tt }
+run_modest own_domain m (op ∷ ops) b p f l =
     let q : 1 + length ops ≡ length (op ∷ ops) = omega arith in
-    subst (λ n. RunsModestly n (run own (op ∷ ops) b)) q
-    (then_modest own (m + 1) (length ops) b (op_of own op b) (λ d. run own ops (after d.writes b)) (op_keeps own m op b p.0 f.0 l) (op_modest own op b f.0 (few_in own m b l)) (λ d k. run_modest own (m + 1) ops (after d.writes b) p.1 f.1 k))
+    subst (λ n. RunsModestly n (run own_domain (op ∷ ops) b)) q
+    (then_modest own_domain (m + 1) (length ops) b (op_of own_domain op b) (λ d. run own_domain ops (after d.writes b)) (op_keeps own_domain m op b p.0 f.0 l) (op_modest own_domain op b f.0 (few_in own_domain m b l)) (λ d k. run_modest own_domain (m + 1) ops (after d.writes b) p.1 f.1 k))
 
 of_run : (P : RunEffect → Type 0) (r : RunResult) (t : RunEffect) → r ≡ Ok t → IfOk r P → P t
 of_run P r t e h = let k : IfOk {E = RefusedOp} (Ok t) P = subst (λ r. IfOk r P) e h in k
 
 -- for any replies that are stored
-pub room_with : (own : Bytes) (most : ℕ) (batch : Batch) (n : ℕ) (replies : List OpReply) (b : Book) (t : RunEffect) → IsMadeFor own batch → Lawful own most b → IsWithinLimits b → run own batch.ops b ≡ Ok t → RoomAll (t.writes ++ token_writes batch.token batch.ops n replies) b
-room_with own most batch n replies b t made l w e =
+pub room_with : (own_domain : Bytes) (most : ℕ) (batch : Batch) (n : ℕ) (replies : List OpReply) (b : Book) (t : RunEffect) → IsMadeFor own_domain batch → Lawful own_domain most b → IsWithinLimits b → run own_domain batch.ops b ≡ Ok t → RoomAll (t.writes ++ token_writes batch.token batch.ops n replies) b
+room_with own_domain most batch n replies b t made l w e =
     let sound : AreFaultless batch.domain batch.ops = no_fault batch.domain batch.ops batch.token made.no_fault in
     let few = sound.few in
-    let faultless : AllByRecursion (λ op. op_fault own op ≡ None) batch.ops = subst (λ d. AllByRecursion (λ op. op_fault d op ≡ None) batch.ops) made.domain_is sound.none in
-    let modest : AreModest (length batch.ops) t.writes = of_run (λ t. AreModest (length batch.ops) t.writes) (run own batch.ops b) t e (run_modest own most batch.ops b made.proper faultless l) in
-    let fits = of_run (λ t. FitAll t.writes b × AscendingBook (after t.writes b)) (run own batch.ops b) t e (run_fits own batch.ops b l.ascending) in
+    let faultless : AllByRecursion (λ op. op_fault own_domain op ≡ None) batch.ops = subst (λ d. AllByRecursion (λ op. op_fault d op ≡ None) batch.ops) made.domain_is sound.none in
+    let modest : AreModest (length batch.ops) t.writes = of_run (λ t. AreModest (length batch.ops) t.writes) (run own_domain batch.ops b) t e (run_modest own_domain most batch.ops b made.proper faultless l) in
+    let fits = of_run (λ t. FitAll t.writes b × AscendingBook (after t.writes b)) (run own_domain batch.ops b) t e (run_fits own_domain batch.ops b l.ascending) in
     let g = modest.grow in
     let x = w.entries in let y = w.agents in let z = w.bundles in let k = w.tokens in
-    let small : IsSmall 0 b = record { entries = omega arith; agents = omega arith; bundles = omega arith; tokens = omega arith; few = few_in own most b l } in
+    let small : IsSmall 0 b = record { entries = omega arith; agents = omega arith; bundles = omega arith; tokens = omega arith; few = few_in own_domain most b l } in
     let left : IsSmall (0 + growth_of t.writes) (after t.writes b) = small_all 0 t.writes b fits.0 modest.few small in
     let tokens = left.tokens in
     room_append t.writes (token_writes batch.token batch.ops n replies) b
@@ -368,4 +368,4 @@ room_with own most batch n replies b t made l w e =
     (room_for_token batch.token batch.ops n replies (after t.writes b) (omega arith))
 
 pub room_in_run : RoomInRun
-room_in_run own most batch n b t made l w e = room_with own most batch n t.replies b t made l w e
+room_in_run own_domain most batch n b t made l w e = room_with own_domain most batch n t.replies b t made l w e

@@ -15,7 +15,7 @@ use Rattle.version_book.specs.declared.key.KeyPart.TheVariants.{Start, At, End}
 use Rattle.version_book.specs.declared.committed_row.CommittedRow.{CommittedRow}
 use Rattle.version_book.specs.Index.{Covers, IsIndex, is_between}
 use Rattle.version_book.specs.CommittedRows.{of_row}
-use Rattle.version_book.specs.Stores.{TellRows, stamp, stamps}
+use Rattle.version_book.specs.Stores.{IdentifyRows, stamp, stamps}
 use Rattle.version_book.proofs.KeyOrders.{bytes_cmp, id_cmp, identity_cmp, group_cmp, user_cmp, expiry_cmp}
 use Rattle.version_book.proofs.Mapped.{from_within_map, within_map}
 
@@ -113,18 +113,18 @@ module _ {K : Type 0} (cmp : K → K → Ordering) (keys : Entry → List K) (lo
 
   -- a row is among the others if they have its stamp and equal stamps imply equal rows
   found : (rows others : List (CommittedRow Entry)) (one other : List (K × CommittedRow Entry)) → IsIndex keys rows one → IsIndex keys others other → ((r s : CommittedRow Entry) → Within rows r → Within others s → entry_key r.row ≡ entry_key s.row → r.commit ≡ s.commit → r ≡ s) → stamps (rows_between cmp one lo hi) ≡ stamps (rows_between cmp other lo hi) → (r : CommittedRow Entry) → Within (filter (of_row p) rows) r → Within (filter (of_row p) others) r
-  found rows others one other i j tells e r w =
+  found rows others one other i j is_exact e r w =
       let a = in_range rows one i r w in
       let b = from_within_map (stamp {K = K}) (rows_between cmp other lo hi) (stamp (a.0, r)) (subst (λ l. Within l (stamp {K = K} (a.0, r))) e (within_map (stamp {K = K}) (rows_between cmp one lo hi) (a.0, r) a.1)) in
       let s = from_range others other j b.0 b.1 in
-      let same : r ≡ b.0.1 = tells r b.0.1 (from_within_filter (of_row p) rows r w).0 (from_within_filter (of_row p) others b.0.1 s.0).0 (sym (ap (λ t. t.0) b.2)) (sym (ap (λ t. t.1) b.2)) in
+      let same : r ≡ b.0.1 = is_exact r b.0.1 (from_within_filter (of_row p) rows r w).0 (from_within_filter (of_row p) others b.0.1 s.0).0 (sym (ap (λ t. t.0) b.2)) (sym (ap (λ t. t.1) b.2)) in
       subst (Within (filter (of_row p) others)) (sym same) s.0
 
   -- equal stamps imply equal rows
-  pub range_tells : (rows others : List (CommittedRow Entry)) (one other : List (K × CommittedRow Entry)) → IsIndex keys rows one → IsIndex keys others other → Ascending (of_row entry_key) rows → Ascending (of_row entry_key) others → TellRows entry_key rows others → stamps (rows_between cmp one lo hi) ≡ stamps (rows_between cmp other lo hi) → filter (of_row p) rows ≡ filter (of_row p) others
-  range_tells rows others one other i j a b tells e = same_sets (of_row entry_key) (filter (of_row p) rows) (filter (of_row p) others) (ascending_filter (of_row entry_key) (of_row p) rows a) (ascending_filter (of_row entry_key) (of_row p) others b)
-      (found rows others one other i j tells e)
-      (found others rows other one j i (λ s r v w k n. sym (tells r s w v (sym k) (sym n))) (sym e))
+  pub range_identified : (rows others : List (CommittedRow Entry)) (one other : List (K × CommittedRow Entry)) → IsIndex keys rows one → IsIndex keys others other → Ascending (of_row entry_key) rows → Ascending (of_row entry_key) others → IdentifyRows entry_key rows others → stamps (rows_between cmp one lo hi) ≡ stamps (rows_between cmp other lo hi) → filter (of_row p) rows ≡ filter (of_row p) others
+  range_identified rows others one other i j a b is_exact e = same_sets (of_row entry_key) (filter (of_row p) rows) (filter (of_row p) others) (ascending_filter (of_row entry_key) (of_row p) rows a) (ascending_filter (of_row entry_key) (of_row p) others b)
+      (found rows others one other i j is_exact e)
+      (found others rows other one j i (λ s r v w k n. sym (is_exact r s w v (sym k) (sym n))) (sym e))
 
 -- ---- a single row
 
@@ -134,13 +134,13 @@ row_same None (Some s) e = cc
 row_same (Some r) None e = cc
 row_same (Some r) (Some s) e = let q : r ≡ s = cc in ap (λ x. Some x.commit) q
 
-pub row_tells : {X : Type 0} (key : X → Bytes) (p : X → Bool) (rows others : List (CommittedRow X)) (one other : Option (CommittedRow X)) → filter (of_row p) rows ≡ option_to_list one → filter (of_row p) others ≡ option_to_list other → ((r s : CommittedRow X) → p r.row ≡ true → p s.row ≡ true → key r.row ≡ key s.row) → TellRows key rows others → option_map (λ r. r.commit) one ≡ option_map (λ r. r.commit) other → filter (of_row p) rows ≡ filter (of_row p) others
-row_tells key p rows others None None a b alone tells e = a ∙ sym b
-row_tells key p rows others None (Some s) a b alone tells e = cc
-row_tells key p rows others (Some r) None a b alone tells e = cc
-row_tells key p rows others (Some r) (Some s) a b alone tells e =
+pub row_identified : {X : Type 0} (key : X → Bytes) (p : X → Bool) (rows others : List (CommittedRow X)) (one other : Option (CommittedRow X)) → filter (of_row p) rows ≡ option_to_list one → filter (of_row p) others ≡ option_to_list other → ((r s : CommittedRow X) → p r.row ≡ true → p s.row ≡ true → key r.row ≡ key s.row) → IdentifyRows key rows others → option_map (λ r. r.commit) one ≡ option_map (λ r. r.commit) other → filter (of_row p) rows ≡ filter (of_row p) others
+row_identified key p rows others None None a b alone is_exact e = a ∙ sym b
+row_identified key p rows others None (Some s) a b alone is_exact e = cc
+row_identified key p rows others (Some r) None a b alone is_exact e = cc
+row_identified key p rows others (Some r) (Some s) a b alone is_exact e =
     let left = from_within_filter (of_row p) rows r (subst (λ l. Within l r) (sym a) (inl refl)) in
     let right = from_within_filter (of_row p) others s (subst (λ l. Within l s) (sym b) (inl refl)) in
     let commit : r.commit ≡ s.commit = cc in
-    let same : r ≡ s = tells r s left.0 right.0 (alone r s left.1 right.1) commit in
+    let same : r ≡ s = is_exact r s left.0 right.0 (alone r s left.1 right.1) commit in
     a ∙ (ap (λ x. x ∷ []) same ∙ sym b)

@@ -64,11 +64,11 @@ rows_after n (w ∷ ws) rows = rows_after n ws (rows_after_write n w rows)
 -- ---- a version
 
 -- A version as contracts see it: the server's trust domain, the number of its book in the history, and its rows.
-pub record State : Type 0 where
+pub record VersionState : Type 0 where
   pub domain : Bytes
   pub number : ℕ
   pub rows : CommittedRows
 
 -- the next version, after these writes of one commit
-abbrev pub next_state : List RowWrite → State → State
+abbrev pub next_state : List RowWrite → VersionState → VersionState
 next_state writes s = record s { number = s.number + 1; rows = rows_after (s.number + 1) writes s.rows }

@@ -11,7 +11,7 @@ use Rattle.entry_book.specs.Batches.{Batch, IsMadeFor}
 use Rattle.entry_book.specs.History.{verdict, adds, batch_writes, reply_with, last_book, place_of, books_from}
 use Rattle.version_book.specs.declared.mark.MarkKind.{MarkKind}
 use Rattle.version_book.specs.Marks.{hits}
-use Rattle.version_book.specs.CommittedRows.{State, book_of, next_state}
+use Rattle.version_book.specs.CommittedRows.{VersionState, book_of, next_state}
 
 -- ---- one batch
 
@@ -25,45 +25,45 @@ abbrev pub writes_of : Batch → ℕ → Book → List RowWrite
 writes_of batch n b = writes_in batch n (run batch.domain batch.ops b)
 
 -- the writes of a batch that make the version after this one
-abbrev pub writes_at : Batch → State → List RowWrite
+abbrev pub writes_at : Batch → VersionState → List RowWrite
 writes_at batch s = writes_of batch (s.number + 1) (book_of s.rows)
 
 -- the version after a batch
-abbrev pub state_with : Batch → State → State
-state_with batch s = next_state (writes_at batch s) s
+abbrev pub version_with : Batch → VersionState → VersionState
+version_with batch s = next_state (writes_at batch s) s
 
 -- The batch commits on the version: it was made for its trust domain, and its verdict on the version's book is to add the book
 -- of the version after it.
-pub record Commits (batch : Batch) (s : State) : Type 0 where
+pub record CommitsOn (batch : Batch) (s : VersionState) : Type 0 where
   pub made : IsMadeFor s.domain batch
   pub replies : List OpReply
-  pub added : verdict batch s.number (Some (book_of s.rows)) ≡ adds replies (book_of (state_with batch s).rows)
+  pub added : verdict batch s.number (Some (book_of s.rows)) ≡ adds replies (book_of (version_with batch s).rows)
 
 -- ---- many batches
 
 -- These batches lead from the older version to the newer one: each commits on the version that the batches before it left.
-abbrev pub Follows : State → List Batch → State → Type 0
+abbrev pub Follows : VersionState → List Batch → VersionState → Type 0
 Follows older [] newer = older ≡ newer
-Follows older (batch ∷ batches) newer = Commits batch older × Follows (state_with batch older) batches newer
+Follows older (batch ∷ batches) newer = CommitsOn batch older × Follows (version_with batch older) batches newer
 
 -- some batches lead from the older version to the newer one; with no batches, both are the same
-abbrev pub IsEarlier : State → State → Type 0
+abbrev pub IsEarlier : VersionState → VersionState → Type 0
 IsEarlier older newer = (batches : List Batch) × Follows older batches newer
 
 -- one of the batches, run one after another from the older version on, makes a write that hits the mark
-abbrev pub any_hits : MarkKind → State → List Batch → Bool
+abbrev pub any_hits : MarkKind → VersionState → List Batch → Bool
 any_hits m older [] = false
-any_hits m older (batch ∷ batches) = list_any (λ w. hits w m) (writes_at batch older) || any_hits m (state_with batch older) batches
+any_hits m older (batch ∷ batches) = list_any (λ w. hits w m) (writes_at batch older) || any_hits m (version_with batch older) batches
 
 -- the reply to each of these batches, run one after another from the version on
-abbrev pub replies_on : List Batch → State → List Reply
+abbrev pub replies_on : List Batch → VersionState → List Reply
 replies_on [] s = []
-replies_on (batch ∷ batches) s = reply_with s.number (verdict batch s.number (Some (book_of s.rows))) ∷ replies_on batches (state_with batch s)
+replies_on (batch ∷ batches) s = reply_with s.number (verdict batch s.number (Some (book_of s.rows))) ∷ replies_on batches (version_with batch s)
 
 -- ---- in relation to the list of all books
 
 -- The version has the book and the number of the last one of these books.
-pub record IsLast (s : State) (books : List Book) : Type 0 where
+pub record IsLast (s : VersionState) (books : List Book) : Type 0 where
   pub book : last_book books ≡ book_of s.rows
   pub place : place_of books ≡ s.number
 

@@ -66,12 +66,12 @@ index_range_of m = SingleRow
 -- ---- properties of the keys of an index
 
 -- keys that compare as equal are equal
-abbrev pub TellsKeys : {K : Type 0} → (K → K → Ordering) → Type 0
-TellsKeys cmp = (k l : _) → is_eq (cmp k l) ≡ true → k ≡ l
+abbrev pub IsExactOrder : {K : Type 0} → (K → K → Ordering) → Type 0
+IsExactOrder cmp = (k l : _) → is_eq (cmp k l) ≡ true → k ≡ l
 
 -- entries that have a key in common have the same id
-abbrev pub KeysTell : {K : Type 0} → (Entry → List K) → Type 0
-KeysTell keys = (e f : Entry) (k : _) → Within (keys e) k → Within (keys f) k → e.id ≡ f.id
+abbrev pub KeysIdentify : {K : Type 0} → (Entry → List K) → Type 0
+KeysIdentify keys = (e f : Entry) (k : _) → Within (keys e) k → Within (keys f) k → e.id ≡ f.id
 
 -- each of these keys has a row
 abbrev pub AreThere : {K V : Type 0} → List K → List (K × V) → Type 0

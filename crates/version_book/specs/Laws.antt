@@ -14,8 +14,8 @@ use Rattle.version_book.specs.declared.mark.MarkKind.{MarkKind}
 use Rattle.version_book.specs.declared.mark.MarkKind.TheVariants as mark
 use Rattle.version_book.specs.Applying.{MayApply}
 use Rattle.version_book.specs.Marks.{reads, Agree, hits, seen}
-use Rattle.version_book.specs.CommittedRows.{CommittedRows, State, book_of, marked, rows_after, next_state}
-use Rattle.version_book.specs.History.{Commits, Follows, IsLast, SomeHit, any_hits, replies_on, state_with}
+use Rattle.version_book.specs.CommittedRows.{CommittedRows, VersionState, book_of, marked, rows_after, next_state}
+use Rattle.version_book.specs.History.{CommitsOn, Follows, IsLast, SomeHit, any_hits, replies_on, version_with}
 use Rattle.version_book.specs.Room.{RoomAll}
 use Rattle.version_book.specs.Written.{placed}
 
@@ -90,41 +90,41 @@ BookReads = (m : MarkKind) (rows : CommittedRows) → reads m (book_of rows) ≡
 -- When a batch of changes, made for a version's trust domain, commits on the version: it may run at the version's number, its
 -- token isn't in use, its run on the book isn't refused, and the result passes no limit. The version after it has its writes.
 abbrev pub BatchCommits : Type 0
-BatchCommits = (batch : Batch) (s : State) (t : RunEffect) → IsMadeFor s.domain batch → is_query batch.ops ≡ false → batch.after ≤ s.number → kept_under batch.token (book_of s.rows) ≡ None → run batch.domain batch.ops (book_of s.rows) ≡ Ok t → limit_passed s.number (after (batch_writes batch (s.number + 1) t) (book_of s.rows)) ≡ None → Commits batch s × (state_with batch s ≡ next_state (batch_writes batch (s.number + 1) t) s)
+BatchCommits = (batch : Batch) (s : VersionState) (t : RunEffect) → IsMadeFor s.domain batch → is_query batch.ops ≡ false → batch.after ≤ s.number → kept_under batch.token (book_of s.rows) ≡ None → run batch.domain batch.ops (book_of s.rows) ≡ Ok t → limit_passed s.number (after (batch_writes batch (s.number + 1) t) (book_of s.rows)) ≡ None → CommitsOn batch s × (version_with batch s ≡ next_state (batch_writes batch (s.number + 1) t) s)
 
 -- batches that lead from s to t, followed by batches that lead from t to u, lead from s to u
 abbrev pub FollowsJoined : Type 0
-FollowsJoined = (first second : List Batch) (s t u : State) → Follows s first t → Follows t second u → Follows s (first ++ second) u
+FollowsJoined = (first second : List Batch) (s t u : VersionState) → Follows s first t → Follows t second u → Follows s (first ++ second) u
 
 -- If the last of some books is the older version's, with its number, the specification commits the batches on these books too.
 -- The last book and its number are then those of the newer version, whose number has grown by one for each batch.
 abbrev pub BooksFollow : Type 0
-BooksFollow = (batches : List Batch) (older newer : State) (books : List Book) → 0 < length books → last_book books ≡ book_of older.rows → place_of books ≡ older.number → Follows older batches newer → CommitAll books batches × (last_book (books_from books batches) ≡ book_of newer.rows) × (place_of (books_from books batches) ≡ newer.number) × (length batches + older.number ≡ newer.number)
+BooksFollow = (batches : List Batch) (older newer : VersionState) (books : List Book) → 0 < length books → last_book books ≡ book_of older.rows → place_of books ≡ older.number → Follows older batches newer → CommitAll books batches × (last_book (books_from books batches) ≡ book_of newer.rows) × (place_of (books_from books batches) ≡ newer.number) × (length batches + older.number ≡ newer.number)
 
 -- the trust domain is unchanged, and each batch was made for it
-abbrev pub DomainStays : Type 0
-DomainStays = (batches : List Batch) (older newer : State) → Follows older batches newer → (newer.domain ≡ older.domain) × AllByRecursion (IsMadeFor older.domain) batches
+abbrev pub DomainIsUnchanged : Type 0
+DomainIsUnchanged = (batches : List Batch) (older newer : VersionState) → Follows older batches newer → (newer.domain ≡ older.domain) × AllByRecursion (IsMadeFor older.domain) batches
 
 -- if a version is within the limits, so is each one that follows from it
 abbrev pub LimitsFollow : Type 0
-LimitsFollow = (batches : List Batch) (older newer : State) → IsWithinLimits (book_of older.rows) → Follows older batches newer → IsWithinLimits (book_of newer.rows)
+LimitsFollow = (batches : List Batch) (older newer : VersionState) → IsWithinLimits (book_of older.rows) → Follows older batches newer → IsWithinLimits (book_of newer.rows)
 
 -- if no batch in between makes a write that hits a mark, both versions have the same rows at the mark, with the same numbers
 abbrev pub UnhitHistory : Type 0
-UnhitHistory = (m : MarkKind) (batches : List Batch) (older newer : State) → AscendingBook (book_of older.rows) → Follows older batches newer → any_hits m older batches ≡ false → marked m older.rows ≡ marked m newer.rows
+UnhitHistory = (m : MarkKind) (batches : List Batch) (older newer : VersionState) → AscendingBook (book_of older.rows) → Follows older batches newer → any_hits m older batches ≡ false → marked m older.rows ≡ marked m newer.rows
 
 -- if no batch in between makes a write that hits one of these marks, both books read the same at each of them
 abbrev pub UnhitMarks : Type 0
-UnhitMarks = (ms : List MarkKind) (batches : List Batch) (older newer : State) → AscendingBook (book_of older.rows) → Follows older batches newer → list_any (λ m. any_hits m older batches) ms ≡ false → AllByRecursion (λ m. Agree (book_of older.rows) (book_of newer.rows) m) ms
+UnhitMarks = (ms : List MarkKind) (batches : List Batch) (older newer : VersionState) → AscendingBook (book_of older.rows) → Follows older batches newer → list_any (λ m. any_hits m older batches) ms ≡ false → AllByRecursion (λ m. Agree (book_of older.rows) (book_of newer.rows) m) ms
 
 -- if a batch runs on a lawful book within the limits, there is room for all its writes, including that of its token
 abbrev pub RoomInRun : Type 0
-RoomInRun = (own : Bytes) (most : ℕ) (batch : Batch) (n : ℕ) (b : Book) (t : RunEffect) → IsMadeFor own batch → Lawful own most b → IsWithinLimits b → run own batch.ops b ≡ Ok t → RoomAll (batch_writes batch n t) b
+RoomInRun = (own_domain : Bytes) (most : ℕ) (batch : Batch) (n : ℕ) (b : Book) (t : RunEffect) → IsMadeFor own_domain batch → Lawful own_domain most b → IsWithinLimits b → run own_domain batch.ops b ≡ Ok t → RoomAll (batch_writes batch n t) b
 
 -- If a batch runs on a lawful version within the limits, and its token isn't in use, all its writes may be applied to the
 -- version.
 abbrev pub RunMayApply : Type 0
-RunMayApply = (batch : Batch) (s : State) (t : RunEffect) → IsMadeFor s.domain batch → Lawful s.domain (64 * s.number) (book_of s.rows) → IsWithinLimits (book_of s.rows) → kept_under batch.token (book_of s.rows) ≡ None → run batch.domain batch.ops (book_of s.rows) ≡ Ok t → MayApply (batch_writes batch (s.number + 1) t) (s.number + 1) s
+RunMayApply = (batch : Batch) (s : VersionState) (t : RunEffect) → IsMadeFor s.domain batch → Lawful s.domain (64 * s.number) (book_of s.rows) → IsWithinLimits (book_of s.rows) → kept_under batch.token (book_of s.rows) ≡ None → run batch.domain batch.ops (book_of s.rows) ≡ Ok t → MayApply (batch_writes batch (s.number + 1) t) (s.number + 1) s
 
 -- ---- lists of batches
 
@@ -137,10 +137,10 @@ CommitsJoin = (first second : List Batch) (books : List Book) → CommitAll book
 
 -- the specification gives the batches of a history the replies that its versions give
 abbrev pub RepliesFollow : Type 0
-RepliesFollow = (batches : List Batch) (older newer : State) (books : List Book) → 0 < length books → IsLast older books → Follows older batches newer → replies_from books batches ≡ replies_on batches older
+RepliesFollow = (batches : List Batch) (older newer : VersionState) (books : List Book) → 0 < length books → IsLast older books → Follows older batches newer → replies_from books batches ≡ replies_on batches older
 
 -- ---- which batch hit a mark
 
 -- in terms of the list of all books
 abbrev pub HitsInBooks : Type 0
-HitsInBooks = (m : MarkKind) (batches : List Batch) (older newer : State) (books : List Book) → 0 < length books → IsLast older books → Follows older batches newer → (any_hits m older batches ≡ true) ↔ SomeHit m books batches
+HitsInBooks = (m : MarkKind) (batches : List Batch) (older newer : VersionState) (books : List Book) → 0 < length books → IsLast older books → Follows older batches newer → (any_hits m older batches ≡ true) ↔ SomeHit m books batches

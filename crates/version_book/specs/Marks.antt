@@ -46,9 +46,9 @@ Agree b c m = reads m b ≡ reads m c
 
 -- ---- which writes hit a mark
 
-abbrev pub passes : {X : Type 0} → (X → Bool) → Option X → Bool
-passes p None = false
-passes p (Some x) = p x
+abbrev pub passes_if_some : {X : Type 0} → (X → Bool) → Option X → Bool
+passes_if_some p None = false
+passes_if_some p (Some x) = p x
 
 -- the mark is that of the entry of this id, or of all entries
 abbrev pub is_of_entry : Bytes → MarkKind → Bool
@@ -58,19 +58,19 @@ is_of_entry k m = false
 
 -- The mark names the old row or the new one. A write of an entry also hits the mark of the entry's id, and that of all entries.
 abbrev pub hits : RowWrite → MarkKind → Bool
-hits (wrote_entry c) m = is_of_entry c.key m || (passes (names_entry m) c.old || passes (names_entry m) c.new)
-hits (wrote_agent c) m = passes (names_agent m) c.old || passes (names_agent m) c.new
-hits (wrote_bundle c) m = passes (names_bundle m) c.old || passes (names_bundle m) c.new
-hits (wrote_token c) m = passes (names_token m) c.old || passes (names_token m) c.new
+hits (wrote_entry c) m = is_of_entry c.key m || (passes_if_some (names_entry m) c.old || passes_if_some (names_entry m) c.new)
+hits (wrote_agent c) m = passes_if_some (names_agent m) c.old || passes_if_some (names_agent m) c.new
+hits (wrote_bundle c) m = passes_if_some (names_bundle m) c.old || passes_if_some (names_bundle m) c.new
+hits (wrote_token c) m = passes_if_some (names_token m) c.old || passes_if_some (names_token m) c.new
 
 -- ---- the part of a write that a mark sees
 
-abbrev pub kept : {X : Type 0} → (X → Bool) → Option X → Option X
-kept p None = None
-kept p (Some x) = if p x then Some x else None
+abbrev pub kept_if : {X : Type 0} → (X → Bool) → Option X → Option X
+kept_if p None = None
+kept_if p (Some x) = if p x then Some x else None
 
 abbrev pub seen_change : {X : Type 0} → (X → Bool) → RowChange X → RowChange X
-seen_change p c = record { key = c.key; old = kept p c.old; new = kept p c.new }
+seen_change p c = record { key = c.key; old = kept_if p c.old; new = kept_if p c.new }
 
 abbrev pub seen : MarkKind → RowWrite → RowWrite
 seen m (wrote_entry c) = wrote_entry (seen_change (names_entry m) c)

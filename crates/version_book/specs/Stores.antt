@@ -41,11 +41,11 @@ shelf_after cmp key (Some value) shelf = with_key cmp shelf key value
 -- ---- what equal numbers imply for an older and a newer version of one history
 
 -- an older and a newer row with the same key and the same number are equal
-abbrev pub TellRows : {X : Type 0} → (X → Bytes) → List (CommittedRow X) → List (CommittedRow X) → Type 0
-TellRows key older newer = (r s : _) → Within older r → Within newer s → key r.row ≡ key s.row → r.commit ≡ s.commit → r ≡ s
+abbrev pub IdentifyRows : {X : Type 0} → (X → Bytes) → List (CommittedRow X) → List (CommittedRow X) → Type 0
+IdentifyRows key older newer = (r s : _) → Within older r → Within newer s → key r.row ≡ key s.row → r.commit ≡ s.commit → r ≡ s
 
-pub record NumbersTell (older newer : CommittedRows) : Type 0 where
-  pub entries : TellRows entry_key older.entries newer.entries
-  pub agents : TellRows agent_key older.agents newer.agents
-  pub bundles : TellRows bundle_key older.bundles newer.bundles
-  pub tokens : TellRows token_key older.tokens newer.tokens
+pub record NumbersIdentify (older newer : CommittedRows) : Type 0 where
+  pub entries : IdentifyRows entry_key older.entries newer.entries
+  pub agents : IdentifyRows agent_key older.agents newer.agents
+  pub bundles : IdentifyRows bundle_key older.bundles newer.bundles
+  pub tokens : IdentifyRows token_key older.tokens newer.tokens

@@ -26,7 +26,7 @@ impl<T: Clone> Clone for CommittedRow<T> {
 }
 
 /// Returns the row without its number, borrowed, if there is one.
-pub(crate) fn lent<T>(row: Option<&CommittedRow<T>>) -> Option<&T>
+pub(crate) fn borrowed<T>(row: Option<&CommittedRow<T>>) -> Option<&T>
     ensures { option_copied result ≡ option_map row_of (option_copied row.entry) }
 {
     match row {

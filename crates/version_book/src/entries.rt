@@ -4,12 +4,12 @@ ghost use Rattle.std.specs.Prelude.{◌≡◌, IfOk, IsTrue};
 ghost use Rattle.version_book.specs.Index.{HaveSameKeys, group_keys, user_keys, expiry_keys};
 
 use crate::changes::RowChange;
-use crate::committed_row::{CommittedRow, is_same_row, lent, row_alone};
+use crate::committed_row::{CommittedRow, is_same_row, borrowed, row_alone};
 use crate::index::{
-    entries_between, lent_between, replace_keys, same_between, with_keys, without_keys,
+    entries_between, borrowed_between, replace_keys, same_between, with_keys, without_keys,
 };
 use crate::key::{ExpiryKey, GroupKey, KeyPart, UserKey};
-use crate::lent::Lent;
+use crate::borrowed::Borrowed;
 use crate::mark::{IndexRange, Mark, MarkKind};
 use crate::page::page_of;
 use crate::parent::{ParentEnd, ParentStart};
@@ -126,7 +126,7 @@ impl Entries {
     ghost use Rattle.version_book.specs.CommittedRows.{numbered, of_row, row_of};
     ghost use Rattle.version_shelf.specs.Shelf.{most_rows};
     ghost use Rattle.version_book.specs.Room.{count_of_names};
-    ghost use Rattle.version_book.specs.Stores.{IsAbsent, TellRows};
+    ghost use Rattle.version_book.specs.Stores.{IsAbsent, IdentifyRows};
 
     /// No entries. Allocates no memory.
     pub(crate) fn empty(alloc: Global) -> Entries
@@ -272,7 +272,7 @@ impl Entries {
     pub(crate) fn get(&self, id: &Uuid) -> Option<&Entry>
         ensures { option_copied result ≡ first (filter (λ (entry : EntryRow). bytes_eq entry.id id.now) (map row_of self.now)) }
     {
-        lent(self.rows.get(id))
+        borrowed(self.rows.get(id))
     }
 
     /// Returns the entries of a parent, borrowed, in the order of their ids. The error is out of memory.
@@ -280,10 +280,10 @@ impl Entries {
         &self,
         alloc: Global,
         parent: &Shared<SpiffeId>,
-    ) -> Result<Vec<Lent<'_, Entry>>, AllocError>
+    ) -> Result<Vec<Borrowed<'_, Entry>>, AllocError>
         ensures { IfOk result (λ found. found.items ≡ filter (λ (entry : EntryRow). bytes_eq entry.parent parent.now) (map row_of self.now)) }
     {
-        lent_between(
+        borrowed_between(
             alloc,
             &self.groups,
             &ParentStart { parent },
@@ -297,7 +297,7 @@ impl Entries {
         &self,
         alloc: Global,
         query: &PageQuery,
-    ) -> Result<(Vec<Lent<'_, Entry>>, Option<Uuid>), AllocError>
+    ) -> Result<(Vec<Borrowed<'_, Entry>>, Option<Uuid>), AllocError>
         ensures listed { IfOk result (λ page. page.0.items ≡ take query.now.size
             (filter (λ (entry : EntryRow). passes query.now.filter entry && comes_after query.now.from entry) (map row_of self.now))) }
         ensures next { IfOk result (λ page. page.1 ≡ (
@@ -330,7 +330,7 @@ impl Entries {
     /// one history, true implies that the entries are equal.
     pub(crate) fn is_same_at(&self, older: &Entries, mark: &Mark) -> bool
         ensures same { filter (of_row (names_entry mark.now)) older.now ≡ filter (of_row (names_entry mark.now)) self.now → IsTrue result }
-        ensures tells { TellRows entry_key older.now self.now → IsTrue result
+        ensures is_exact { IdentifyRows entry_key older.now self.now → IsTrue result
             → filter (of_row (names_entry mark.now)) older.now ≡ filter (of_row (names_entry mark.now)) self.now }
     {
         match mark.index_range() {

@@ -2,7 +2,7 @@
 
 ghost use Rattle.std.specs.Prelude.{◌≡◌};
 ghost use Rattle.std.specs.List.{list_any};
-ghost use Rattle.version_book.specs.Marks.{hits, is_of_entry, is_of_token, passes};
+ghost use Rattle.version_book.specs.Marks.{hits, is_of_entry, is_of_token, passes_if_some};
 ghost use Rattle.version_book.specs.Written.{write_of};
 
 use crate::changes::{Changes, RowChange, RowWrite, TokenWrite};
@@ -12,7 +12,7 @@ use uuid::Uuid;
 
 /// Returns true if there is a row and the mark names it.
 fn is_passed<T: BookRow>(mark: &Mark, row: &Option<T>) -> bool
-    ensures { result ≡ passes (T.names mark.now) row.now }
+    ensures { result ≡ passes_if_some (T.names mark.now) row.now }
 {
     match row {
         Some(row) => row.is_named(mark),

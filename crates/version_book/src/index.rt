@@ -8,11 +8,11 @@ ghost use Rattle.entry_book.specs.Rows.{Entry as EntryRow, entry_key};
 ghost use Rattle.version_shelf.specs.Shelf.{ClonesEqual, IsInOrder, most_rows, rows_between};
 ghost use Rattle.version_book.specs.declared.committed_row.CommittedRow.{CommittedRow as NumberedRow};
 ghost use Rattle.version_book.specs.CommittedRows.{of_row, row_of};
-ghost use Rattle.version_book.specs.Index.{AreThere, Covers, IsIndex, KeysTell, TellsKeys};
+ghost use Rattle.version_book.specs.Index.{AreThere, Covers, IsIndex, KeysIdentify, IsExactOrder};
 ghost use Rattle.version_book.specs.Stores.{IsAbsent, stamps};
 
 use crate::committed_row::CommittedRow;
-use crate::lent::{Lent, owned};
+use crate::borrowed::{Borrowed, owned};
 use crate::row_shelf::put_row;
 use entry_book::Entry;
 use std::alloc::{AllocError, Global};
@@ -27,9 +27,9 @@ pub(crate) fn without_keys<K: Ord + Clone + Drop>(
     keys: &[K],
 ) -> Result<Shelf<K, CommittedRow<Entry>>, AllocError>
     requires clones { ClonesEqual K.is_clone }
-    requires tells { TellsKeys K.cmp }
+    requires is_exact { IsExactOrder K.cmp }
     ensures { IfOk result (λ rest. (keys_of : EntryRow → List K) (rows : List (NumberedRow EntryRow)) (old : NumberedRow EntryRow)
-        → KeysTell keys_of → Ascending (of_row entry_key) rows → IsIndex keys_of rows index.now → Within rows old → keys.now ≡ keys_of old.row
+        → KeysIdentify keys_of → Ascending (of_row entry_key) rows → IsIndex keys_of rows index.now → Within rows old → keys.now ≡ keys_of old.row
         → IsIndex keys_of (with_row (of_row entry_key) old.row.id None rows) rest) }
 {
     let mut rest = index.clone()?;
@@ -46,10 +46,10 @@ pub(crate) fn with_keys<K: Ord + Clone + Drop>(
     row: &CommittedRow<Entry>,
 ) -> Result<Shelf<K, CommittedRow<Entry>>, AllocError>
     requires clones { ClonesEqual K.is_clone }
-    requires tells { TellsKeys K.cmp }
+    requires is_exact { IsExactOrder K.cmp }
     requires room { IsInOrder K.cmp index.now → length index.now + length keys.items ≤ most_rows }
     ensures { IfOk result (λ more. (keys_of : EntryRow → List K) (rows : List (NumberedRow EntryRow))
-        → KeysTell keys_of → IsAbsent entry_key row.now.row.id rows → IsIndex keys_of rows index.now → keys.items ≡ keys_of row.now.row
+        → KeysIdentify keys_of → IsAbsent entry_key row.now.row.id rows → IsIndex keys_of rows index.now → keys.items ≡ keys_of row.now.row
         → IsIndex keys_of (with_row (of_row entry_key) row.now.row.id (Some row.now) rows) more) }
 {
     in_order(index);
@@ -68,10 +68,10 @@ pub(crate) fn replace_keys<K: Ord + Clone + Drop>(
     row: &CommittedRow<Entry>,
 ) -> Result<Shelf<K, CommittedRow<Entry>>, AllocError>
     requires clones { ClonesEqual K.is_clone }
-    requires tells { TellsKeys K.cmp }
+    requires is_exact { IsExactOrder K.cmp }
     requires there { AreThere keys.items index.now }
     ensures { IfOk result (λ new. (keys_of : EntryRow → List K) (rows : List (NumberedRow EntryRow)) (old : NumberedRow EntryRow)
-        → KeysTell keys_of → Ascending (of_row entry_key) rows → IsIndex keys_of rows index.now → Within rows old
+        → KeysIdentify keys_of → Ascending (of_row entry_key) rows → IsIndex keys_of rows index.now → Within rows old
         → old.row.id ≡ row.now.row.id → keys_of old.row ≡ keys_of row.now.row → keys.items ≡ keys_of row.now.row
         → IsIndex keys_of (with_row (of_row entry_key) row.now.row.id (Some row.now) rows) new) }
 {
@@ -93,14 +93,14 @@ fn in_order<K: Ord + Clone>(index: &Shelf<K, CommittedRow<Entry>>)
 }
 
 /// Returns the entries with keys `lo <= key < hi`, borrowed, in the order of their ids. The error is out of memory.
-pub(crate) fn lent_between<'a, K: Ord + Clone, L: Bound<K>, H: Bound<K>>(
+pub(crate) fn borrowed_between<'a, K: Ord + Clone, L: Bound<K>, H: Bound<K>>(
     alloc: Global,
     index: &'a Shelf<K, CommittedRow<Entry>>,
     lo: &L,
     hi: &H,
-) -> Result<Vec<Lent<'a, Entry>>, AllocError>
+) -> Result<Vec<Borrowed<'a, Entry>>, AllocError>
     ensures { IfOk result (λ found. (keys_of : EntryRow → List K) (rows : List (NumberedRow EntryRow)) (p : EntryRow → Bool)
-        → IsIndex keys_of rows index.now → Covers K.cmp keys_of (L.place lo.now) (H.place hi.now) p → Ascending (of_row entry_key) rows
+        → IsIndex keys_of rows index.now → Covers K.cmp keys_of (L.position lo.now) (H.position hi.now) p → Ascending (of_row entry_key) rows
         → found.items ≡ filter p (map row_of rows)) }
 {
     let mut found = Vec::new(alloc);
@@ -108,7 +108,7 @@ pub(crate) fn lent_between<'a, K: Ord + Clone, L: Bound<K>, H: Bound<K>>(
         if found.is_empty() {
             found.reserve(FEW)?;
         }
-        found.push(Lent::of(&row.row))?;
+        found.push(Borrowed::of(&row.row))?;
     }
     found.sort_by_key(|entry| *entry.get().id())?;
     Ok(found)
@@ -125,7 +125,7 @@ pub(crate) fn entries_between<K: Ord + Clone>(
         → IsIndex keys_of rows index.now → Covers K.cmp keys_of lo.now hi.now p → Ascending (of_row entry_key) rows
         → found.items ≡ filter p (map row_of rows)) }
 {
-    let found = lent_between(alloc, index, lo, hi)?;
+    let found = borrowed_between(alloc, index, lo, hi)?;
     let entries = owned(alloc, found.as_slice());
     drop(found);
     entries

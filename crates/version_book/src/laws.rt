@@ -3,7 +3,7 @@
 //! The bodies do nothing. Each contract is a theorem about the definitions, stated in `specs/Laws.antt`; a caller may rely on
 //! it after the call.
 
-ghost use Rattle.version_book.specs.Laws.{AgreeAfter, BatchCommits, BookAfter, BookReads, BooksFollow, BooksJoin, CommitsJoin, DomainStays, FollowsJoined, HitsAtAnyPlace, HitsInBooks, LimitsFollow, PlacesPut, ReadsAfter, ReadsAgent, ReadsAll, ReadsBundle, ReadsChildren, ReadsEntry, ReadsExpiring, ReadsGroup, ReadsToken, ReadsUsers, RepliesFollow, RoomInRun, RunMayApply, Unhit, UnhitHistory, UnhitMarks};
+ghost use Rattle.version_book.specs.Laws.{AgreeAfter, BatchCommits, BookAfter, BookReads, BooksFollow, BooksJoin, CommitsJoin, DomainIsUnchanged, FollowsJoined, HitsAtAnyPlace, HitsInBooks, LimitsFollow, PlacesPut, ReadsAfter, ReadsAgent, ReadsAll, ReadsBundle, ReadsChildren, ReadsEntry, ReadsExpiring, ReadsGroup, ReadsToken, ReadsUsers, RepliesFollow, RoomInRun, RunMayApply, Unhit, UnhitHistory, UnhitMarks};
 
 /// What each mark reads, in terms of the book's own lookups.
 pub fn marks()
@@ -39,11 +39,11 @@ pub fn books()
 {}
 
 /// How versions follow one another, batch by batch.
-pub fn histories()
+pub fn version_histories()
     ensures commits { BatchCommits }
     ensures joined { FollowsJoined }
     ensures books { BooksFollow }
-    ensures domain { DomainStays }
+    ensures domain { DomainIsUnchanged }
     ensures limits { LimitsFollow }
     ensures unhit { UnhitHistory }
     ensures unhit_marks { UnhitMarks }

@@ -31,7 +31,7 @@
 //!
 //! - [`Version`]: the rows of the book, each with the number of the commit that last wrote it. [`RowCounts`] has the number of
 //!   rows of each kind.
-//! - [`Lent`]: a row borrowed from a version. [`owned`] clones such rows, so that they outlive the version.
+//! - [`Borrowed`]: a row borrowed from a version. [`owned`] clones such rows, so that they outlive the version.
 //! - [`Mark`]: an entry of a read set: one thing that a batch can read, such as the entries of a parent, or the batch stored
 //!   under a token. [`MarkKind`] says which. [`RowsRead`]: the rows that it reads.
 //! - [`Changes`]: the writes of a batch, in order, which make the next version. Each is a [`RowWrite`]: the [`RowChange`] of
@@ -59,7 +59,7 @@ mod hits;
 mod index;
 mod key;
 pub mod laws;
-mod lent;
+mod borrowed;
 mod mark;
 mod names;
 mod overlay;
@@ -72,7 +72,7 @@ mod store;
 mod version;
 
 pub use changes::{Changes, RowChange, RowWrite, TokenWrite};
-pub use lent::{Lent, owned};
+pub use borrowed::{Borrowed, owned};
 pub use mark::{Mark, MarkKind};
 pub use rows_read::RowsRead;
 pub use version::{RowCounts, Version};

@@ -1,6 +1,6 @@
 //! What do all versions of a book have in common?
 
-use entry_book::{Shared, beside};
+use entry_book::{Shared, pair_with};
 use spiffe_name::{SpiffeId, TrustDomain};
 use std::alloc::{AllocError, Global};
 use std::marker::Model;
@@ -32,8 +32,8 @@ impl ServerNames {
         ensures { IfOk result (λ names. names ≡ domain) }
     {
         let server = SpiffeId::server_of(alloc, &domain);
-        let (domain, server) = beside(domain, server)?;
-        let (domain, server) = beside(domain, Shared::of(alloc, server))?;
+        let (domain, server) = pair_with(domain, server)?;
+        let (domain, server) = pair_with(domain, Shared::of(alloc, server))?;
         Ok(ServerNames { domain, server })
     }
 

@@ -5,7 +5,7 @@ ghost use Rattle.entry_book.specs.Book.{AscendingBook};
 ghost use Rattle.entry_book.specs.Order.{Ascending, is_before, with_row};
 ghost use Rattle.entry_book.specs.Writes.{after, after_write};
 ghost use Rattle.entry_book.specs.Tokens.{token_key};
-ghost use Rattle.version_book.specs.Marks.{kept, names_token, seen};
+ghost use Rattle.version_book.specs.Marks.{kept_if, names_token, seen};
 ghost use Rattle.version_book.specs.RowPlaces.{IsPlace};
 ghost use Rattle.version_book.specs.Written.{HasOwnKey, write_of};
 
@@ -30,7 +30,7 @@ fn push_before<T: BookRow>(rows: &[T], key: &[u8], out: &mut Vec<T>) -> Result<(
 {
     for row in rows {
         if is_before(row.key(), key) {
-            out.push(row.again()?)?;
+            out.push(row.duplicate()?)?;
         }
     }
     Ok(())
@@ -42,7 +42,7 @@ fn push_behind<T: BookRow>(rows: &[T], key: &[u8], out: &mut Vec<T>) -> Result<(
 {
     for row in rows {
         if is_before(key, row.key()) {
-            out.push(row.again()?)?;
+            out.push(row.duplicate()?)?;
         }
     }
     Ok(())
@@ -69,11 +69,11 @@ fn with_row<T: BookRow>(
 
 /// Returns a copy of the row, if there is one and the mark names it. The error is out of memory.
 fn kept<T: BookRow>(mark: &Mark, row: &Option<T>) -> Result<Option<T>, AllocError>
-    ensures { IfOk result (λ found. found ≡ kept (T.names mark.now) row.now) }
+    ensures { IfOk result (λ found. found ≡ kept_if (T.names mark.now) row.now) }
 {
     if let Some(row) = row {
         if row.is_named(mark) {
-            return Ok(Some(row.again()?));
+            return Ok(Some(row.duplicate()?));
         }
     }
     Ok(None)
@@ -87,7 +87,7 @@ fn rows_after<T: BookRow>(
     key: &[u8],
     new: &Option<T>,
 ) -> Result<Vec<T>, AllocError>
-    ensures { IfOk result (λ out. out.items ≡ with_row T.key key.now (kept (T.names mark.now) new.now) rows.now) }
+    ensures { IfOk result (λ out. out.items ≡ with_row T.key key.now (kept_if (T.names mark.now) new.now) rows.now) }
 {
     let new = kept(mark, new)?;
     with_row(alloc, rows, key, new)
@@ -101,7 +101,7 @@ fn tokens_after(
     mark: &Mark,
     write: &TokenWrite,
 ) -> Result<Vec<KeptBatch>, AllocError>
-    ensures { IfOk result (λ out. out.items ≡ with_row token_key write.now.token (kept (names_token mark.now) (Some (record {
+    ensures { IfOk result (λ out. out.items ≡ with_row token_key write.now.token (kept_if (names_token mark.now) (Some (record {
       token = write.now.token;
       ops = write.now.ops;
       place = 0;
@@ -200,7 +200,7 @@ fn put_named<T: BookRow>(
 ) -> Result<(), AllocError>
     requires order { Ascending T.key rows.old.items }
     requires keyed { IfSome new.now (λ row. T.key row ≡ key.now) }
-    ensures rows { OnOk result (rows.new.items ≡ with_row T.key key.now (kept (T.names mark.now) new.now) rows.old.items) }
+    ensures rows { OnOk result (rows.new.items ≡ with_row T.key key.now (kept_if (T.names mark.now) new.now) rows.old.items) }
     ensures order { OnOk result (Ascending T.key rows.new.items) }
 {
     let new = kept(mark, new)?;
@@ -210,7 +210,7 @@ fn put_named<T: BookRow>(
 /// Puts the stored batch of a write that has no place yet, with the place 0, if the mark names it. The error is out of memory.
 fn put_token(tokens: &mut Vec<KeptBatch>, mark: &Mark, write: &TokenWrite) -> Result<(), AllocError>
     requires order { Ascending token_key tokens.old.items }
-    ensures rows { OnOk result (tokens.new.items ≡ with_row token_key write.now.token (kept (names_token mark.now) (Some (record {
+    ensures rows { OnOk result (tokens.new.items ≡ with_row token_key write.now.token (kept_if (names_token mark.now) (Some (record {
       token = write.now.token;
       ops = write.now.ops;
       place = 0;

@@ -10,7 +10,7 @@ ghost use Rattle.entry_book.specs.Rows.{Entry as EntryRow};
 ghost use Rattle.version_book.specs.CommittedRows.{row_of};
 
 use crate::committed_row::CommittedRow;
-use crate::lent::Lent;
+use crate::borrowed::Borrowed;
 use entry_book::{Entry, PageQuery};
 use std::alloc::{AllocError, Global};
 use uuid::Uuid;
@@ -19,13 +19,13 @@ use version_shelf::Range;
 /// Appends the entry to the list, and returns its id, which now is the last one. The error is out of memory.
 #[tactic(auto, using(entry_book::proofs::Pages::last_of))]
 fn push_last<'a>(
-    listed: &mut Vec<Lent<'a, Entry>>,
+    listed: &mut Vec<Borrowed<'a, Entry>>,
     entry: &'a Entry,
 ) -> Result<Option<Uuid>, AllocError>
     ensures pushed { OnOk result (listed.new.items ≡ listed.old.items ++ entry.now ∷ []) }
     ensures last { IfOk result (λ last. last ≡ last_id listed.new.items) }
 {
-    listed.push(Lent::of(entry))?;
+    listed.push(Borrowed::of(entry))?;
     Ok(Some(*entry.id()))
 }
 
@@ -35,7 +35,7 @@ pub(crate) fn page_of<'a>(
     alloc: Global,
     query: &PageQuery,
     rows: Range<'a, Uuid, CommittedRow<Entry>>,
-) -> Result<(Vec<Lent<'a, Entry>>, Option<Uuid>), AllocError>
+) -> Result<(Vec<Borrowed<'a, Entry>>, Option<Uuid>), AllocError>
     ensures listed { IfOk result (λ page. page.0.items ≡ take query.now.size
         (filter (λ (entry : EntryRow). passes query.now.filter entry && comes_after query.now.from entry) (map row_of (values_of rows.entry)))) }
     ensures next { IfOk result (λ page. page.1 ≡ (

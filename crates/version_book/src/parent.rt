@@ -22,7 +22,7 @@ pub(crate) struct ParentEnd<'a> {
 impl Bound<GroupKey> for ParentStart<'_> {
     ghost use Rattle.version_book.specs.declared.key.KeyPart.TheVariants.{Start, At};
 
-    ghost place = { λ start. (At start.parent.now, Start, Start) };
+    ghost position = { λ start. (At start.parent.now, Start, Start) };
 
     fn is_above(&self, key: &GroupKey) -> bool {
         match &key.0 {
@@ -36,7 +36,7 @@ impl Bound<GroupKey> for ParentStart<'_> {
 impl Bound<GroupKey> for ParentEnd<'_> {
     ghost use Rattle.version_book.specs.declared.key.KeyPart.TheVariants.{At, End};
 
-    ghost place = { λ end. (At end.parent.now, End, End) };
+    ghost position = { λ end. (At end.parent.now, End, End) };
 
     fn is_above(&self, key: &GroupKey) -> bool {
         match &key.0 {

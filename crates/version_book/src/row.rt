@@ -27,7 +27,7 @@ pub(crate) trait BookRow: Drop {
         ensures { result ≡ names mark.now self.now };
 
     /// Returns a clone of the row, which shares its texts. The error is a reference count at its maximum.
-    fn again(&self) -> Result<Self, AllocError>
+    fn duplicate(&self) -> Result<Self, AllocError>
         ensures { IfOk result (λ copy. copy ≡ self.now) };
 }
 
@@ -68,7 +68,7 @@ impl BookRow for Entry {
         }
     }
 
-    fn again(&self) -> Result<Self, AllocError> {
+    fn duplicate(&self) -> Result<Self, AllocError> {
         self.clone()
     }
 }
@@ -91,7 +91,7 @@ impl BookRow for Agent {
         }
     }
 
-    fn again(&self) -> Result<Self, AllocError> {
+    fn duplicate(&self) -> Result<Self, AllocError> {
         self.clone()
     }
 }
@@ -127,7 +127,7 @@ impl BookRow for Bundle {
         }
     }
 
-    fn again(&self) -> Result<Self, AllocError> {
+    fn duplicate(&self) -> Result<Self, AllocError> {
         self.clone()
     }
 }
@@ -163,7 +163,7 @@ impl BookRow for KeptBatch {
         }
     }
 
-    fn again(&self) -> Result<Self, AllocError> {
+    fn duplicate(&self) -> Result<Self, AllocError> {
         self.clone()
     }
 }

@@ -6,7 +6,7 @@ ghost use Rattle.version_book.specs.CommittedRows.{numbered};
 ghost use Rattle.version_book.specs.Stores.{shelf_after};
 
 use crate::changes::RowChange;
-use crate::committed_row::{CommittedRow, is_same_row, lent, row_alone};
+use crate::committed_row::{CommittedRow, is_same_row, borrowed, row_alone};
 use crate::mark::Mark;
 use crate::row::KeyedRow;
 use std::alloc::{AllocError, Global};
@@ -38,7 +38,7 @@ impl<K: Ord + Clone + Drop, T: KeyedRow<K> + Clone> RowShelf<K, T> {
     ghost use Rattle.std.specs.Option.{option_copied};
     ghost use Rattle.entry_book.specs.Order.{Ascending, first, with_row};
     ghost use Rattle.version_book.specs.CommittedRows.{numbered, of_row, row_of};
-    ghost use Rattle.version_book.specs.Stores.{TellRows};
+    ghost use Rattle.version_book.specs.Stores.{IdentifyRows};
     ghost use Rattle.version_shelf.specs.Shelf.{ClonesEqual, most_rows};
 
     /// No rows. Allocates no memory.
@@ -51,7 +51,7 @@ impl<K: Ord + Clone + Drop, T: KeyedRow<K> + Clone> RowShelf<K, T> {
     }
 
     /// Returns a clone of the set. The error is a reference count at its maximum.
-    pub(crate) fn again(&self) -> Result<RowShelf<K, T>, AllocError>
+    pub(crate) fn duplicate(&self) -> Result<RowShelf<K, T>, AllocError>
         ensures { IfOk result (λ shelf. shelf ≡ self.now) }
     {
         Ok(RowShelf {
@@ -87,7 +87,7 @@ impl<K: Ord + Clone + Drop, T: KeyedRow<K> + Clone> RowShelf<K, T> {
     pub(crate) fn get(&self, key: &K) -> Option<&T>
         ensures { option_copied result ≡ first (filter (λ row. bytes_eq (T.key row) (T.bytes key.now)) (map row_of self.now)) }
     {
-        lent(self.rows.get(key))
+        borrowed(self.rows.get(key))
     }
 
     /// Returns a list of the row that a mark names; it is empty if the mark names no row of this set. The error is out of
@@ -106,7 +106,7 @@ impl<K: Ord + Clone + Drop, T: KeyedRow<K> + Clone> RowShelf<K, T> {
     /// history, true implies that the rows are equal.
     pub(crate) fn is_same_at(&self, older: &RowShelf<K, T>, mark: &Mark) -> bool
         ensures same { filter (of_row (T.names mark.now)) older.now ≡ filter (of_row (T.names mark.now)) self.now → IsTrue result }
-        ensures tells { TellRows T.key older.now self.now → IsTrue result
+        ensures is_exact { IdentifyRows T.key older.now self.now → IsTrue result
             → filter (of_row (T.names mark.now)) older.now ≡ filter (of_row (T.names mark.now)) self.now }
     {
         match T::key_in(mark) {

@@ -4,7 +4,7 @@ ghost use Rattle.std.specs.Prelude.{◌≡◌};
 
 use crate::changes::{RowWrite, TokenWrite};
 use crate::entries::Entries;
-use crate::lent::Lent;
+use crate::borrowed::Borrowed;
 use crate::mark::Mark;
 use crate::row_shelf::RowShelf;
 use crate::rows_read::RowsRead;
@@ -49,7 +49,7 @@ impl Store {
     ghost use Rattle.version_book.specs.Marks.{reads};
     ghost use Rattle.version_book.specs.CommittedRows.{book_of, marked, no_rows, of_row, rows_after, rows_after_write};
     ghost use Rattle.version_book.specs.Room.{RoomAll, RoomFor};
-    ghost use Rattle.version_book.specs.Stores.{NumbersTell};
+    ghost use Rattle.version_book.specs.Stores.{NumbersIdentify};
     ghost use Rattle.version_book.specs.declared.changes.RowWrite.TheVariants as write;
     ghost use Rattle.version_book.specs.Written.{placed, placed_write, write_of};
 
@@ -137,19 +137,19 @@ impl Store {
         match write {
             RowWrite::Entry(change) => {
                 let entries = entries.after(alloc, change, commit);
-                Store::of(entries, agents.again(), bundles.again(), tokens.again())
+                Store::of(entries, agents.duplicate(), bundles.duplicate(), tokens.duplicate())
             }
             RowWrite::Agent(change) => {
                 let agents = agents.after(change, commit);
-                Store::of(entries.clone(), agents, bundles.again(), tokens.again())
+                Store::of(entries.clone(), agents, bundles.duplicate(), tokens.duplicate())
             }
             RowWrite::Bundle(change) => {
                 let bundles = bundles.after(change, commit);
-                Store::of(entries.clone(), agents.again(), bundles, tokens.again())
+                Store::of(entries.clone(), agents.duplicate(), bundles, tokens.duplicate())
             }
             RowWrite::Token(token) => {
                 let tokens = self.tokens_after(token, commit);
-                Store::of(entries.clone(), agents.again(), bundles.again(), tokens)
+                Store::of(entries.clone(), agents.duplicate(), bundles.duplicate(), tokens)
             }
         }
     }
@@ -212,7 +212,7 @@ impl Store {
         &self,
         alloc: Global,
         parent: &Shared<SpiffeId>,
-    ) -> Result<Vec<Lent<'_, Entry>>, AllocError>
+    ) -> Result<Vec<Borrowed<'_, Entry>>, AllocError>
         ensures { IfOk result (λ found. found.items ≡ children_of parent.now (book_of self.now)) }
     {
         self.entries.children(alloc, parent)
@@ -224,7 +224,7 @@ impl Store {
         &self,
         alloc: Global,
         query: &PageQuery,
-    ) -> Result<(Vec<Lent<'_, Entry>>, Option<Uuid>), AllocError>
+    ) -> Result<(Vec<Borrowed<'_, Entry>>, Option<Uuid>), AllocError>
         ensures listed { IfOk result (λ page. page.0.items ≡ listed query.now (book_of self.now)) }
         ensures next { IfOk result (λ page. page.1 ≡ next_of query.now (book_of self.now)) }
     {
@@ -247,7 +247,7 @@ impl Store {
     /// history, true implies that the rows are equal.
     pub(crate) fn is_same_at(&self, older: &Store, mark: &Mark) -> bool
         ensures same { marked mark.now older.now ≡ marked mark.now self.now → IsTrue result }
-        ensures tells { NumbersTell older.now self.now → IsTrue result → marked mark.now older.now ≡ marked mark.now self.now }
+        ensures is_exact { NumbersIdentify older.now self.now → IsTrue result → marked mark.now older.now ≡ marked mark.now self.now }
     {
         self.entries.is_same_at(&older.entries, mark)
             && self.agents.is_same_at(&older.agents, mark)
@@ -262,9 +262,9 @@ impl Clone for Store {
     fn clone(&self) -> Result<Store, AllocError> {
         Store::of(
             self.entries.clone(),
-            self.agents.again(),
-            self.bundles.again(),
-            self.tokens.again(),
+            self.agents.duplicate(),
+            self.bundles.duplicate(),
+            self.tokens.duplicate(),
         )
     }
 }

@@ -3,7 +3,7 @@
 ghost use Rattle.std.specs.Prelude.{◌≡◌};
 
 use crate::changes::Changes;
-use crate::lent::Lent;
+use crate::borrowed::Borrowed;
 use crate::mark::Mark;
 use crate::names::ServerNames;
 use crate::overlay::after_changes;
@@ -47,9 +47,9 @@ pub struct Version {
 impl Model for Version {
     ghost use Rattle.std.specs.Prelude.{◌*◌};
     ghost use Rattle.entry_book.specs.Lawful.{Lawful};
-    ghost use Rattle.version_book.specs.CommittedRows.{AllUpTo, State, book_of};
+    ghost use Rattle.version_book.specs.CommittedRows.{AllUpTo, VersionState, book_of};
 
-    ghost Value = { State };
+    ghost Value = { VersionState };
 
     ghost view = { λ version. record {
       domain = version.body.names;
@@ -158,7 +158,7 @@ impl Version {
 
     /// Returns the entries of a parent, borrowed, in the order of their ids. It increments no reference count, neither of a row
     /// nor of the parent's ID. The error is out of memory.
-    pub fn children(&self, parent: &Shared<SpiffeId>) -> Result<Vec<Lent<'_, Entry>>, AllocError>
+    pub fn children(&self, parent: &Shared<SpiffeId>) -> Result<Vec<Borrowed<'_, Entry>>, AllocError>
         ensures { IfOk result (λ found. found.items ≡ children_of parent.now (book_of self.now.rows)) }
     {
         self.body.get().store.children(self.alloc, parent)
@@ -169,7 +169,7 @@ impl Version {
     pub fn page(
         &self,
         query: &PageQuery,
-    ) -> Result<(Vec<Lent<'_, Entry>>, Option<Uuid>), AllocError>
+    ) -> Result<(Vec<Borrowed<'_, Entry>>, Option<Uuid>), AllocError>
         ensures listed { IfOk result (λ page. page.0.items ≡ listed query.now (book_of self.now.rows)) }
         ensures next { IfOk result (λ page. page.1 ≡ next_of query.now (book_of self.now.rows)) }
     {

@@ -33,9 +33,9 @@ fn is_of_token(line: &str) -> bool {
 }
 
 /// The row without its marks.
-pub fn told(row: &str) -> &str {
+pub fn as_text(row: &str) -> &str {
     match row.split_once(" =>") {
-        Some((_, told)) => told,
+        Some((_, as_text)) => as_text,
         None => row,
     }
 }
@@ -106,7 +106,7 @@ fn named_text(alloc: Global, rows: &[String], name: &str) -> Result<String, Allo
     let mut text = String::new(alloc);
     for row in rows {
         if row.contains(name) {
-            text.push_str(told(row.as_str()))?;
+            text.push_str(as_text(row.as_str()))?;
             text.push_str("\n")?;
         }
     }

@@ -10,7 +10,7 @@ use std::alloc::{AllocError, Global};
 use std::process::Abort;
 use std::test::Fail;
 use test_batches::{Failed, batch, number, trust_domain, word, words};
-use test_support::{add_some, beside, one, where_done};
+use test_support::{add_some, pair_with, one, where_done};
 use test_works::{ended, next_of};
 use version_book::{Changes, Mark, RowCounts, Version};
 
@@ -50,7 +50,7 @@ fn step_of(alloc: Global, work: &Work, text: &str, number: u64) -> Result<Option
     let batch = String::from_str(alloc, text)?;
     let writes = writes_text(alloc, work, number)?;
     let changes = work.changes().clone()?;
-    let (changes, version) = beside(changes, next_of(work))?;
+    let (changes, version) = pair_with(changes, next_of(work))?;
     Ok(Some(Step {
         batch,
         writes,
@@ -80,14 +80,14 @@ pub fn go_on(alloc: Global, steps: &mut Vec<Step>, text: &str) -> Result<bool, F
 /// Appends the rows of a reading, in short form.
 fn add_short(text: &mut String, rows: &str) -> Result<(), Failed> {
     for row in rows.lines() {
-        let (told, _) = row.split_once("|").unwrap_or((row, ""));
-        text.push_str(told)?;
+        let (as_text, _) = row.split_once("|").unwrap_or((row, ""));
+        text.push_str(as_text)?;
     }
     Ok(())
 }
 
 /// What a version reads at a mark.
-fn told(alloc: Global, version: &Version, mark: &Mark) -> Result<String, Failed> {
+fn as_text(alloc: Global, version: &Version, mark: &Mark) -> Result<String, Failed> {
     let rows = read_text(alloc, version, mark)?;
     let mut text = String::new(alloc);
     add_short(&mut text, rows.as_str())?;
@@ -164,7 +164,7 @@ fn same_mark(mark: &Mark) -> Result<Mark, Fail> {
 }
 
 /// What a version reads at a mark, as owned rows.
-fn told_own(alloc: Global, version: &Version, mark: &Mark) -> Result<String, Failed> {
+fn text_of_own(alloc: Global, version: &Version, mark: &Mark) -> Result<String, Failed> {
     let mut rows = String::new(alloc);
     add_own(alloc, &mut rows, version, mark)?;
     let mut text = String::new(alloc);
@@ -173,19 +173,19 @@ fn told_own(alloc: Global, version: &Version, mark: &Mark) -> Result<String, Fai
 }
 
 /// What the version's clone reads at a mark.
-fn told_by_clone(alloc: Global, version: &Version, mark: &Mark) -> Result<String, Failed> {
+fn text_of_clone(alloc: Global, version: &Version, mark: &Mark) -> Result<String, Failed> {
     let copy = version.clone()?;
-    let told = told_own(alloc, &copy, mark);
+    let as_text = text_of_own(alloc, &copy, mark);
     drop(copy);
-    told
+    as_text
 }
 
 /// What the version's clone reads at the mark's clone.
-fn told_by_clones(alloc: Global, version: &Version, mark: &Mark) -> Result<String, Fail> {
+fn text_of_clones(alloc: Global, version: &Version, mark: &Mark) -> Result<String, Fail> {
     let copy = same_mark(mark)?;
-    let told = told_by_clone(alloc, version, &copy);
+    let as_text = text_of_clone(alloc, version, &copy);
     drop(copy);
-    Ok(told?)
+    Ok(as_text?)
 }
 
 /// The number of a version. It has no contract, so that no proof about a text opens the version's rows.
@@ -198,7 +198,7 @@ fn count_of(version: &Version) -> RowCounts {
     version.count()
 }
 
-fn told_count(alloc: Global, version: &Version) -> Result<String, Failed> {
+fn text_of_count(alloc: Global, version: &Version) -> Result<String, Failed> {
     let (count, number) = (count_of(version), number_of(version));
     let (entries, agents) = (count.entries, count.agents);
     let (bundles, tokens) = (count.bundles, count.tokens);
@@ -206,13 +206,13 @@ fn told_count(alloc: Global, version: &Version) -> Result<String, Failed> {
 }
 
 /// The ID of a version's server.
-fn told_server(alloc: Global, version: &Version) -> Result<String, AllocError> {
+fn text_of_server(alloc: Global, version: &Version) -> Result<String, AllocError> {
     let server = version.server().get().as_str();
     format!(in alloc; " {server}")
 }
 
 /// The aliases of a version.
-fn told_aliases(alloc: Global, version: &Version) -> Result<String, Failed> {
+fn text_of_aliases(alloc: Global, version: &Version) -> Result<String, Failed> {
     let rows = aliases_text(alloc, version)?;
     let mut text = String::new(alloc);
     add_short(&mut text, rows.as_str())?;
@@ -220,7 +220,7 @@ fn told_aliases(alloc: Global, version: &Version) -> Result<String, Failed> {
 }
 
 /// Whether the mark is unchanged since the older version, as text.
-fn told_same(
+fn text_of_same(
     alloc: Global,
     newer: &Version,
     older: Option<&Step>,
@@ -240,14 +240,14 @@ fn answer_at(alloc: Global, steps: &[Step], words: &[&str], mark: &Mark) -> Resu
         return Err(Fail::from("no such version"));
     };
     match word(words, 0) {
-        "COUNT" => Ok(told_count(alloc, &step.version)?),
-        "SERVER" => Ok(told_server(alloc, &step.version)?),
-        "ALIASES" => Ok(told_aliases(alloc, &step.version)?),
-        "READS" => Ok(told(alloc, &step.version, mark)?),
-        "CLONE" => told_by_clones(alloc, &step.version, mark),
+        "COUNT" => Ok(text_of_count(alloc, &step.version)?),
+        "SERVER" => Ok(text_of_server(alloc, &step.version)?),
+        "ALIASES" => Ok(text_of_aliases(alloc, &step.version)?),
+        "READS" => Ok(as_text(alloc, &step.version, mark)?),
+        "CLONE" => text_of_clones(alloc, &step.version, mark),
         _ => {
             let older = steps.get(number(words, 2)? as usize);
-            told_same(alloc, &step.version, older, mark)
+            text_of_same(alloc, &step.version, older, mark)
         }
     }
 }
@@ -258,9 +258,9 @@ fn answer(alloc: Global, steps: &[Step], question: &str) -> Result<String, Fail>
     let (head, line) = question.split_once(": ").unwrap_or((question, "all"));
     let words = words(alloc, head)?;
     let mark = mark_of(alloc, line)?;
-    let told = answer_at(alloc, steps, words.as_slice(), &mark);
+    let as_text = answer_at(alloc, steps, words.as_slice(), &mark);
     drop(mark);
-    told
+    as_text
 }
 
 /// Plays a line of a table.
@@ -270,9 +270,9 @@ fn plays_line(
     steps: &mut Vec<Step>,
     line: &str,
 ) -> Result<(), Fail> {
-    if let Some((question, want)) = line.split_once(" =>") {
+    if let Some((question, expected)) = line.split_once(" =>") {
         let got = answer(alloc, steps.as_slice(), question)?;
-        is_text(rt, got.as_str(), want, line);
+        is_text(rt, got.as_str(), expected, line);
     } else if !line.is_empty() {
         let is_accepted = go_on(alloc, steps, line)?;
         holds(rt, is_accepted, line);

@@ -1,7 +1,7 @@
 //! Random operations on few rows: every mark reads what plain lists have, and reports whether it is unchanged.
 
 use crate::draws::batch_text;
-use crate::listed::{Listed, own_mark, told};
+use crate::listed::{Listed, own_mark, as_text};
 use crate::marks::mark_of;
 use crate::playing::{Step, first_step, go_on, number_of};
 use crate::rows::{asked_text, read_text, read_up_to, through_text};
@@ -10,7 +10,7 @@ use std::alloc::{AllocError, Global};
 use std::process::Abort;
 use std::test::Fail;
 use test_batches::{number, word, words};
-use test_support::{add, beside, where_done};
+use test_support::{add, pair_with, where_done};
 use version_book::{Changes, Mark, Version};
 
 const MARKS: &str = "\
@@ -104,7 +104,7 @@ fn versions(alloc: Global, seed: u64, count: usize) -> Result<Vec<Step>, Fail> {
 /// A history of this many versions after the first, and all marks.
 fn history(alloc: Global, seed: u64, count: usize) -> Result<(Vec<Step>, Vec<NamedMark>), Fail> {
     let steps = versions(alloc, seed, count)?;
-    beside(steps, all_marks(alloc))
+    pair_with(steps, all_marks(alloc))
 }
 
 /// Operations that must occur as a batch of their own, each with the number of rows that it must write at least.
@@ -167,12 +167,12 @@ fn reads(
     alloc: Global,
     version: &Version,
     mark: &Mark,
-    (want, at): (&str, &str),
+    (expected, at): (&str, &str),
 ) -> Result<(), Fail> {
     let got = read_text(alloc, version, mark)?;
-    is_text(rt, got.as_str(), want, at);
+    is_text(rt, got.as_str(), expected, at);
     let asked = asked_text(alloc, version, mark)?;
-    is_text(rt, asked.as_str(), want, at);
+    is_text(rt, asked.as_str(), expected, at);
     Ok(())
 }
 
@@ -185,8 +185,8 @@ fn reads_named(
     marks: &[NamedMark],
 ) -> Result<(), Fail> {
     for NamedMark { name, mark } in marks {
-        let want = listed.named_text(alloc, name.as_str())?;
-        reads(rt, alloc, version, mark, (want.as_str(), name.as_str()))?;
+        let expected = listed.named_text(alloc, name.as_str())?;
+        reads(rt, alloc, version, mark, (expected.as_str(), name.as_str()))?;
     }
     Ok(())
 }
@@ -196,7 +196,7 @@ fn reads_row(rt: &impl Abort, alloc: Global, version: &Version, row: &str) -> Re
     let mark = mark_of(alloc, own_mark(row))?;
     let got = read_text(alloc, version, &mark);
     drop(mark);
-    is_text(rt, got?.as_str().trim_end(), told(row), row);
+    is_text(rt, got?.as_str().trim_end(), as_text(row), row);
     Ok(())
 }
 
@@ -416,8 +416,8 @@ fn reads_through(
     NamedMark { name, mark }: &NamedMark,
 ) -> Result<(), Fail> {
     let got = through_text(alloc, older, mark, changes)?;
-    let want = read_up_to(alloc, newer, mark, number_of(older))?;
-    is_text(rt, got.as_str(), want.as_str(), name.as_str());
+    let expected = read_up_to(alloc, newer, mark, number_of(older))?;
+    is_text(rt, got.as_str(), expected.as_str(), name.as_str());
     Ok(())
 }
 

@@ -7,7 +7,7 @@ use spiffe_name::{SelectorSet, SpiffeId};
 use std::alloc::Global;
 use test_batches::{Failed, of_number};
 use uuid::Uuid;
-use version_book::{Changes, Lent, Mark, MarkKind, RowWrite, RowsRead, TokenWrite, Version, owned};
+use version_book::{Changes, Borrowed, Mark, MarkKind, RowWrite, RowsRead, TokenWrite, Version, owned};
 
 /// The moments of random batches, in order, as marks.
 const MOMENTS: &str = "|expiring 1|expiring 2|expiring 3|expiring 4|";
@@ -19,8 +19,8 @@ fn path(id: &SpiffeId) -> &str {
 
 /// Appends a word, and the number of an id.
 fn add_number(alloc: Global, text: &mut String, word: &str, id: &Uuid) -> Result<(), Failed> {
-    let told = of_number(alloc, word, id)?;
-    Ok(text.push_str(told.as_str())?)
+    let as_text = of_number(alloc, word, id)?;
+    Ok(text.push_str(as_text.as_str())?)
 }
 
 fn add_selectors(text: &mut String, selectors: &SelectorSet) -> Result<(), Failed> {
@@ -151,7 +151,7 @@ pub fn read_text(alloc: Global, version: &Version, mark: &Mark) -> Result<String
 }
 
 /// Appends borrowed entries.
-fn add_lent(alloc: Global, text: &mut String, entries: Vec<Lent<'_, Entry>>) -> Result<(), Failed> {
+fn add_borrowed(alloc: Global, text: &mut String, entries: Vec<Borrowed<'_, Entry>>) -> Result<(), Failed> {
     let copies = owned(alloc, entries.as_slice());
     drop(entries);
     let copies = copies?;
@@ -173,7 +173,7 @@ fn add_children(
     version: &Version,
     parent: &Shared<SpiffeId>,
 ) -> Result<(), Failed> {
-    add_lent(alloc, text, version.children(parent)?)
+    add_borrowed(alloc, text, version.children(parent)?)
 }
 
 /// Appends the entries of the page that begins after this id, and returns the id after which the next one begins.
@@ -184,7 +184,7 @@ fn add_page(
     query: &PageQuery,
 ) -> Result<Option<Uuid>, Failed> {
     let (entries, next) = version.page(query)?;
-    add_lent(alloc, text, entries)?;
+    add_borrowed(alloc, text, entries)?;
     Ok(next)
 }
 

@@ -10,38 +10,38 @@ use Rattle.std.specs.Map.{keys_of}
 use Rattle.std.proofs.lemmas.List.Elements.{filter-append}
 use Rattle.std.proofs.lemmas.Map.Keys.{sorted_head, sorted_tail}
 use Rattle.version_shelf.specs.Shelf.{IsInOrder, get, rows_below, rows_above, rows_from}
-use Rattle.version_shelf.specs.Pages.{AreFull, ArePages, Cuts, CutsAt, flatten, ends, least_leaves, least_rows}
+use Rattle.version_shelf.specs.Nodes.{AreFullNodes, AreNodes, Cuts, CutsAt, flatten, last_passes, least_leaves, least_rows}
 use Rattle.version_shelf.proofs.Above.{by_order, AllAbove, below_of_above, above_of_above, get_of_above, all_above_equal, all_above_greater}
 use Rattle.version_shelf.proofs.First.{from_of_above}
-use Rattle.version_shelf.proofs.Flat.{flatten-append, full_front, full_back, full_from_pages, pages_front, pages_back, full_least}
+use Rattle.version_shelf.proofs.Flat.{flatten-append, full_front, full_back, full_from_nodes, nodes_front, nodes_back, full_least}
 
 -- ---- the last part of a list of pages
 
 module _ {X : Type 0} (p : X → Bool) where
-  ends_append : (xs : List X) (y : X) (ys : List X) → ends p (xs ++ y ∷ ys) ≡ ends p (y ∷ ys)
+  ends_append : (xs : List X) (y : X) (ys : List X) → last_passes p (xs ++ y ∷ ys) ≡ last_passes p (y ∷ ys)
   ends_append [] y ys = refl
   ends_append (x ∷ []) y ys = refl
   ends_append (x ∷ z ∷ xs) y ys = ends_append (z ∷ xs) y ys
 
-  ends_onto : (xs ys : List X) → ends p ys ≡ true → ends p (xs ++ ys) ≡ true
+  ends_onto : (xs ys : List X) → last_passes p ys ≡ true → last_passes p (xs ++ ys) ≡ true
   ends_onto xs [] passes = cc
   ends_onto xs (y ∷ ys) passes = ends_append xs y ys ∙ passes
 
   -- if the last part of the last page passes, so does the last part of all
-  pub ends_flatten : (pages : List (List X)) → ends (ends p) pages ≡ true → ends p (flatten pages) ≡ true
+  pub ends_flatten : (nodes : List (List X)) → last_passes (last_passes p) nodes ≡ true → last_passes p (flatten nodes) ≡ true
   ends_flatten [] passes = passes
-  ends_flatten (x ∷ []) passes = ap (ends p) (append-nil x) ∙ passes
-  ends_flatten (x ∷ y ∷ pages) passes = ends_onto x (flatten (y ∷ pages)) (ends_flatten (y ∷ pages) passes)
+  ends_flatten (x ∷ []) passes = ap (last_passes p) (append-nil x) ∙ passes
+  ends_flatten (x ∷ y ∷ nodes) passes = ends_onto x (flatten (y ∷ nodes)) (ends_flatten (y ∷ nodes) passes)
 
-  not_empty_ends : (xs ys : List X) → 0 < length ys → ends p (xs ++ ys) ≡ ends p ys
+  not_empty_ends : (xs ys : List X) → 0 < length ys → last_passes p (xs ++ ys) ≡ last_passes p ys
   not_empty_ends xs [] some = absurd (omega arith)
   not_empty_ends xs (y ∷ ys) some = ends_append xs y ys
 
   -- if it doesn't, neither does the last part of all; the pages are full, so they aren't empty
-  pub ends_flatten_not : (pages : List (List X)) → AreFull least_rows pages → ends (ends p) pages ≡ false → ends p (flatten pages) ≡ false
+  pub ends_flatten_not : (nodes : List (List X)) → AreFullNodes least_rows nodes → last_passes (last_passes p) nodes ≡ false → last_passes p (flatten nodes) ≡ false
   ends_flatten_not [] full passes = refl
-  ends_flatten_not (x ∷ []) full passes = ap (ends p) (append-nil x) ∙ passes
-  ends_flatten_not (x ∷ y ∷ pages) full passes = not_empty_ends x (flatten (y ∷ pages)) (omega (arith, length-append y (flatten pages), full.1.0.0)) ∙ ends_flatten_not (y ∷ pages) full.1 passes
+  ends_flatten_not (x ∷ []) full passes = ap (last_passes p) (append-nil x) ∙ passes
+  ends_flatten_not (x ∷ y ∷ nodes) full passes = not_empty_ends x (flatten (y ∷ nodes)) (omega (arith, length-append y (flatten nodes), full.1.0.0)) ∙ ends_flatten_not (y ∷ nodes) full.1 passes
 
 -- ---- sorted rows
 
@@ -69,14 +69,14 @@ less_if Equal is = cc
 less_if Greater is = cc
 
 module _ {K V : Type 0} {cmp : K → K → Ordering} (o : IsTotalOrder cmp) (key : K) where
-  pub all_below : (xs : List (K × V)) → IsInOrder cmp xs → ends (λ row. is_lt (cmp row.0 key)) xs ≡ true → AllBelow cmp key xs
+  pub all_below : (xs : List (K × V)) → IsInOrder cmp xs → last_passes (λ row. is_lt (cmp row.0 key)) xs ≡ true → AllBelow cmp key xs
   all_below [] sorted last = tt
   all_below (r ∷ []) sorted last = (less_if _ last, tt)
   all_below (r ∷ s ∷ xs) sorted last =
       let rest = all_below (s ∷ xs) (sorted_tail cmp r.0 (keys_of (s ∷ xs)) sorted) last in
       (o.trans r.0 s.0 key (sorted_head cmp r.0 (keys_of (s ∷ xs)) sorted).0 rest.0, rest)
 
-  pub all_above : (ys zs : List (K × V)) → IsInOrder cmp (ys ++ zs) → 0 < length ys → ends (λ row. is_lt (cmp row.0 key)) ys ≡ false → AllAbove cmp key zs
+  pub all_above : (ys zs : List (K × V)) → IsInOrder cmp (ys ++ zs) → 0 < length ys → last_passes (λ row. is_lt (cmp row.0 key)) ys ≡ false → AllAbove cmp key zs
   all_above [] zs sorted some last = absurd (omega arith)
   all_above (r ∷ []) zs sorted some last = by_order (cmp r.0 key)
       (λ less. cc (ap is_lt less, last))
@@ -137,11 +137,11 @@ module _ {K V : Type 0} {cmp : K → K → Ordering} (o : IsTotalOrder cmp) (key
     pub leaf_order : IsInOrder cmp rows
     leaf_order = in_order_front cmp rows (flatten above) (in_order_back cmp (flatten below) (rows ++ flatten above) order)
 
-    leaves_before : (b : List (List (K × V))) → (0 < length b → ends (ends (λ row. is_lt (cmp row.0 key))) b ≡ true) → IsInOrder cmp (flatten b) → AllBelow cmp key (flatten b)
+    leaves_before : (b : List (List (K × V))) → (0 < length b → last_passes (last_passes (λ row. is_lt (cmp row.0 key))) b ≡ true) → IsInOrder cmp (flatten b) → AllBelow cmp key (flatten b)
     leaves_before [] first ordered = tt
     leaves_before (p ∷ b) first ordered = all_below (flatten (p ∷ b)) ordered (ends_flatten _ (p ∷ b) (first (omega arith)))
 
-    leaves_behind : (a : List (List (K × V))) → (0 < length a → least_rows ≤ length rows) → (0 < length a → ends (λ row. is_lt (cmp row.0 key)) rows ≡ false) → IsInOrder cmp (rows ++ flatten a) → AllAbove cmp key (flatten a)
+    leaves_behind : (a : List (List (K × V))) → (0 < length a → least_rows ≤ length rows) → (0 < length a → last_passes (λ row. is_lt (cmp row.0 key)) rows ≡ false) → IsInOrder cmp (rows ++ flatten a) → AllAbove cmp key (flatten a)
     leaves_behind [] least more ordered = tt
     leaves_behind (p ∷ a) least more ordered = all_above rows (flatten (p ∷ a)) ordered (omega (arith, least (omega arith))) (more (omega arith))
 
@@ -153,38 +153,38 @@ module _ {K V : Type 0} {cmp : K → K → Ordering} (o : IsTotalOrder cmp) (key
 
   -- ---- middles, cut at the key
 
-  module _ (middles below : List (List (List (K × V)))) (leaves : List (List (K × V))) (above : List (List (List (K × V)))) (cuts : Cuts least_leaves middles below leaves above) (at : CutsAt (ends (λ row. is_lt (cmp row.0 key))) below leaves above) (sorted : IsInOrder cmp (flatten (flatten middles))) (pages : ArePages least_rows (flatten middles)) where
-    pub middles_joined : flatten (flatten middles) ≡ flatten (flatten below) ++ (flatten leaves ++ flatten (flatten above))
-    middles_joined = ap flatten cuts.joined ∙ flatten-append (flatten below) (leaves ++ flatten above) ∙ ap (λ l. flatten (flatten below) ++ l) (flatten-append leaves (flatten above))
+  module _ (inners below : List (List (List (K × V)))) (leaves : List (List (K × V))) (above : List (List (List (K × V)))) (cuts : Cuts least_leaves inners below leaves above) (at : CutsAt (last_passes (λ row. is_lt (cmp row.0 key))) below leaves above) (sorted : IsInOrder cmp (flatten (flatten inners))) (nodes : AreNodes least_rows (flatten inners)) where
+    pub inners_joined : flatten (flatten inners) ≡ flatten (flatten below) ++ (flatten leaves ++ flatten (flatten above))
+    inners_joined = ap flatten cuts.joined ∙ flatten-append (flatten below) (leaves ++ flatten above) ∙ ap (λ l. flatten (flatten below) ++ l) (flatten-append leaves (flatten above))
 
-    middles_order : IsInOrder cmp (flatten (flatten below) ++ (flatten leaves ++ flatten (flatten above)))
-    middles_order = rw middles_joined at sorted
+    inners_order : IsInOrder cmp (flatten (flatten below) ++ (flatten leaves ++ flatten (flatten above)))
+    inners_order = rw inners_joined at sorted
 
-    some_pages : ArePages least_rows (flatten below ++ (leaves ++ flatten above))
-    some_pages = rw cuts.joined at pages
+    some_nodes : AreNodes least_rows (flatten below ++ (leaves ++ flatten above))
+    some_nodes = rw cuts.joined at nodes
 
-    pub are_leaves_at : ArePages least_rows leaves
-    are_leaves_at = pages_front least_rows leaves (flatten above) (pages_back least_rows (flatten below) (leaves ++ flatten above) some_pages)
+    pub are_leaves_at : AreNodes least_rows leaves
+    are_leaves_at = nodes_front least_rows leaves (flatten above) (nodes_back least_rows (flatten below) (leaves ++ flatten above) some_nodes)
 
     pub leaves_order : IsInOrder cmp (flatten leaves)
-    leaves_order = in_order_front cmp (flatten leaves) (flatten (flatten above)) (in_order_back cmp (flatten (flatten below)) (flatten leaves ++ flatten (flatten above)) middles_order)
+    leaves_order = in_order_front cmp (flatten leaves) (flatten (flatten above)) (in_order_back cmp (flatten (flatten below)) (flatten leaves ++ flatten (flatten above)) inners_order)
 
     -- if there are other middles, every leaf is full
-    pub leaves_full : 0 < length below + length above → AreFull least_rows (flatten below ++ (leaves ++ flatten above))
-    leaves_full more = full_from_pages least_rows (flatten below ++ (leaves ++ flatten above)) some_pages (omega (arith, cuts.fewest more, length-append (flatten below) (leaves ++ flatten above), length-append leaves (flatten above)))
+    pub leaves_full : 0 < length below + length above → AreFullNodes least_rows (flatten below ++ (leaves ++ flatten above))
+    leaves_full more = full_from_nodes least_rows (flatten below ++ (leaves ++ flatten above)) some_nodes (omega (arith, cuts.fewest more, length-append (flatten below) (leaves ++ flatten above), length-append leaves (flatten above)))
 
-    middles_before : (b : List (List (List (K × V)))) → (0 < length b → ends (ends (ends (λ row. is_lt (cmp row.0 key)))) b ≡ true) → IsInOrder cmp (flatten (flatten b)) → AllBelow cmp key (flatten (flatten b))
-    middles_before [] first ordered = tt
-    middles_before (p ∷ b) first ordered = all_below (flatten (flatten (p ∷ b))) ordered (ends_flatten _ (flatten (p ∷ b)) (ends_flatten _ (p ∷ b) (first (omega arith))))
+    inners_before : (b : List (List (List (K × V)))) → (0 < length b → last_passes (last_passes (last_passes (λ row. is_lt (cmp row.0 key)))) b ≡ true) → IsInOrder cmp (flatten (flatten b)) → AllBelow cmp key (flatten (flatten b))
+    inners_before [] first ordered = tt
+    inners_before (p ∷ b) first ordered = all_below (flatten (flatten (p ∷ b))) ordered (ends_flatten _ (flatten (p ∷ b)) (ends_flatten _ (p ∷ b) (first (omega arith))))
 
-    middles_behind : (a : List (List (List (K × V)))) → (0 < length a → least_leaves ≤ length leaves) → (0 < length a → AreFull least_rows leaves) → (0 < length a → ends (ends (λ row. is_lt (cmp row.0 key))) leaves ≡ false) → IsInOrder cmp (flatten leaves ++ flatten (flatten a)) → AllAbove cmp key (flatten (flatten a))
-    middles_behind [] least full more ordered = tt
-    middles_behind (p ∷ a) least full more ordered =
+    inners_behind : (a : List (List (List (K × V)))) → (0 < length a → least_leaves ≤ length leaves) → (0 < length a → AreFullNodes least_rows leaves) → (0 < length a → last_passes (last_passes (λ row. is_lt (cmp row.0 key))) leaves ≡ false) → IsInOrder cmp (flatten leaves ++ flatten (flatten a)) → AllAbove cmp key (flatten (flatten a))
+    inners_behind [] least full more ordered = tt
+    inners_behind (p ∷ a) least full more ordered =
         let parts = full (omega arith) in
         all_above (flatten leaves) (flatten (flatten (p ∷ a))) ordered (omega (arith, least (omega arith), full_least least_rows leaves parts)) (ends_flatten_not _ leaves parts (more (omega arith)))
 
-    pub middles_around : IsAround (flatten (flatten below)) (flatten (flatten above))
-    middles_around = record {
-      before = middles_before below at.before (in_order_front cmp (flatten (flatten below)) (flatten leaves ++ flatten (flatten above)) middles_order);
-      behind = middles_behind above (λ some. cuts.fewest (omega arith)) (λ some. full_front least_rows leaves (flatten above) (full_back least_rows (flatten below) (leaves ++ flatten above) (leaves_full (omega arith)))) at.behind (in_order_back cmp (flatten (flatten below)) (flatten leaves ++ flatten (flatten above)) middles_order);
+    pub inners_around : IsAround (flatten (flatten below)) (flatten (flatten above))
+    inners_around = record {
+      before = inners_before below at.before (in_order_front cmp (flatten (flatten below)) (flatten leaves ++ flatten (flatten above)) inners_order);
+      behind = inners_behind above (λ some. cuts.fewest (omega arith)) (λ some. full_front least_rows leaves (flatten above) (full_back least_rows (flatten below) (leaves ++ flatten above) (leaves_full (omega arith)))) at.behind (in_order_back cmp (flatten (flatten below)) (flatten leaves ++ flatten (flatten above)) inners_order);
     }

@@ -5,28 +5,28 @@ use Rattle.std.specs.Result.{IfOk, MatchResult}
 use Rattle.std.proofs.lemmas.Bool.{cases_lt}
 use Rattle.std.specs.declared.cmp.Ordering.{Ordering}
 use Rattle.version_shelf.specs.Shelf.{IsInOrder, most_rows, rows_below, rows_above, with_key, without_key}
-use Rattle.version_shelf.specs.Pages.{ArePages, AreFull, IsShelf, flatten, least_leaves, least_rows, most_middles}
-use Rattle.version_shelf.proofs.Flat.{full_from_pages, full_least}
+use Rattle.version_shelf.specs.Nodes.{AreNodes, AreFullNodes, IsShelf, flatten, least_leaves, least_rows, most_inners}
+use Rattle.version_shelf.proofs.Flat.{full_from_nodes, full_least}
 
-few_middles : {X : Type 0} (middles : List (List (List X))) → ArePages least_rows (flatten middles) → ArePages least_leaves middles → length (flatten (flatten middles)) ≤ most_rows → (n : ℕ) → length middles ≡ n → n ≤ most_middles
-few_middles middles leaves are room n is = elim (cases_lt n 513) [
+few_middles : {X : Type 0} (inners : List (List (List X))) → AreNodes least_rows (flatten inners) → AreNodes least_leaves inners → length (flatten (flatten inners)) ≤ most_rows → (n : ℕ) → length inners ≡ n → n ≤ most_inners
+few_middles inners leaves are room n is = elim (cases_lt n 513) [
   | inl few ↦ omega arith
   | inr many ↦
-      let full : AreFull least_leaves middles = full_from_pages least_leaves middles are (omega arith) in
-      let least : least_leaves * length middles ≤ length (flatten middles) = full_least least_leaves middles full in
-      let full_leaves : AreFull least_rows (flatten middles) = full_from_pages least_rows (flatten middles) leaves (omega arith) in
-      let rows : least_rows * length (flatten middles) ≤ length (flatten (flatten middles)) = full_least least_rows (flatten middles) full_leaves in
+      let full : AreFullNodes least_leaves inners = full_from_nodes least_leaves inners are (omega arith) in
+      let least : least_leaves * length inners ≤ length (flatten inners) = full_least least_leaves inners full in
+      let full_leaves : AreFullNodes least_rows (flatten inners) = full_from_nodes least_rows (flatten inners) leaves (omega arith) in
+      let rows : least_rows * length (flatten inners) ≤ length (flatten (flatten inners)) = full_least least_rows (flatten inners) full_leaves in
       absurd (omega arith)
 ]
 
-pub new_shelf : {K V : Type 0} (cmp : K → K → Ordering) (middles : List (List (List (K × V)))) (count : ℕ) → IsInOrder cmp (flatten (flatten middles)) → count ≡ length (flatten (flatten middles)) → count ≤ most_rows → ArePages least_rows (flatten middles) → ArePages least_leaves middles → IsShelf cmp middles count
-new_shelf cmp middles count order counted room leaves are = record {
+pub new_shelf : {K V : Type 0} (cmp : K → K → Ordering) (inners : List (List (List (K × V)))) (count : ℕ) → IsInOrder cmp (flatten (flatten inners)) → count ≡ length (flatten (flatten inners)) → count ≤ most_rows → AreNodes least_rows (flatten inners) → AreNodes least_leaves inners → IsShelf cmp inners count
+new_shelf cmp inners count order counted room leaves are = record {
   order = order;
   counted = counted;
   room = omega arith;
   are_leaves = leaves;
   are_middles = are;
-  size = few_middles middles leaves are (omega arith) (length middles) refl;
+  size = few_middles inners leaves are (omega arith) (length inners) refl;
 }
 
 -- ---- the rows of a changed shelf

@@ -13,7 +13,7 @@ use Rattle.std.proofs.lemmas.List.{get_or-map}
 use Rattle.std.proofs.lemmas.Map.Entries.{length-keys_of}
 use Rattle.std.proofs.lemmas.Map.Keys.{Less-from_sorted}
 use Rattle.version_shelf.specs.Shelf.{IsInOrder, rows_below, rows_between, rows_from}
-use Rattle.version_shelf.specs.Pages.{IsPlace, ends}
+use Rattle.version_shelf.specs.Nodes.{IsSplitIndex, last_passes}
 use Rattle.version_shelf.proofs.Ends.{ends_take, starts_drop}
 
 -- ---- a list of which exactly the first i elements pass
@@ -71,18 +71,18 @@ module _ {K V : Type 0} {cmp : K → K → Ordering} (o : IsTotalOrder cmp) (row
   ]
 
   -- the index is the number of the rows below the key
-  pub point_is : (i : ℕ) → IsPlace (λ row. is_lt (cmp row.0 key)) rows i → IsPartitionPoint (λ row. is_lt (cmp row.0 key) ≡ true) (λ row. is_lt (cmp row.0 key) ≡ false) rows i
-  point_is i place = (
+  pub point_is : (i : ℕ) → IsSplitIndex (λ row. is_lt (cmp row.0 key)) rows i → IsPartitionPoint (λ row. is_lt (cmp row.0 key) ≡ true) (λ row. is_lt (cmp row.0 key) ≡ false) rows i
+  point_is i position = (
     λ k d low high.
-        let last : i - 1 < length rows = omega (arith, place.inside) in
+        let last : i - 1 < length rows = omega (arith, position.inside) in
         let all : i - 1 + 1 ≡ i = omega arith in
         let passes = λ (row : K × V). is_lt (cmp row.0 key) in
-        is_partitioned k (i - 1) d (omega arith) last (sym (ends_take passes rows (i - 1) d last) ∙ ap (λ n. ends passes (take n rows)) all ∙ place.before (omega arith)),
+        is_partitioned k (i - 1) d (omega arith) last (sym (ends_take passes rows (i - 1) d last) ∙ ap (λ n. last_passes passes (take n rows)) all ∙ position.before (omega arith)),
     λ k d low high. not_true _ (λ below.
         let passes = λ (row : K × V). is_lt (cmp row.0 key) in
         let here : i < length rows = omega arith in
         let first : passes (get_or rows i d) ≡ true = is_partitioned i k d low high below in
-        apart (sym first ∙ sym (starts_drop passes rows i d here) ∙ place.behind)),
+        apart (sym first ∙ sym (starts_drop passes rows i d here) ∙ position.behind)),
   )
 
   -- so the rows before the index are those below the key, and the others are those from the key on

@@ -8,11 +8,11 @@ use Rattle.std.specs.List.{AllByRecursion}
 use Rattle.std.specs.Map.{keys_of}
 use Rattle.std.proofs.lemmas.List.Elements.{filter-append}
 use Rattle.version_shelf.specs.Shelf.{IsInOrder, rows_below, rows_between, rows_from}
-use Rattle.version_shelf.specs.Pages.{AreFull, ArePages, AreWalkPages, Cuts, CutsAt, flatten, ends, least_leaves, least_rows, walk_rows}
+use Rattle.version_shelf.specs.Nodes.{AreFullNodes, AreNodes, AreWalkNodes, Cuts, CutsAt, flatten, last_passes, least_leaves, least_rows, walk_rows}
 use Rattle.version_shelf.proofs.Above.{AllAbove, all_filter, below_of_above}
 use Rattle.version_shelf.proofs.Split.{between_is}
-use Rattle.version_shelf.proofs.Around.{AllBelow, IsAround, below_of_below, from_of_below, below_around, from_around, in_order_back, leaves_around, middles_around}
-use Rattle.version_shelf.proofs.Flat.{flatten-append, flatten_around, full_front, full_back, full_from_pages, pages_back}
+use Rattle.version_shelf.proofs.Around.{AllBelow, IsAround, below_of_below, from_of_below, below_around, from_around, in_order_back, leaves_around, inners_around}
+use Rattle.version_shelf.proofs.Flat.{flatten-append, flatten_around, full_front, full_back, full_from_nodes, nodes_back}
 use Rattle.version_shelf.proofs.Paths.{others_full}
 use Rattle.std.proofs.lemmas.List.{drop_at}
 
@@ -32,14 +32,14 @@ module _ {K V : Type 0} {cmp : K → K → Ordering} (o : IsTotalOrder cmp) (lo 
   none_after rows all = sym (between_is cmp lo hi rows) ∙ below_of_above o hi (rows_from cmp rows lo) (all_filter (λ y. cmp hi y ≡ Less) (λ row. is_ge (cmp row.0 lo)) rows all)
 
   -- both bounds belong to one page
-  between_one : (front page back : List (K × V)) → AllBelow cmp lo front → AllAbove cmp hi back → rows_between cmp (front ++ (page ++ back)) lo hi ≡ rows_between cmp page lo hi
-  between_one front page back first last =
+  between_one : (front node back : List (K × V)) → AllBelow cmp lo front → AllAbove cmp hi back → rows_between cmp (front ++ (node ++ back)) lo hi ≡ rows_between cmp node lo hi
+  between_one front node back first last =
       let p = λ (row : K × V). is_ge (cmp row.0 lo) && is_lt (cmp row.0 hi) in
-      filter-append p front (page ++ back)
-      ∙ ap (λ l. l ++ filter p (page ++ back)) (none_before front first)
-      ∙ filter-append p page back
-      ∙ ap (λ l. filter p page ++ l) (none_after back last)
-      ∙ append-nil (filter p page)
+      filter-append p front (node ++ back)
+      ∙ ap (λ l. l ++ filter p (node ++ back)) (none_before front first)
+      ∙ filter-append p node back
+      ∙ ap (λ l. filter p node ++ l) (none_after back last)
+      ∙ append-nil (filter p node)
 
   -- the bounds belong to two pages, with others between them
   between_two : (front first between last back rest : List (K × V)) → rest ≡ between ++ (last ++ back) → IsAround o lo front rest → IsAround o hi (first ++ between) back → rows_between cmp (front ++ (first ++ rest)) lo hi ≡ rows_from cmp first lo ++ (between ++ rows_below cmp last hi)
@@ -56,23 +56,23 @@ module _ {K V : Type 0} {cmp : K → K → Ordering} (o : IsTotalOrder cmp) (lo 
 
 -- ---- the pages from an index on
 
-module _ {X : Type 0} (least : ℕ) (pages below : List (List X)) (page : List X) (above : List (List X)) (cuts : Cuts least pages below page above) (from : List (List X)) (is : from ≡ drop (length below) pages) where
-  pub front_and_rest : pages ≡ below ++ from
+module _ {X : Type 0} (least : ℕ) (nodes below : List (List X)) (node : List X) (above : List (List X)) (cuts : Cuts least nodes below node above) (from : List (List X)) (is : from ≡ drop (length below) nodes) where
+  pub front_and_rest : nodes ≡ below ++ from
   front_and_rest = elim cuts.whole [
-    | inl whole ↦ whole ∙ ap (λ l. below ++ l) (sym (is ∙ ap (drop (length below)) whole ∙ drop_at below (page ∷ above) (length below) refl))
-    | inr none ↦ none.0 ∙ sym (ap (λ l. l ++ from) none.1 ∙ is ∙ ap (λ l. drop (length l) pages) none.1 ∙ none.0)
+    | inl whole ↦ whole ∙ ap (λ l. below ++ l) (sym (is ∙ ap (drop (length below)) whole ∙ drop_at below (node ∷ above) (length below) refl))
+    | inr none ↦ none.0 ∙ sym (ap (λ l. l ++ from) none.1 ∙ is ∙ ap (λ l. drop (length l) nodes) none.1 ∙ none.0)
   ]
 
-  pub rest_is : (below ≡ [] → pages ≡ [] → 0 < 0) → from ≡ page ∷ above
+  pub rest_is : (below ≡ [] → nodes ≡ [] → 0 < 0) → from ≡ node ∷ above
   rest_is some = elim cuts.whole [
-    | inl whole ↦ is ∙ ap (drop (length below)) whole ∙ drop_at below (page ∷ above) (length below) refl
+    | inl whole ↦ is ∙ ap (drop (length below)) whole ∙ drop_at below (node ∷ above) (length below) refl
     | inr none ↦ absurd (omega (arith, some none.1 none.0))
   ]
 
-  pub rest_pages : ArePages least pages → ArePages least from
-  rest_pages are = pages_back least below from (rw front_and_rest at are)
+  pub rest_nodes : AreNodes least nodes → AreNodes least from
+  rest_nodes are = nodes_back least below from (rw front_and_rest at are)
 
-  pub rest_size : (most : ℕ) → length pages ≤ most → length from ≤ most
+  pub rest_size : (most : ℕ) → length nodes ≤ most → length from ≤ most
   rest_size most few = omega (arith, ap length front_and_rest, length-append below from)
 
   -- if the other bound belongs to a later page
@@ -83,13 +83,13 @@ module _ {X : Type 0} (least : ℕ) (pages below : List (List X)) (page : List X
       | inr none ↦ absurd (omega (arith, ap length more, ap length none.1))
     ]
 
-    some_page : from ≡ page ∷ above
-    some_page = rest_is (λ none empty. omega (arith, ap length whole_rest, length-append ends_below (last ∷ ends_above), ap length front_and_rest, ap length empty, length-append below from))
+    some_node : from ≡ node ∷ above
+    some_node = rest_is (λ none empty. omega (arith, ap length whole_rest, length-append ends_below (last ∷ ends_above), ap length front_and_rest, ap length empty, length-append below from))
 
-    both : page ∷ above ≡ first ∷ (between ++ last ∷ ends_above)
-    both = sym some_page ∙ whole_rest ∙ ap (λ l. l ++ last ∷ ends_above) more
+    both : node ∷ above ≡ first ∷ (between ++ last ∷ ends_above)
+    both = sym some_node ∙ whole_rest ∙ ap (λ l. l ++ last ∷ ends_above) more
 
-    pub first_is : first ≡ page
+    pub first_is : first ≡ node
     first_is = cc both
 
     pub above_is : above ≡ between ++ last ∷ ends_above
@@ -97,15 +97,15 @@ module _ {X : Type 0} (least : ℕ) (pages below : List (List X)) (page : List X
 
 -- ---- between two leaves
 
-module _ {K V : Type 0} {cmp : K → K → Ordering} (o : IsTotalOrder cmp) (lo hi : K) (leaves below : List (List (K × V))) (page : List (K × V)) (above : List (List (K × V))) (cuts : Cuts least_rows leaves below page above) (at : CutsAt (λ row. is_lt (cmp row.0 lo)) below page above) (sorted : IsInOrder cmp (flatten leaves)) (from : List (List (K × V))) (is : from ≡ drop (length below) leaves) where
+module _ {K V : Type 0} {cmp : K → K → Ordering} (o : IsTotalOrder cmp) (lo hi : K) (leaves below : List (List (K × V))) (node : List (K × V)) (above : List (List (K × V))) (cuts : Cuts least_rows leaves below node above) (at : CutsAt (λ row. is_lt (cmp row.0 lo)) below node above) (sorted : IsInOrder cmp (flatten leaves)) (from : List (List (K × V))) (is : from ≡ drop (length below) leaves) where
   leaves_parted : flatten leaves ≡ flatten below ++ flatten from
-  leaves_parted = ap flatten (front_and_rest least_rows leaves below page above cuts from is) ∙ flatten-append below from
+  leaves_parted = ap flatten (front_and_rest least_rows leaves below node above cuts from is) ∙ flatten-append below from
 
   pub rest_order : IsInOrder cmp (flatten from)
   rest_order = in_order_back cmp (flatten below) (flatten from) (rw leaves_parted at sorted)
 
   low : IsAround o lo (flatten below) (flatten above)
-  low = leaves_around o lo leaves below page above cuts at sorted
+  low = leaves_around o lo leaves below node above cuts at sorted
 
   module _ (ends_below : List (List (K × V))) (last : List (K × V)) (ends_above : List (List (K × V))) (ends_cuts : Cuts least_rows from ends_below last ends_above) (ends_at : CutsAt (λ row. is_lt (cmp row.0 hi)) ends_below last ends_above) where
     high : IsAround o hi (flatten ends_below) (flatten ends_above)
@@ -118,65 +118,65 @@ module _ {K V : Type 0} {cmp : K → K → Ordering} (o : IsTotalOrder cmp) (lo 
     pub in_one_leaf : length ends_below ≡ 0 → (found : List (K × V)) → found ≡ rows_between cmp last lo hi → found ++ [] ≡ rows_between cmp (flatten leaves) lo hi
     in_one_leaf none found are = append-nil found ∙ are ∙ sym (one_leaf ends_below refl none)
 
-    pub in_two_leaves : (first : List (K × V)) (between : List (List (K × V))) → ends_below ≡ first ∷ between → (x y : List (K × V)) → x ≡ rows_from cmp page lo → y ≡ rows_below cmp last hi → x ++ (flatten between ++ y) ≡ rows_between cmp (flatten leaves) lo hi
+    pub in_two_leaves : (first : List (K × V)) (between : List (List (K × V))) → ends_below ≡ first ∷ between → (x y : List (K × V)) → x ≡ rows_from cmp node lo → y ≡ rows_below cmp last hi → x ++ (flatten between ++ y) ≡ rows_between cmp (flatten leaves) lo hi
     in_two_leaves first between more x y starts_are ends_are =
-        let same : first ≡ page = first_is least_rows leaves below page above cuts from is ends_below last ends_above ends_cuts first between more in
-        let parts : flatten above ≡ flatten between ++ (last ++ flatten ends_above) = ap flatten (above_is least_rows leaves below page above cuts from is ends_below last ends_above ends_cuts first between more) ∙ flatten_around between last ends_above in
-        let before : flatten ends_below ≡ page ++ flatten between = ap flatten more ∙ ap (λ l. l ++ flatten between) same in
+        let same : first ≡ node = first_is least_rows leaves below node above cuts from is ends_below last ends_above ends_cuts first between more in
+        let parts : flatten above ≡ flatten between ++ (last ++ flatten ends_above) = ap flatten (above_is least_rows leaves below node above cuts from is ends_below last ends_above ends_cuts first between more) ∙ flatten_around between last ends_above in
+        let before : flatten ends_below ≡ node ++ flatten between = ap flatten more ∙ ap (λ l. l ++ flatten between) same in
         sym (ap (λ l. rows_between cmp l lo hi) cuts.joined
-        ∙ between_two o lo hi (flatten below) page (flatten between) last (flatten ends_above) (flatten above) parts low (rw before at high)
+        ∙ between_two o lo hi (flatten below) node (flatten between) last (flatten ends_above) (flatten above) parts low (rw before at high)
         ∙ ap (λ l. l ++ (flatten between ++ rows_below cmp last hi)) (sym starts_are)
         ∙ ap (λ l. x ++ (flatten between ++ l)) (sym ends_are))
 
 -- ---- between two middles
 
-module _ {K V : Type 0} {cmp : K → K → Ordering} (o : IsTotalOrder cmp) (lo hi : K) (middles below : List (List (List (K × V)))) (leaves : List (List (K × V))) (above : List (List (List (K × V)))) (cuts : Cuts least_leaves middles below leaves above) (at : CutsAt (ends (λ row. is_lt (cmp row.0 lo))) below leaves above) (sorted : IsInOrder cmp (flatten (flatten middles))) (pages : ArePages least_rows (flatten middles)) (from : List (List (List (K × V)))) (is : from ≡ drop (length below) middles) where
-  middles_parted : flatten middles ≡ flatten below ++ flatten from
-  middles_parted = ap flatten (front_and_rest least_leaves middles below leaves above cuts from is) ∙ flatten-append below from
+module _ {K V : Type 0} {cmp : K → K → Ordering} (o : IsTotalOrder cmp) (lo hi : K) (inners below : List (List (List (K × V)))) (leaves : List (List (K × V))) (above : List (List (List (K × V)))) (cuts : Cuts least_leaves inners below leaves above) (at : CutsAt (last_passes (λ row. is_lt (cmp row.0 lo))) below leaves above) (sorted : IsInOrder cmp (flatten (flatten inners))) (nodes : AreNodes least_rows (flatten inners)) (from : List (List (List (K × V)))) (is : from ≡ drop (length below) inners) where
+  inners_parted : flatten inners ≡ flatten below ++ flatten from
+  inners_parted = ap flatten (front_and_rest least_leaves inners below leaves above cuts from is) ∙ flatten-append below from
 
-  rows_parted : flatten (flatten middles) ≡ flatten (flatten below) ++ flatten (flatten from)
-  rows_parted = ap flatten middles_parted ∙ flatten-append (flatten below) (flatten from)
+  rows_parted : flatten (flatten inners) ≡ flatten (flatten below) ++ flatten (flatten from)
+  rows_parted = ap flatten inners_parted ∙ flatten-append (flatten below) (flatten from)
 
   pub rest_rows_order : IsInOrder cmp (flatten (flatten from))
   rest_rows_order = in_order_back cmp (flatten (flatten below)) (flatten (flatten from)) (rw rows_parted at sorted)
 
-  pub rest_leaves : ArePages least_rows (flatten from)
-  rest_leaves = pages_back least_rows (flatten below) (flatten from) (rw middles_parted at pages)
+  pub rest_leaves : AreNodes least_rows (flatten from)
+  rest_leaves = nodes_back least_rows (flatten below) (flatten from) (rw inners_parted at nodes)
 
-  low_middles : IsAround o lo (flatten (flatten below)) (flatten (flatten above))
-  low_middles = middles_around o lo middles below leaves above cuts at sorted pages
+  low_inners : IsAround o lo (flatten (flatten below)) (flatten (flatten above))
+  low_inners = inners_around o lo inners below leaves above cuts at sorted nodes
 
-  module _ (ends_below : List (List (List (K × V)))) (last : List (List (K × V))) (ends_above : List (List (List (K × V)))) (ends_cuts : Cuts least_leaves from ends_below last ends_above) (ends_at : CutsAt (ends (λ row. is_lt (cmp row.0 hi))) ends_below last ends_above) where
-    high_middles : IsAround o hi (flatten (flatten ends_below)) (flatten (flatten ends_above))
-    high_middles = middles_around o hi from ends_below last ends_above ends_cuts ends_at rest_rows_order rest_leaves
+  module _ (ends_below : List (List (List (K × V)))) (last : List (List (K × V))) (ends_above : List (List (List (K × V)))) (ends_cuts : Cuts least_leaves from ends_below last ends_above) (ends_at : CutsAt (last_passes (λ row. is_lt (cmp row.0 hi))) ends_below last ends_above) where
+    high_inners : IsAround o hi (flatten (flatten ends_below)) (flatten (flatten ends_above))
+    high_inners = inners_around o hi from ends_below last ends_above ends_cuts ends_at rest_rows_order rest_leaves
 
-    one_middle : (b : List (List (List (K × V)))) → b ≡ ends_below → length b ≡ 0 → rows_between cmp (flatten (flatten middles)) lo hi ≡ rows_between cmp (flatten last) lo hi
-    one_middle [] same none =
+    one_inner : (b : List (List (List (K × V)))) → b ≡ ends_below → length b ≡ 0 → rows_between cmp (flatten (flatten inners)) lo hi ≡ rows_between cmp (flatten last) lo hi
+    one_inner [] same none =
         ap (λ l. rows_between cmp l lo hi) (rows_parted ∙ ap (λ l. flatten (flatten below) ++ l) (ap flatten (ends_cuts.joined ∙ ap (λ l. flatten l ++ (last ++ flatten ends_above)) (sym same)) ∙ flatten-append last (flatten ends_above)))
-        ∙ between_one o lo hi (flatten (flatten below)) (flatten last) (flatten (flatten ends_above)) low_middles.before high_middles.behind
-    one_middle (p ∷ b) same none = absurd (omega arith)
+        ∙ between_one o lo hi (flatten (flatten below)) (flatten last) (flatten (flatten ends_above)) low_inners.before high_inners.behind
+    one_inner (p ∷ b) same none = absurd (omega arith)
 
-    pub in_one_middle : length ends_below ≡ 0 → rows_between cmp (flatten last) lo hi ≡ rows_between cmp (flatten (flatten middles)) lo hi
-    in_one_middle none = sym (one_middle ends_below refl none)
+    pub in_one_inner : length ends_below ≡ 0 → rows_between cmp (flatten last) lo hi ≡ rows_between cmp (flatten (flatten inners)) lo hi
+    in_one_inner none = sym (one_inner ends_below refl none)
 
     module _ (first : List (List (K × V))) (between : List (List (List (K × V)))) (more : ends_below ≡ first ∷ between) where
-      pub between_full : AreFull least_leaves between × AreFull least_rows (flatten between)
+      pub between_full : AreFullNodes least_leaves between × AreFullNodes least_rows (flatten between)
       between_full =
           let all = rw more at ends_cuts.are_below in
           let leaves_all = full_front least_rows (flatten ends_below) (last ++ flatten ends_above) (others_full from ends_below last ends_above ends_cuts rest_leaves (omega (arith, ap length more))) in
           (all.1, full_back least_rows first (flatten between) (rw more at leaves_all))
 
-      in_two : rows_between cmp (flatten (flatten middles)) lo hi ≡ rows_from cmp (flatten leaves) lo ++ (flatten (flatten between) ++ rows_below cmp (flatten last) hi)
+      in_two : rows_between cmp (flatten (flatten inners)) lo hi ≡ rows_from cmp (flatten leaves) lo ++ (flatten (flatten between) ++ rows_below cmp (flatten last) hi)
       in_two =
-          let same : first ≡ leaves = first_is least_leaves middles below leaves above cuts from is ends_below last ends_above ends_cuts first between more in
-          let parts : flatten (flatten above) ≡ flatten (flatten between) ++ (flatten last ++ flatten (flatten ends_above)) = ap flatten (ap flatten (above_is least_leaves middles below leaves above cuts from is ends_below last ends_above ends_cuts first between more) ∙ flatten_around between last ends_above) ∙ flatten-append (flatten between) (last ++ flatten ends_above) ∙ ap (λ l. flatten (flatten between) ++ l) (flatten-append last (flatten ends_above)) in
+          let same : first ≡ leaves = first_is least_leaves inners below leaves above cuts from is ends_below last ends_above ends_cuts first between more in
+          let parts : flatten (flatten above) ≡ flatten (flatten between) ++ (flatten last ++ flatten (flatten ends_above)) = ap flatten (ap flatten (above_is least_leaves inners below leaves above cuts from is ends_below last ends_above ends_cuts first between more) ∙ flatten_around between last ends_above) ∙ flatten-append (flatten between) (last ++ flatten ends_above) ∙ ap (λ l. flatten (flatten between) ++ l) (flatten-append last (flatten ends_above)) in
           let before : flatten (flatten ends_below) ≡ flatten leaves ++ flatten (flatten between) = ap flatten (ap flatten more ∙ ap (λ l. l ++ flatten between) same) ∙ flatten-append leaves (flatten between) in
           ap (λ l. rows_between cmp l lo hi) (ap flatten cuts.joined ∙ flatten-append (flatten below) (leaves ++ flatten above) ∙ ap (λ l. flatten (flatten below) ++ l) (flatten-append leaves (flatten above)))
-          ∙ between_two o lo hi (flatten (flatten below)) (flatten leaves) (flatten (flatten between)) (flatten last) (flatten (flatten ends_above)) (flatten (flatten above)) parts low_middles (rw before at high_middles)
+          ∙ between_two o lo hi (flatten (flatten below)) (flatten leaves) (flatten (flatten between)) (flatten last) (flatten (flatten ends_above)) (flatten (flatten above)) parts low_inners (rw before at high_inners)
 
       -- the leaves of the first and of the last middle, cut at the bounds
-      pub in_two_middles : (a c : List (K × V)) (b d : List (List (K × V))) → rows_from cmp (flatten leaves) lo ≡ a ++ flatten b → rows_below cmp (flatten last) hi ≡ flatten d ++ c → a ++ (flatten b ++ (flatten (flatten between) ++ (flatten d ++ c))) ≡ rows_between cmp (flatten (flatten middles)) lo hi
-      in_two_middles a c b d starts_are ends_are = sym (
+      pub in_two_inners : (a c : List (K × V)) (b d : List (List (K × V))) → rows_from cmp (flatten leaves) lo ≡ a ++ flatten b → rows_below cmp (flatten last) hi ≡ flatten d ++ c → a ++ (flatten b ++ (flatten (flatten between) ++ (flatten d ++ c))) ≡ rows_between cmp (flatten (flatten inners)) lo hi
+      in_two_inners a c b d starts_are ends_are = sym (
           in_two
           ∙ ap (λ l. l ++ (flatten (flatten between) ++ rows_below cmp (flatten last) hi)) starts_are
           ∙ ap (λ l. (a ++ flatten b) ++ (flatten (flatten between) ++ l)) ends_are
@@ -193,35 +193,35 @@ module _ {K V : Type 0} {cmp : K → K → Ordering} (o : IsTotalOrder cmp) (key
 
 -- ---- the middles, cut at a bound
 
-module _ {K V : Type 0} {cmp : K → K → Ordering} (o : IsTotalOrder cmp) (key : K) (middles below : List (List (List (K × V)))) (leaves : List (List (K × V))) (above : List (List (List (K × V)))) (cuts : Cuts least_leaves middles below leaves above) (at : CutsAt (ends (λ row. is_lt (cmp row.0 key))) below leaves above) (sorted : IsInOrder cmp (flatten (flatten middles))) (pages : ArePages least_rows (flatten middles)) where
-  pub middles_start_at : (a : List (K × V)) (b : List (List (K × V))) → rows_from cmp (flatten leaves) key ≡ a ++ flatten b → a ++ (flatten b ++ (flatten (flatten above) ++ [])) ≡ rows_from cmp (flatten (flatten middles)) key
-  middles_start_at a b starts_are = sym (
+module _ {K V : Type 0} {cmp : K → K → Ordering} (o : IsTotalOrder cmp) (key : K) (inners below : List (List (List (K × V)))) (leaves : List (List (K × V))) (above : List (List (List (K × V)))) (cuts : Cuts least_leaves inners below leaves above) (at : CutsAt (last_passes (λ row. is_lt (cmp row.0 key))) below leaves above) (sorted : IsInOrder cmp (flatten (flatten inners))) (nodes : AreNodes least_rows (flatten inners)) where
+  pub inners_start_at : (a : List (K × V)) (b : List (List (K × V))) → rows_from cmp (flatten leaves) key ≡ a ++ flatten b → a ++ (flatten b ++ (flatten (flatten above) ++ [])) ≡ rows_from cmp (flatten (flatten inners)) key
+  inners_start_at a b starts_are = sym (
       ap (λ l. rows_from cmp l key) (ap flatten cuts.joined ∙ flatten-append (flatten below) (leaves ++ flatten above) ∙ ap (λ l. flatten (flatten below) ++ l) (flatten-append leaves (flatten above)))
-      ∙ from_around o key (flatten (flatten below)) (flatten leaves) (flatten (flatten above)) (middles_around o key middles below leaves above cuts at sorted pages)
+      ∙ from_around o key (flatten (flatten below)) (flatten leaves) (flatten (flatten above)) (inners_around o key inners below leaves above cuts at sorted nodes)
       ∙ ap (λ l. l ++ flatten (flatten above)) starts_are
       ∙ append_assoc a (flatten b) (flatten (flatten above))
       ∙ ap (λ l. a ++ (flatten b ++ l)) (sym (append-nil (flatten (flatten above)))))
 
-  pub above_full : AreFull least_rows (flatten above)
+  pub above_full : AreFullNodes least_rows (flatten above)
   above_full = full above refl
     where
-      full : (x : List (List (List (K × V)))) → x ≡ above → AreFull least_rows (flatten x)
+      full : (x : List (List (List (K × V)))) → x ≡ above → AreFullNodes least_rows (flatten x)
       full [] e = tt
       full (p ∷ ps) e =
           let more : 0 < length above = omega (arith, ap length e) in
-          subst (λ x. AreFull least_rows (flatten x)) (sym e) (full_back least_rows leaves (flatten above) (full_back least_rows (flatten below) (leaves ++ flatten above) (others_full middles below leaves above cuts pages (omega arith))))
+          subst (λ x. AreFullNodes least_rows (flatten x)) (sym e) (full_back least_rows leaves (flatten above) (full_back least_rows (flatten below) (leaves ++ flatten above) (others_full inners below leaves above cuts nodes (omega arith))))
 
 -- ---- all pages
 
 -- all pages after the first are full
-pub later_full : {X : Type 0} (least : ℕ) (page : List X) (pages : List (List X)) → ArePages least (page ∷ pages) → AreFull least pages
-later_full least page [] are = tt
-later_full least page (p ∷ ps) are = are.1
+pub later_full : {X : Type 0} (least : ℕ) (node : List X) (nodes : List (List X)) → AreNodes least (node ∷ nodes) → AreFullNodes least nodes
+later_full least node [] are = tt
+later_full least node (p ∷ ps) are = are.1
 
 -- the leaves of full middles are full
-pub full_leaves : {X : Type 0} (middles : List (List (List X))) → AreFull least_leaves middles → ArePages least_rows (flatten middles) → AreFull least_rows (flatten middles)
+pub full_leaves : {X : Type 0} (inners : List (List (List X))) → AreFullNodes least_leaves inners → AreNodes least_rows (flatten inners) → AreFullNodes least_rows (flatten inners)
 full_leaves [] all are = tt
-full_leaves (m ∷ ms) all are = full_from_pages least_rows (m ++ flatten ms) are (omega (arith, all.0, length-append m (flatten ms)))
+full_leaves (m ∷ ms) all are = full_from_nodes least_rows (m ++ flatten ms) are (omega (arith, all.0, length-append m (flatten ms)))
 
 pub empty : {X : Type 0} (xs : List X) → length xs ≡ 0 → xs ≡ []
 empty [] none = refl
@@ -229,32 +229,32 @@ empty (x ∷ xs) none = absurd (omega arith)
 
 -- ---- a step of a walk to the next page
 
-module _ {X : Type 0} (leaves : List (List X)) (middles : List (List (List X))) (middle taken : List (List X)) (rest : List (List (List X))) where
-  pub full_middle : (last_leaves : List (List X)) → middles ≡ middle ∷ rest → taken ≡ middle → AreWalkPages leaves middles last_leaves → AreWalkPages taken rest last_leaves
-  full_middle last_leaves is same pages =
-      let full = rw is at pages.1 in
-      let inner = rw is at pages.2 in
-      rw same (full_front least_rows middle (flatten rest) inner, full.1, full_back least_rows middle (flatten rest) inner, pages.3)
+module _ {X : Type 0} (leaves : List (List X)) (inners : List (List (List X))) (middle taken : List (List X)) (rest : List (List (List X))) where
+  pub full_inner : (last_leaves : List (List X)) → inners ≡ middle ∷ rest → taken ≡ middle → AreWalkNodes leaves inners last_leaves → AreWalkNodes taken rest last_leaves
+  full_inner last_leaves is same nodes =
+      let full = rw is at nodes.1 in
+      let inner = rw is at nodes.2 in
+      rw same (full_front least_rows middle (flatten rest) inner, full.1, full_back least_rows middle (flatten rest) inner, nodes.3)
 
-  pub next_middle : (behind : List X) → middles ≡ middle ∷ rest → taken ≡ middle → length leaves ≡ 0 → flatten taken ++ (flatten (flatten rest) ++ behind) ≡ flatten leaves ++ (flatten (flatten middles) ++ behind)
-  next_middle behind is same none =
+  pub next_inner : (behind : List X) → inners ≡ middle ∷ rest → taken ≡ middle → length leaves ≡ 0 → flatten taken ++ (flatten (flatten rest) ++ behind) ≡ flatten leaves ++ (flatten (flatten inners) ++ behind)
+  next_inner behind is same none =
       ap (λ l. flatten l ++ (flatten (flatten rest) ++ behind)) same
       ∙ sym (append_assoc (flatten middle) (flatten (flatten rest)) behind)
       ∙ ap (λ l. l ++ behind) (sym (flatten-append middle (flatten rest)))
       ∙ sym (ap (λ l. flatten (flatten l) ++ behind) is)
-      ∙ sym (ap (λ l. flatten l ++ (flatten (flatten middles) ++ behind)) (empty leaves none))
+      ∙ sym (ap (λ l. flatten l ++ (flatten (flatten inners) ++ behind)) (empty leaves none))
 
-module _ {X : Type 0} (rest : List X) (leaves : List (List X)) (middles : List (List (List X))) (last_leaves : List (List X)) (last : List X) where
-  walk_parts : walk_rows rest leaves middles last_leaves last ≡ rest ++ ((flatten leaves ++ (flatten (flatten middles) ++ flatten last_leaves)) ++ last)
-  walk_parts = ap (λ l. rest ++ l) (sym (append_assoc (flatten leaves) (flatten (flatten middles) ++ flatten last_leaves) last ∙ ap (λ l. flatten leaves ++ l) (append_assoc (flatten (flatten middles)) (flatten last_leaves) last)))
+module _ {X : Type 0} (rest : List X) (leaves : List (List X)) (inners : List (List (List X))) (last_leaves : List (List X)) (last : List X) where
+  walk_parts : walk_rows rest leaves inners last_leaves last ≡ rest ++ ((flatten leaves ++ (flatten (flatten inners) ++ flatten last_leaves)) ++ last)
+  walk_parts = ap (λ l. rest ++ l) (sym (append_assoc (flatten leaves) (flatten (flatten inners) ++ flatten last_leaves) last ∙ ap (λ l. flatten leaves ++ l) (append_assoc (flatten (flatten inners)) (flatten last_leaves) last)))
 
   -- the same rows, after the walk takes the first leaf
-  pub next_leaf : (new_leaves : List (List X)) (new_middles : List (List (List X))) (new_last_leaves : List (List X)) (new_last leaf taken : List X) (more : List (List X)) → length rest ≡ 0 → new_last ≡ last → flatten new_leaves ++ (flatten (flatten new_middles) ++ flatten new_last_leaves) ≡ flatten leaves ++ (flatten (flatten middles) ++ flatten last_leaves) → new_leaves ≡ leaf ∷ more → taken ≡ leaf → walk_rows taken more new_middles new_last_leaves new_last ≡ walk_rows rest leaves middles last_leaves last
-  next_leaf new_leaves new_middles new_last_leaves new_last leaf taken more none same_last same is same_leaf =
-      ap (λ l. walk_rows l more new_middles new_last_leaves new_last) same_leaf
-      ∙ ap (λ l. walk_rows leaf more new_middles new_last_leaves l) same_last
-      ∙ sym (append_assoc leaf (flatten more) (flatten (flatten new_middles) ++ (flatten new_last_leaves ++ last)))
-      ∙ sym (ap (λ l. flatten l ++ (flatten (flatten new_middles) ++ (flatten new_last_leaves ++ last))) is)
-      ∙ sym (append_assoc (flatten new_leaves) (flatten (flatten new_middles) ++ flatten new_last_leaves) last ∙ ap (λ l. flatten new_leaves ++ l) (append_assoc (flatten (flatten new_middles)) (flatten new_last_leaves) last))
+  pub next_leaf : (new_leaves : List (List X)) (new_inners : List (List (List X))) (new_last_leaves : List (List X)) (new_last leaf taken : List X) (more : List (List X)) → length rest ≡ 0 → new_last ≡ last → flatten new_leaves ++ (flatten (flatten new_inners) ++ flatten new_last_leaves) ≡ flatten leaves ++ (flatten (flatten inners) ++ flatten last_leaves) → new_leaves ≡ leaf ∷ more → taken ≡ leaf → walk_rows taken more new_inners new_last_leaves new_last ≡ walk_rows rest leaves inners last_leaves last
+  next_leaf new_leaves new_inners new_last_leaves new_last leaf taken more none same_last same is same_leaf =
+      ap (λ l. walk_rows l more new_inners new_last_leaves new_last) same_leaf
+      ∙ ap (λ l. walk_rows leaf more new_inners new_last_leaves l) same_last
+      ∙ sym (append_assoc leaf (flatten more) (flatten (flatten new_inners) ++ (flatten new_last_leaves ++ last)))
+      ∙ sym (ap (λ l. flatten l ++ (flatten (flatten new_inners) ++ (flatten new_last_leaves ++ last))) is)
+      ∙ sym (append_assoc (flatten new_leaves) (flatten (flatten new_inners) ++ flatten new_last_leaves) last ∙ ap (λ l. flatten new_leaves ++ l) (append_assoc (flatten (flatten new_inners)) (flatten new_last_leaves) last))
       ∙ ap (λ l. l ++ last) same
-      ∙ sym (walk_parts ∙ ap (λ l. l ++ ((flatten leaves ++ (flatten (flatten middles) ++ flatten last_leaves)) ++ last)) (empty rest none))
+      ∙ sym (walk_parts ∙ ap (λ l. l ++ ((flatten leaves ++ (flatten (flatten inners) ++ flatten last_leaves)) ++ last)) (empty rest none))

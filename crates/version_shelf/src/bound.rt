@@ -6,16 +6,16 @@ ghost use Rattle.std.specs.Prelude.{◌≡◌};
 pub trait Bound<K: Ord> {
     ghost use Rattle.std.specs.Ordering.{is_lt};
 
-    ghost place: { Self → K };
+    ghost position: { Self → K };
 
     /// Returns true if the key is below the bound's key.
     fn is_above(&self, key: &K) -> bool
-        ensures { result ≡ is_lt (K.cmp key.now (place self.now)) };
+        ensures { result ≡ is_lt (K.cmp key.now (position self.now)) };
 }
 
 /// A key is the bound at its own position.
 impl<K: Ord> Bound<K> for K {
-    ghost place = { λ key. key };
+    ghost position = { λ key. key };
 
     fn is_above(&self, key: &K) -> bool {
         key.cmp(self).is_lt()

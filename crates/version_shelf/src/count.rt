@@ -48,7 +48,7 @@ impl Count {
 /// `compared`.
 pub(crate) fn is_below<K: Ord, B: Bound<K>>(key: &K, bound: &B, count: &mut Count) -> bool
     requires { count.old + 1 < 2 ^ 64 }
-    ensures below { result ≡ is_lt (K.cmp key.now (B.place bound.now)) }
+    ensures below { result ≡ is_lt (K.cmp key.now (B.position bound.now)) }
     ensures counted { count.new ≡ count.old + 1 }
 {
     count.raise(1);

@@ -6,8 +6,8 @@ ghost use Rattle.version_shelf.specs.Shelf.{IsInOrder, get, rows_below, rows_abo
 
 use crate::bound::Bound;
 use crate::count::{Count, compared};
-use crate::page::{append, put};
-use crate::search::{place, place_near};
+use crate::node::{append, put};
+use crate::search::{position, position_near};
 use crate::shared_row::SharedRow;
 use std::alloc::{AllocError, Global};
 
@@ -28,11 +28,11 @@ pub(crate) fn split<'a, K: Ord, V, B: Bound<K>>(
     requires order { IsInOrder K.cmp rows.now }
     requires size { length rows.now ≤ 32 }
     requires room { count.old + 9 < 2 ^ 64 }
-    ensures below { result.0.now ≡ rows_below K.cmp rows.now (B.place bound.now) }
-    ensures others { result.1.now ≡ rows_from K.cmp rows.now (B.place bound.now) }
+    ensures below { result.0.now ≡ rows_below K.cmp rows.now (B.position bound.now) }
+    ensures others { result.1.now ≡ rows_from K.cmp rows.now (B.position bound.now) }
     ensures counted { (count.old ≤ count.new) × (count.new ≤ count.old + 9) }
 {
-    rows.split_at(place(rows, bound, count))
+    rows.split_at(position(rows, bound, count))
 }
 
 /// As [`split`], for a bound that most often is not above the first row, which is compared first.
@@ -44,11 +44,11 @@ fn split_near<'a, K: Ord, V, B: Bound<K>>(
     requires order { IsInOrder K.cmp rows.now }
     requires size { length rows.now ≤ 32 }
     requires room { count.old + 10 < 2 ^ 64 }
-    ensures below { result.0.now ≡ rows_below K.cmp rows.now (B.place bound.now) }
-    ensures others { result.1.now ≡ rows_from K.cmp rows.now (B.place bound.now) }
+    ensures below { result.0.now ≡ rows_below K.cmp rows.now (B.position bound.now) }
+    ensures others { result.1.now ≡ rows_from K.cmp rows.now (B.position bound.now) }
     ensures counted { (count.old ≤ count.new) × (count.new ≤ count.old + 10) }
 {
-    rows.split_at(place_near(rows, bound, count))
+    rows.split_at(position_near(rows, bound, count))
 }
 
 /// Splits the rows at a key.
@@ -90,7 +90,7 @@ pub(crate) fn between<'a, K: Ord, V, L: Bound<K>, H: Bound<K>>(
     requires order { IsInOrder K.cmp rows.now }
     requires size { length rows.now ≤ 32 }
     requires room { count.old + 19 < 2 ^ 64 }
-    ensures rows { result.now ≡ rows_between K.cmp rows.now (L.place lo.now) (H.place hi.now) }
+    ensures rows { result.now ≡ rows_between K.cmp rows.now (L.position lo.now) (H.position hi.now) }
     ensures counted { (count.old ≤ count.new) × (count.new ≤ count.old + 19) }
 {
     let (_, from) = split(rows, lo, count);

@@ -11,7 +11,7 @@
 //! the only leaf. A middle has at most 64 leaves, and at least 32 unless it is the only middle. The root has at most 512
 //! middles. A change rebuilds the leaf and the middle of its key, and the root. A page with one part too many is split into
 //! two halves. A page with one part too few is merged with a neighbour, and the result is split if it is too large. This
-//! preserves the type invariant, `IsShelf` of `specs/Pages.antt`, under all changes in any order of keys.
+//! preserves the type invariant, `IsShelf` of `specs/Nodes.antt`, under all changes in any order of keys.
 //!
 //! The maximum cost of each call, for a shelf of n rows:
 //!
@@ -28,7 +28,7 @@
 //!
 //! The contract of `find` states at most 32 comparisons, those of `with_counted` and `without_counted` at most 1,024 parts,
 //! each by a [`Count`]. All comparisons of keys are made in `count::compared` and `count::is_below`, which calls
-//! `Bound::is_above` once. Parts (rows and pages) enter new pages in `page::put`, `page::append` and
+//! `Bound::is_above` once. Parts (rows and pages) enter new pages in `node::put`, `node::append` and
 //! `rebuilt::in_halves`, which count them.
 //!
 //! Shelves share rows and pages by reference counts. A row or a page taken over from an older shelf is the same object in
@@ -48,7 +48,7 @@
 //! - `search`: where in an ordered list of parts a bound belongs.
 //! - `walk`: how an iterator moves from page to page.
 //! - `leaf`: the rows of one leaf.
-//! - `page`: a node that several shelves share.
+//! - `node`: a node that several shelves share.
 //! - `shared_row`: a row that several pages share.
 //!
 //! Nothing outside this crate depends on the pages.
@@ -59,7 +59,7 @@
 mod bound;
 mod count;
 mod leaf;
-mod page;
+mod node;
 mod path;
 mod range;
 mod rebuilt;

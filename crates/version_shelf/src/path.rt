@@ -3,11 +3,11 @@
 ghost use Rattle.std.specs.Prelude.{◌≡◌, ◌++◌, ◌+◌, ◌<◌, ◌≤◌, ◌^◌, IfOk, List, length};
 ghost use Rattle.std.specs.Option.{option_copied};
 ghost use Rattle.version_shelf.specs.Shelf.{IsInOrder, get, rows_below, rows_above};
-ghost use Rattle.version_shelf.specs.Pages.{ArePages, Leads, flatten, least_leaves, least_rows, most_middles};
+ghost use Rattle.version_shelf.specs.Nodes.{AreNodes, IsPath, flatten, least_leaves, least_rows, most_inners};
 
 use crate::count::Count;
 use crate::leaf::{Parts, part};
-use crate::page::{Leaf, Middle};
+use crate::node::{Leaf, InnerNode};
 use crate::rebuilt::rebuilt;
 use crate::search::{Cut, cut_at};
 use crate::shared_row::SharedRow;
@@ -21,34 +21,34 @@ const LEAST_LEAVES: usize = 32;
 /// leaf. Each list is cut at the key.
 #[derive(Drop)]
 pub(crate) struct Path<'a, K, V> {
-    pub(crate) middles: Cut<'a, Leaf<K, V>>,
+    pub(crate) inners: Cut<'a, Leaf<K, V>>,
     pub(crate) leaves: Cut<'a, SharedRow<K, V>>,
     pub(crate) rows: Parts<'a, K, V>,
 }
 
 pub(crate) fn path_to<'a, K: Ord, V>(
-    middles: &'a [Middle<K, V>],
+    inners: &'a [InnerNode<K, V>],
     key: &K,
     count: &mut Count,
 ) -> Path<'a, K, V>
-    requires order { IsInOrder K.cmp (flatten (flatten middles.now)) }
-    requires middles { ArePages least_leaves middles.now }
-    requires leaves { ArePages least_rows (flatten middles.now) }
-    requires size { length middles.now ≤ most_middles }
+    requires order { IsInOrder K.cmp (flatten (flatten inners.now)) }
+    requires inners { AreNodes least_leaves inners.now }
+    requires leaves { AreNodes least_rows (flatten inners.now) }
+    requires size { length inners.now ≤ most_inners }
     requires room { count.old + 28 < 2 ^ 64 }
-    ensures leads { Leads middles.now result.middles.below.now result.middles.at.now result.middles.above.now result.leaves.below.now result.leaves.at.now result.leaves.above.now }
+    ensures leads { IsPath inners.now result.inners.below.now result.inners.at.now result.inners.above.now result.leaves.below.now result.leaves.at.now result.leaves.above.now }
     ensures size { length result.rows.below.now + length result.rows.above.now ≤ length result.leaves.at.now }
     ensures least { length result.leaves.at.now ≤ length result.rows.below.now + length result.rows.above.now + 1 }
-    ensures below { flatten (flatten result.middles.below.now) ++ (flatten result.leaves.below.now ++ result.rows.below.now) ≡ rows_below K.cmp (flatten (flatten middles.now)) key.now }
-    ensures value { option_copied result.rows.value ≡ get K.cmp (flatten (flatten middles.now)) key.now }
-    ensures above { result.rows.above.now ++ (flatten result.leaves.above.now ++ flatten (flatten result.middles.above.now)) ≡ rows_above K.cmp (flatten (flatten middles.now)) key.now }
+    ensures below { flatten (flatten result.inners.below.now) ++ (flatten result.leaves.below.now ++ result.rows.below.now) ≡ rows_below K.cmp (flatten (flatten inners.now)) key.now }
+    ensures value { option_copied result.rows.value ≡ get K.cmp (flatten (flatten inners.now)) key.now }
+    ensures above { result.rows.above.now ++ (flatten result.leaves.above.now ++ flatten (flatten result.inners.above.now)) ≡ rows_above K.cmp (flatten (flatten inners.now)) key.now }
     ensures counted { (count.old ≤ count.new) × (count.new ≤ count.old + 28) }
 {
-    let middles = cut_at(middles, key, count);
-    let leaves = cut_at(middles.at, key, count);
+    let inners = cut_at(inners, key, count);
+    let leaves = cut_at(inners.at, key, count);
     let rows = part(leaves.at, key, count);
     Path {
-        middles,
+        inners,
         leaves,
         rows,
     }
@@ -56,30 +56,30 @@ pub(crate) fn path_to<'a, K: Ord, V>(
 
 /// Returns the middles of a shelf in which these rows replace those of the leaf at the end of the path. The error is out
 /// of memory, or a reference count at its maximum.
-pub(crate) fn middles_with<K: Drop, V: Drop>(
+pub(crate) fn inners_with<K: Drop, V: Drop>(
     alloc: Global,
     path: &Path<'_, K, V>,
     rows: Vec<SharedRow<K, V>>,
     count: &mut Count,
-) -> Result<Vec<Middle<K, V>>, AllocError>
-    requires leads { (middles : List (List (List (K × V)))) × Leads middles path.now.middles.below.now path.now.middles.at.now path.now.middles.above.now path.now.leaves.below.now path.now.leaves.at.now path.now.leaves.above.now }
+) -> Result<Vec<InnerNode<K, V>>, AllocError>
+    requires leads { (inners : List (List (List (K × V)))) × IsPath inners path.now.inners.below.now path.now.inners.at.now path.now.inners.above.now path.now.leaves.below.now path.now.leaves.at.now path.now.leaves.above.now }
     requires most { length rows.items ≤ 33 }
     requires fewest { length path.now.leaves.at.now ≤ length rows.items + 1 }
     requires room { count.old + 866 < 2 ^ 64 }
-    ensures rows { IfOk result (λ middles. flatten (flatten middles.items) ≡ flatten (flatten path.now.middles.below.now) ++ (flatten path.now.leaves.below.now ++ (rows.items ++ (flatten path.now.leaves.above.now ++ flatten (flatten path.now.middles.above.now))))) }
-    ensures middles { IfOk result (λ middles. ArePages least_leaves middles.items) }
-    ensures leaves { IfOk result (λ middles. ArePages least_rows (flatten middles.items)) }
+    ensures rows { IfOk result (λ inners. flatten (flatten inners.items) ≡ flatten (flatten path.now.inners.below.now) ++ (flatten path.now.leaves.below.now ++ (rows.items ++ (flatten path.now.leaves.above.now ++ flatten (flatten path.now.inners.above.now))))) }
+    ensures inners { IfOk result (λ inners. AreNodes least_leaves inners.items) }
+    ensures leaves { IfOk result (λ inners. AreNodes least_rows (flatten inners.items)) }
     ensures counted { (count.old ≤ count.new) × (count.new ≤ count.old + 866) }
 {
     let leaves = &path.leaves;
     let leaves = rebuilt(alloc, LEAST_ROWS, leaves.below, rows, leaves.above, count)?;
-    let middles = &path.middles;
+    let inners = &path.inners;
     rebuilt(
         alloc,
         LEAST_LEAVES,
-        middles.below,
+        inners.below,
         leaves,
-        middles.above,
+        inners.above,
         count,
     )
 }

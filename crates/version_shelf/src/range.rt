@@ -15,22 +15,22 @@ pub struct Range<'a, K: Ord + 'a, V: 'a> {
 
 impl<'a, K: Ord + 'a, V: 'a> Model for Range<'a, K, V> {
     ghost use Rattle.std.specs.Prelude.{List};
-    ghost use Rattle.version_shelf.specs.Pages.{AreWalkPages, walk_rows};
+    ghost use Rattle.version_shelf.specs.Nodes.{AreWalkNodes, walk_rows};
 
     ghost Value = { List (K × V) };
 
-    ghost view = { λ range. let walk = range.walk in walk_rows walk.rest.now walk.leaves.now walk.middles.now walk.last_leaves.now walk.last.now };
+    ghost view = { λ range. let walk = range.walk in walk_rows walk.rest.now walk.leaves.now walk.inners.now walk.last_leaves.now walk.last.now };
 
-    ghost invariant = { λ range. let walk = range.walk in AreWalkPages walk.leaves.now walk.middles.now walk.last_leaves.now };
+    ghost invariant = { λ range. let walk = range.walk in AreWalkNodes walk.leaves.now walk.inners.now walk.last_leaves.now };
 }
 
 impl<'a, K: Ord + 'a, V: 'a> Range<'a, K, V> {
     ghost use Rattle.std.specs.Prelude.{◌≡◌};
-    ghost use Rattle.version_shelf.specs.Pages.{AreWalkPages, walk_rows};
+    ghost use Rattle.version_shelf.specs.Nodes.{AreWalkNodes, walk_rows};
 
     pub(crate) fn of(walk: Walk<'a, K, V>) -> Range<'a, K, V>
-        requires { AreWalkPages walk.leaves.now walk.middles.now walk.last_leaves.now }
-        ensures { result ≡ walk_rows walk.entry.rest.now walk.entry.leaves.now walk.entry.middles.now walk.entry.last_leaves.now walk.entry.last.now }
+        requires { AreWalkNodes walk.leaves.now walk.inners.now walk.last_leaves.now }
+        ensures { result ≡ walk_rows walk.entry.rest.now walk.entry.leaves.now walk.entry.inners.now walk.entry.last_leaves.now walk.entry.last.now }
     {
         Range { walk }
     }

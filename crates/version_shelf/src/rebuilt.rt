@@ -2,10 +2,10 @@
 
 ghost use Rattle.std.specs.Prelude.{◌≡◌, ◌++◌, ◌+◌, ◌-◌, ◌/◌, ◌<◌, ◌≤◌, ◌^◌, OnOk, IfOk, length, take, drop};
 ghost use Rattle.version_shelf.specs.Shelf.{ClonesEqual};
-ghost use Rattle.version_shelf.specs.Pages.{AreFull, ArePages, flatten, in_pages};
+ghost use Rattle.version_shelf.specs.Nodes.{AreFullNodes, AreNodes, flatten, in_nodes};
 
 use crate::count::Count;
-use crate::page::{Page, append, put};
+use crate::node::{Node, append, put};
 use std::alloc::{AllocError, Global};
 
 /// Returns the pages below, one or two pages of these parts, and the pages above. If the result has several pages, each
@@ -14,24 +14,24 @@ use std::alloc::{AllocError, Global};
 pub(crate) fn rebuilt<T: Clone>(
     alloc: Global,
     least: usize,
-    below: &[Page<T>],
+    below: &[Node<T>],
     parts: Vec<T>,
-    above: &[Page<T>],
+    above: &[Node<T>],
     count: &mut Count,
-) -> Result<Vec<Page<T>>, AllocError>
+) -> Result<Vec<Node<T>>, AllocError>
     requires clones { ClonesEqual T.is_clone }
     requires some { 0 < least }
     requires least { least ≤ 32 }
-    requires below { AreFull least below.now }
-    requires above { AreFull least above.now }
+    requires below { AreFullNodes least below.now }
+    requires above { AreFullNodes least above.now }
     requires fits { length below.now + length above.now < 512 }
     requires most { length parts.items ≤ least + least + 1 }
     requires fewest { 0 < length below.now + length above.now → least ≤ length parts.items + 1 }
     requires room { count.old + length below.now + length above.now + 146 < 2 ^ 64 }
-    ensures parts { IfOk result (λ pages. flatten pages.items ≡ flatten below.now ++ (parts.items ++ flatten above.now)) }
-    ensures pages { IfOk result (λ pages. ArePages least pages.items) }
-    ensures fewest { IfOk result (λ pages. length below.now + length above.now ≤ length pages.items) }
-    ensures most { IfOk result (λ pages. length pages.items ≤ length below.now + length above.now + 2) }
+    ensures parts { IfOk result (λ nodes. flatten nodes.items ≡ flatten below.now ++ (parts.items ++ flatten above.now)) }
+    ensures nodes { IfOk result (λ nodes. AreNodes least nodes.items) }
+    ensures fewest { IfOk result (λ nodes. length below.now + length above.now ≤ length nodes.items) }
+    ensures most { IfOk result (λ nodes. length nodes.items ≤ length below.now + length above.now + 2) }
     ensures counted { (count.old ≤ count.new) × (count.new ≤ count.old + length below.now + length above.now + 146) }
 {
     if parts.len() >= least {
@@ -71,45 +71,45 @@ fn put_together<T: Clone>(
 fn joined<T: Clone>(
     alloc: Global,
     least: usize,
-    below: &[Page<T>],
+    below: &[Node<T>],
     parts: Vec<T>,
-    above: &[Page<T>],
+    above: &[Node<T>],
     count: &mut Count,
-) -> Result<Vec<Page<T>>, AllocError>
+) -> Result<Vec<Node<T>>, AllocError>
     requires least { least ≤ 32 }
     requires size { length parts.items ≤ 96 }
     requires fits { length below.now + length above.now < 512 }
     requires room { count.old + length below.now + length above.now + 50 < 2 ^ 64 }
-    ensures pages { IfOk result (λ pages. pages.items ≡ below.now ++ (in_pages least parts.items ++ above.now)) }
+    ensures nodes { IfOk result (λ nodes. nodes.items ≡ below.now ++ (in_nodes least parts.items ++ above.now)) }
     ensures counted { (count.old ≤ count.new) × (count.new ≤ count.old + length below.now + length above.now + 50) }
 {
-    let mut pages = Vec::with_capacity(alloc, below.len() + 2 + above.len())?;
-    append(&mut pages, below, count)?;
-    put_pages(alloc, least, &mut pages, parts, count)?;
-    append(&mut pages, above, count)?;
-    Ok(pages)
+    let mut nodes = Vec::with_capacity(alloc, below.len() + 2 + above.len())?;
+    append(&mut nodes, below, count)?;
+    put_nodes(alloc, least, &mut nodes, parts, count)?;
+    append(&mut nodes, above, count)?;
+    Ok(nodes)
 }
 
 /// Appends these parts as one page, or as two halves if there are more than `2 * least`.
-fn put_pages<T: Drop>(
+fn put_nodes<T: Drop>(
     alloc: Global,
     least: usize,
-    pages: &mut Vec<Page<T>>,
+    nodes: &mut Vec<Node<T>>,
     parts: Vec<T>,
     count: &mut Count,
 ) -> Result<(), AllocError>
     requires least { least ≤ 32 }
     requires size { length parts.items ≤ 96 }
     requires room { count.old + 50 < 2 ^ 64 }
-    ensures pages { OnOk result (pages.new.items ≡ pages.old.items ++ in_pages least parts.items) }
+    ensures nodes { OnOk result (nodes.new.items ≡ nodes.old.items ++ in_nodes least parts.items) }
     ensures counted { (count.old ≤ count.new) × (count.new ≤ count.old + 50) }
 {
     if parts.len() > least + least {
         let (parts, others) = in_halves(parts, count)?;
-        put(pages, Page::of(alloc, parts)?, count)?;
-        put(pages, Page::of(alloc, others)?, count)
+        put(nodes, Node::of(alloc, parts)?, count)?;
+        put(nodes, Node::of(alloc, others)?, count)
     } else {
-        put(pages, Page::of(alloc, parts)?, count)
+        put(nodes, Node::of(alloc, parts)?, count)
     }
 }
 

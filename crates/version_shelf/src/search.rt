@@ -1,11 +1,11 @@
 //! Where in an ordered list of parts does a bound belong?
 
 ghost use Rattle.std.specs.Prelude.{◌≡◌, ◌+◌, ◌-◌, ◌<◌, ◌≤◌, ◌^◌, Bool, ℕ, length, take};
-ghost use Rattle.version_shelf.specs.Pages.{ArePages, Cuts, CutsAt, IsPlace, ends};
+ghost use Rattle.version_shelf.specs.Nodes.{AreNodes, Cuts, CutsAt, IsSplitIndex, last_passes};
 
 use crate::bound::Bound;
 use crate::count::{Count, is_below};
-use crate::page::Page;
+use crate::node::Node;
 use crate::shared_row::SharedRow;
 
 /// A part that can be compared with a bound: a row, or a page, which counts as its last row.
@@ -18,13 +18,13 @@ pub(crate) trait Sought<K: Ord> {
 
     fn is_below<B: Bound<K>>(&self, bound: &B, count: &mut Count) -> bool
         requires { count.old + 1 < 2 ^ 64 }
-        ensures below { result ≡ below (B.place bound.now) self.now }
+        ensures below { result ≡ below (B.position bound.now) self.now }
         ensures counted { (count.old ≤ count.new) × (count.new ≤ count.old + 1) };
 }
 
 impl<K: Ord, V> Sought<K> for SharedRow<K, V> {
     ghost use Rattle.std.specs.Ordering.{is_lt};
-    ghost use Rattle.version_shelf.specs.Pages.{least_rows};
+    ghost use Rattle.version_shelf.specs.Nodes.{least_rows};
 
     ghost below = { λ key row. is_lt (K.cmp row.0 key) };
 
@@ -35,10 +35,10 @@ impl<K: Ord, V> Sought<K> for SharedRow<K, V> {
     }
 }
 
-impl<K: Ord, T: Sought<K>> Sought<K> for Page<T> {
-    ghost use Rattle.version_shelf.specs.Pages.{ends, least_leaves};
+impl<K: Ord, T: Sought<K>> Sought<K> for Node<T> {
+    ghost use Rattle.version_shelf.specs.Nodes.{last_passes, least_leaves};
 
-    ghost below = { λ key parts. ends (T.below key) parts };
+    ghost below = { λ key parts. last_passes (T.below key) parts };
 
     ghost least = { least_leaves };
 
@@ -52,14 +52,14 @@ impl<K: Ord, T: Sought<K>> Sought<K> for Page<T> {
 
 /// Returns the index of the bound, by binary search: the part before it is below the bound, and the part at it isn't. Makes
 /// at most 9 comparisons.
-pub(crate) fn place<K: Ord, T: Sought<K>, B: Bound<K>>(
+pub(crate) fn position<K: Ord, T: Sought<K>, B: Bound<K>>(
     parts: &[T],
     bound: &B,
     count: &mut Count,
 ) -> usize
     requires size { length parts.now < 512 }
     requires room { count.old + 9 < 2 ^ 64 }
-    ensures place { IsPlace (T.below (B.place bound.now)) parts.now result }
+    ensures position { IsSplitIndex (T.below (B.position bound.now)) parts.now result }
     ensures counted { (count.old ≤ count.new) × (count.new ≤ count.old + 9) }
 {
     let mut from = 0;
@@ -75,22 +75,22 @@ pub(crate) fn place<K: Ord, T: Sought<K>, B: Bound<K>>(
     from
 }
 
-/// As [`place`], for a bound whose index most often is 0: the first part is compared before the search. Makes at most 10
+/// As [`position`], for a bound whose index most often is 0: the first part is compared before the search. Makes at most 10
 /// comparisons.
-pub(crate) fn place_near<K: Ord, T: Sought<K>, B: Bound<K>>(
+pub(crate) fn position_near<K: Ord, T: Sought<K>, B: Bound<K>>(
     parts: &[T],
     bound: &B,
     count: &mut Count,
 ) -> usize
     requires size { length parts.now < 512 }
     requires room { count.old + 10 < 2 ^ 64 }
-    ensures place { IsPlace (T.below (B.place bound.now)) parts.now result }
+    ensures position { IsSplitIndex (T.below (B.position bound.now)) parts.now result }
     ensures counted { (count.old ≤ count.new) × (count.new ≤ count.old + 10) }
 {
     if !parts.is_empty() && !parts[0].is_below(bound, count) {
         return 0;
     }
-    place(parts, bound, count)
+    position(parts, bound, count)
 }
 
 /// Returns the parts without the last one.
@@ -107,59 +107,59 @@ fn all_but_last<T>(parts: &[T]) -> &[T]
 /// after that one. If there is no page, all three are empty.
 #[derive(Drop)]
 pub(crate) struct Cut<'a, T> {
-    pub(crate) below: &'a [Page<T>],
+    pub(crate) below: &'a [Node<T>],
     pub(crate) at: &'a [T],
-    pub(crate) above: &'a [Page<T>],
+    pub(crate) above: &'a [Node<T>],
 }
 
 /// Cuts the pages at the first one whose last key isn't below the bound, or at the last page.
 pub(crate) fn cut_at<'a, K: Ord, T: Sought<K>, B: Bound<K>>(
-    pages: &'a [Page<T>],
+    nodes: &'a [Node<T>],
     bound: &B,
     count: &mut Count,
 ) -> Cut<'a, T>
-    requires pages { ArePages T.least pages.now }
-    requires size { length pages.now ≤ 512 }
+    requires nodes { AreNodes T.least nodes.now }
+    requires size { length nodes.now ≤ 512 }
     requires room { count.old + 9 < 2 ^ 64 }
-    ensures cuts { Cuts T.least pages.now result.below.now result.at.now result.above.now }
-    ensures key { CutsAt (T.below (B.place bound.now)) result.below.now result.at.now result.above.now }
+    ensures cuts { Cuts T.least nodes.now result.below.now result.at.now result.above.now }
+    ensures key { CutsAt (T.below (B.position bound.now)) result.below.now result.at.now result.above.now }
     ensures counted { (count.old ≤ count.new) × (count.new ≤ count.old + 9) }
 {
-    cut_at_place(pages, bound, place(all_but_last(pages), bound, count))
+    cut_at_position(nodes, bound, position(all_but_last(nodes), bound, count))
 }
 
 /// As [`cut_at`], for a bound that most often belongs to the first page, which is compared first.
 pub(crate) fn cut_near<'a, K: Ord, T: Sought<K>, B: Bound<K>>(
-    pages: &'a [Page<T>],
+    nodes: &'a [Node<T>],
     bound: &B,
     count: &mut Count,
 ) -> Cut<'a, T>
-    requires pages { ArePages T.least pages.now }
-    requires size { length pages.now ≤ 512 }
+    requires nodes { AreNodes T.least nodes.now }
+    requires size { length nodes.now ≤ 512 }
     requires room { count.old + 10 < 2 ^ 64 }
-    ensures cuts { Cuts T.least pages.now result.below.now result.at.now result.above.now }
-    ensures key { CutsAt (T.below (B.place bound.now)) result.below.now result.at.now result.above.now }
+    ensures cuts { Cuts T.least nodes.now result.below.now result.at.now result.above.now }
+    ensures key { CutsAt (T.below (B.position bound.now)) result.below.now result.at.now result.above.now }
     ensures counted { (count.old ≤ count.new) × (count.new ≤ count.old + 10) }
 {
-    cut_at_place(pages, bound, place_near(all_but_last(pages), bound, count))
+    cut_at_position(nodes, bound, position_near(all_but_last(nodes), bound, count))
 }
 
-fn cut_at_place<'a, K: Ord, T: Sought<K>, B: Bound<K>>(
-    pages: &'a [Page<T>],
+fn cut_at_position<'a, K: Ord, T: Sought<K>, B: Bound<K>>(
+    nodes: &'a [Node<T>],
     bound: &B,
-    place: usize,
+    position: usize,
 ) -> Cut<'a, T>
-    requires pages { ArePages T.least pages.now }
-    requires place { IsPlace (ends (T.below (B.place bound.now))) (take (length pages.now - 1) pages.now) place }
-    ensures cuts { Cuts T.least pages.now result.below.now result.at.now result.above.now }
-    ensures key { CutsAt (T.below (B.place bound.now)) result.below.now result.at.now result.above.now }
+    requires nodes { AreNodes T.least nodes.now }
+    requires position { IsSplitIndex (last_passes (T.below (B.position bound.now))) (take (length nodes.now - 1) nodes.now) position }
+    ensures cuts { Cuts T.least nodes.now result.below.now result.at.now result.above.now }
+    ensures key { CutsAt (T.below (B.position bound.now)) result.below.now result.at.now result.above.now }
 {
     let _ = bound;
-    let (below, from) = pages.split_at(place);
+    let (below, from) = nodes.split_at(position);
     match from.split_first() {
-        Some((page, above)) => Cut {
+        Some((node, above)) => Cut {
             below,
-            at: page.parts(),
+            at: node.parts(),
             above,
         },
         None => Cut {

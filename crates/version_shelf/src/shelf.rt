@@ -3,13 +3,13 @@
 ghost use Rattle.std.specs.Prelude.{◌≡◌, ◌↔◌, ◌+◌, ◌<◌, ◌≤◌, ◌^◌, [], length, IsTrue, IfOk, Some, None, if◌then◌else◌, is_some};
 ghost use Rattle.std.specs.Option.{option_copied};
 ghost use Rattle.version_shelf.specs.Shelf.{ClonesEqual, HasRoom, most_rows, IsInOrder, get, count_of, rows_between, rows_from, with_key, without_key, ChangesAt};
-ghost use Rattle.version_shelf.specs.Pages.{ArePages, flatten, least_leaves, least_rows, most_middles};
+ghost use Rattle.version_shelf.specs.Nodes.{AreNodes, flatten, least_leaves, least_rows, most_inners};
 
 use crate::bound::Bound;
 use crate::count::Count;
 use crate::leaf::{rows_with, rows_without};
-use crate::page::{Middle, Page};
-use crate::path::{middles_with, path_to};
+use crate::node::{InnerNode, Node};
+use crate::path::{inners_with, path_to};
 use crate::range::Range;
 use crate::shared_row::SharedRow;
 use crate::walk::{walk_all, walk_between, walk_from};
@@ -26,18 +26,18 @@ pub struct Shelf<K: Ord, V> {
     alloc: Global,
     len: usize,
     // The root; `None` if no row was ever added.
-    middles: Option<Page<Middle<K, V>>>,
+    inners: Option<Node<InnerNode<K, V>>>,
 }
 
 impl<K: Ord, V> Model for Shelf<K, V> {
     ghost use Rattle.std.specs.Prelude.{List};
-    ghost use Rattle.version_shelf.specs.Pages.{IsShelf, flatten, middles_of};
+    ghost use Rattle.version_shelf.specs.Nodes.{IsShelf, flatten, inners_of};
 
     ghost Value = { List (K × V) };
 
-    ghost view = { λ shelf. flatten (flatten (middles_of shelf.middles)) };
+    ghost view = { λ shelf. flatten (flatten (inners_of shelf.inners)) };
 
-    ghost invariant = { λ shelf. IsShelf K.cmp (middles_of shelf.middles) shelf.len };
+    ghost invariant = { λ shelf. IsShelf K.cmp (inners_of shelf.inners) shelf.len };
 }
 
 impl<K: Ord + Clone, V: Clone> Shelf<K, V> {
@@ -48,7 +48,7 @@ impl<K: Ord + Clone, V: Clone> Shelf<K, V> {
         Shelf {
             alloc,
             len: 0,
-            middles: None,
+            inners: None,
         }
     }
 
@@ -84,17 +84,17 @@ impl<K: Ord + Clone, V: Clone> Shelf<K, V> {
         ensures order { IsInOrder K.cmp self.now }
         ensures counted { (count.old ≤ count.new) × (count.new ≤ count.old + 32) }
     {
-        path_to(self.middles(), key, count).rows.value
+        path_to(self.inners(), key, count).rows.value
     }
 
     /// Returns the rows with `lo <= key < hi`, in ascending order of keys; none if `hi <= lo`. The bounds need not be keys
     /// of the shelf. Allocates no memory.
     pub fn range<L: Bound<K>, H: Bound<K>>(&self, lo: &L, hi: &H) -> Range<'_, K, V>
-        ensures rows { result ≡ rows_between K.cmp self.now (L.place lo.now) (H.place hi.now) }
+        ensures rows { result ≡ rows_between K.cmp self.now (L.position lo.now) (H.position hi.now) }
         ensures order { IsInOrder K.cmp result }
         ensures most { length result ≤ most_rows }
     {
-        Range::of(walk_between(self.middles(), lo, hi, &mut Count::new()))
+        Range::of(walk_between(self.inners(), lo, hi, &mut Count::new()))
     }
 
     /// Returns the rows with `lo <= key`, in ascending order of keys. The bound need not be a key of the shelf. Allocates no
@@ -103,7 +103,7 @@ impl<K: Ord + Clone, V: Clone> Shelf<K, V> {
         ensures rows { result ≡ rows_from K.cmp self.now lo.now }
         ensures order { IsInOrder K.cmp self.now }
     {
-        Range::of(walk_from(self.middles(), lo, &mut Count::new()))
+        Range::of(walk_from(self.inners(), lo, &mut Count::new()))
     }
 
     /// Returns all rows, in ascending order of keys. Allocates no memory.
@@ -111,7 +111,7 @@ impl<K: Ord + Clone, V: Clone> Shelf<K, V> {
         ensures rows { result ≡ self.now }
         ensures order { IsInOrder K.cmp self.now }
     {
-        Range::of(walk_all(self.middles()))
+        Range::of(walk_all(self.inners()))
     }
 
     /// Returns the shelf with this row, which replaces the row that has the key, if there is one. The caller ensures that
@@ -147,12 +147,12 @@ impl<K: Ord + Clone, V: Clone> Shelf<K, V> {
         ensures order { IfOk result (IsInOrder K.cmp) }
         ensures counted { (count.old ≤ count.new) × (count.new ≤ count.old + 1024) }
     {
-        let path = path_to(self.middles(), &key, &mut Count::new());
+        let path = path_to(self.inners(), &key, &mut Count::new());
         let len = len_with(self.len, path.rows.value);
         let row = SharedRow::new(self.alloc, key, value)?;
         let rows = rows_with(self.alloc, path.rows.below, row, path.rows.above, count)?;
-        let middles = middles_with(self.alloc, &path, rows, count)?;
-        Shelf::of(self.alloc, middles, len)
+        let inners = inners_with(self.alloc, &path, rows, count)?;
+        Shelf::of(self.alloc, inners, len)
     }
 
     /// Returns the shelf without the row that has the key; with the same rows if there is none. The caller ensures that
@@ -181,40 +181,40 @@ impl<K: Ord + Clone, V: Clone> Shelf<K, V> {
         ensures order { IfOk result (IsInOrder K.cmp) }
         ensures counted { (count.old ≤ count.new) × (count.new ≤ count.old + 1024) }
     {
-        let path = path_to(self.middles(), key, &mut Count::new());
+        let path = path_to(self.inners(), key, &mut Count::new());
         if path.rows.value.is_none() {
             return self.clone();
         }
         let rows = rows_without(self.alloc, path.rows.below, path.rows.above, count)?;
-        let middles = middles_with(self.alloc, &path, rows, count)?;
-        Shelf::of(self.alloc, middles, self.len - 1)
+        let inners = inners_with(self.alloc, &path, rows, count)?;
+        Shelf::of(self.alloc, inners, self.len - 1)
     }
 
-    fn of(alloc: Global, middles: Vec<Middle<K, V>>, len: usize) -> Result<Shelf<K, V>, AllocError>
-        requires order { IsInOrder K.cmp (flatten (flatten middles.items)) }
-        requires rows { len ≡ length (flatten (flatten middles.items)) }
+    fn of(alloc: Global, inners: Vec<InnerNode<K, V>>, len: usize) -> Result<Shelf<K, V>, AllocError>
+        requires order { IsInOrder K.cmp (flatten (flatten inners.items)) }
+        requires rows { len ≡ length (flatten (flatten inners.items)) }
         requires most { len ≤ most_rows }
-        requires leaves { ArePages least_rows (flatten middles.items) }
-        requires middles { ArePages least_leaves middles.items }
-        ensures { IfOk result (λ new. new ≡ flatten (flatten middles.items)) }
+        requires leaves { AreNodes least_rows (flatten inners.items) }
+        requires inners { AreNodes least_leaves inners.items }
+        ensures { IfOk result (λ new. new ≡ flatten (flatten inners.items)) }
     {
         Ok(Shelf {
             alloc,
             len,
-            middles: Some(Page::of(alloc, middles)?),
+            inners: Some(Node::of(alloc, inners)?),
         })
     }
 
-    fn middles(&self) -> &[Middle<K, V>]
+    fn inners(&self) -> &[InnerNode<K, V>]
         ensures rows { flatten (flatten result.now) ≡ self.now }
         ensures order { IsInOrder K.cmp self.now }
         ensures most { length self.now ≤ most_rows }
-        ensures middles { ArePages least_leaves result.now }
-        ensures leaves { ArePages least_rows (flatten result.now) }
-        ensures size { length result.now ≤ most_middles }
+        ensures inners { AreNodes least_leaves result.now }
+        ensures leaves { AreNodes least_rows (flatten result.now) }
+        ensures size { length result.now ≤ most_inners }
     {
-        match &self.middles {
-            Some(middles) => middles.parts(),
+        match &self.inners {
+            Some(inners) => inners.parts(),
             None => &[],
         }
     }
@@ -237,14 +237,14 @@ impl<K: Ord + Clone, V: Clone> Clone for Shelf<K, V> {
     ghost is_clone = { λ original copy. copy ≡ original };
 
     fn clone(&self) -> Result<Shelf<K, V>, AllocError> {
-        let middles = match &self.middles {
-            Some(middles) => Some(middles.clone()?),
+        let inners = match &self.inners {
+            Some(inners) => Some(inners.clone()?),
             None => None,
         };
         Ok(Shelf {
             alloc: self.alloc,
             len: self.len,
-            middles,
+            inners,
         })
     }
 }

@@ -4,7 +4,7 @@ ghost use Rattle.std.specs.Prelude.{Some, refl, nat_eq};
 ghost use Rattle.std.specs.Cmp.{on_equiv, on_total, nat_cmp_total, nat_eq_equiv, partial_equiv_from_equiv, partial_order_from_agreeing_total, unsigned_ties};
 ghost use Rattle.std.specs.Ordering.{nat_cmp, on};
 
-use crate::scripts::{Told, plays};
+use crate::scripts::{AsText, plays};
 use std::alloc::Global;
 use std::cmp::Ordering;
 use std::test::Fail;
@@ -55,7 +55,7 @@ impl Ord for Labelled {
     }
 }
 
-impl Told for Labelled {
+impl AsText for Labelled {
     fn of_text(_alloc: Global, text: &str) -> Result<Labelled, Fail> {
         let (rank, label) = text.split_once('-').unwrap_or((text, ""));
         Ok(Labelled {
@@ -86,6 +86,6 @@ const LABELS: &str = "\
 ";
 
 #[test]
-fn the_last_key_and_value_stand(rt: HostRuntime) -> Result<(), Fail> {
+fn the_last_key_and_value_remain(rt: HostRuntime) -> Result<(), Fail> {
     plays(&rt, rt.alloc(), Ranks::new(rt.alloc()), LABELS)
 }

@@ -5,7 +5,7 @@ ghost use Rattle.std.specs.Cmp.{partial_equiv_from_equiv};
 ghost use Rattle.std.specs.Cmp.Lexicographic.{nat_list_cmp_total, nat_list_eq_equiv, slice_cmp, texts_po, texts_ties};
 ghost use Rattle.std.specs.Ordering.{nat_cmp};
 
-use crate::scripts::Told;
+use crate::scripts::AsText;
 use std::alloc::{AllocError, Global};
 use std::cmp::Ordering;
 use std::marker::Model;
@@ -140,7 +140,7 @@ impl Clone for SharedNumber {
     }
 }
 
-impl Told for u128 {
+impl AsText for u128 {
     fn of_text(_alloc: Global, text: &str) -> Result<u128, Fail> {
         Ok(u128::from(text.parse::<u64>()?))
     }
@@ -150,7 +150,7 @@ impl Told for u128 {
     }
 }
 
-impl Told for IdText {
+impl AsText for IdText {
     fn of_text(alloc: Global, text: &str) -> Result<IdText, Fail> {
         Ok(IdText::of(alloc, text)?)
     }
@@ -160,7 +160,7 @@ impl Told for IdText {
     }
 }
 
-impl<T: Told> Told for Part<T> {
+impl<T: AsText> AsText for Part<T> {
     fn of_text(alloc: Global, text: &str) -> Result<Part<T>, Fail> {
         match text {
             "START" => Ok(Part::Start),
@@ -178,7 +178,7 @@ impl<T: Told> Told for Part<T> {
     }
 }
 
-impl Told for SharedNumber {
+impl AsText for SharedNumber {
     fn of_text(alloc: Global, text: &str) -> Result<SharedNumber, Fail> {
         Ok(SharedNumber::of(alloc, text.parse::<u64>()?)?)
     }
@@ -189,7 +189,7 @@ impl Told for SharedNumber {
 }
 
 /// Parses and prints the parts of a key, with slashes between them.
-impl Told for (IdText, Part<IdText>, Part<u128>) {
+impl AsText for (IdText, Part<IdText>, Part<u128>) {
     fn of_text(alloc: Global, text: &str) -> Result<(IdText, Part<IdText>, Part<u128>), Fail> {
         let (parent, member) = text.split_once('/').unwrap_or((text, ""));
         let (identity, number) = member.split_once('/').unwrap_or((member, ""));

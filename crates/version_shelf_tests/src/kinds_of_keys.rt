@@ -20,7 +20,7 @@ const BOUNDS: &str = "\
 ";
 
 #[test]
-fn start_and_end_stand_around_every_id(rt: HostRuntime) -> Result<(), Fail> {
+fn start_and_end_are_around_every_id(rt: HostRuntime) -> Result<(), Fail> {
     plays(&rt, rt.alloc(), Ids::new(rt.alloc()), BOUNDS)
 }
 
@@ -41,7 +41,7 @@ const OLD_SHELVES: &str = "\
 ";
 
 #[test]
-fn the_old_shelf_stays(rt: HostRuntime) -> Result<(), Fail> {
+fn the_old_shelf_is_unchanged(rt: HostRuntime) -> Result<(), Fail> {
     plays(&rt, rt.alloc(), Ids::new(rt.alloc()), OLD_SHELVES)
 }
 

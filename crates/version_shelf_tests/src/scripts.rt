@@ -10,13 +10,13 @@ use std::test::Fail;
 use version_shelf::Shelf;
 
 /// A key or a value that is written as a text without spaces.
-pub trait Told: Sized {
+pub trait AsText: Sized {
     fn of_text(alloc: Global, text: &str) -> Result<Self, Fail>;
 
     fn text(&self, alloc: Global) -> Result<String, Fail>;
 }
 
-impl Told for u64 {
+impl AsText for u64 {
     fn of_text(_alloc: Global, text: &str) -> Result<u64, Fail> {
         Ok(text.parse::<u64>()?)
     }
@@ -27,7 +27,7 @@ impl Told for u64 {
 }
 
 /// The shelf with a row.
-fn with_row<K: Ord + Clone + Told + Drop, V: Clone + Told + Drop>(
+fn with_row<K: Ord + Clone + AsText + Drop, V: Clone + AsText + Drop>(
     rt: &impl Abort,
     alloc: Global,
     shelf: &Shelf<K, V>,
@@ -44,7 +44,7 @@ fn with_row<K: Ord + Clone + Told + Drop, V: Clone + Told + Drop>(
 }
 
 /// The shelf without a key.
-fn without_key<K: Ord + Clone + Told + Drop, V: Clone + Drop>(
+fn without_key<K: Ord + Clone + AsText + Drop, V: Clone + Drop>(
     alloc: Global,
     shelf: &Shelf<K, V>,
     key: &str,
@@ -57,16 +57,16 @@ fn without_key<K: Ord + Clone + Told + Drop, V: Clone + Drop>(
 }
 
 /// The shelf that this step makes from a shelf.
-fn made<K: Ord + Clone + Told + Drop, V: Clone + Told + Drop>(
+fn made<K: Ord + Clone + AsText + Drop, V: Clone + AsText + Drop>(
     rt: &impl Abort,
     alloc: Global,
     shelf: &Shelf<K, V>,
-    told: &str,
+    as_text: &str,
 ) -> Result<Shelf<K, V>, Fail>
     requires keys { ClonesEqual K.is_clone }
     requires values { ClonesEqual V.is_clone }
 {
-    match told.split_once(' ').unwrap_or((told, "")) {
+    match as_text.split_once(' ').unwrap_or((as_text, "")) {
         ("with", row) => with_row(rt, alloc, shelf, row),
         ("without", key) => without_key(alloc, shelf, key),
         ("clone", _) => Ok(shelf.clone()?),
@@ -74,14 +74,14 @@ fn made<K: Ord + Clone + Told + Drop, V: Clone + Told + Drop>(
     }
 }
 
-fn row_text<K: Told, V: Told>(alloc: Global, key: &K, value: &V) -> Result<String, Fail> {
+fn row_text<K: AsText, V: AsText>(alloc: Global, key: &K, value: &V) -> Result<String, Fail> {
     let key = key.text(alloc)?;
     let value = value.text(alloc)?;
     Ok(format!(in alloc; " {key} {value}")?)
 }
 
 /// The number of rows between two bounds, the number of all rows, and each of the former.
-fn rows_text<K: Ord + Clone + Told, V: Clone + Told>(
+fn rows_text<K: Ord + Clone + AsText, V: Clone + AsText>(
     alloc: Global,
     shelf: &Shelf<K, V>,
     lo: &K,
@@ -95,7 +95,7 @@ fn rows_text<K: Ord + Clone + Told, V: Clone + Told>(
     Ok(text)
 }
 
-fn range_text<K: Ord + Clone + Told + Drop, V: Clone + Told>(
+fn range_text<K: Ord + Clone + AsText + Drop, V: Clone + AsText>(
     alloc: Global,
     shelf: &Shelf<K, V>,
     bounds: &str,
@@ -107,7 +107,7 @@ fn range_text<K: Ord + Clone + Told + Drop, V: Clone + Told>(
 }
 
 /// The value at a key, or `none`.
-fn value_text<K: Ord + Clone + Told + Drop, V: Clone + Told>(
+fn value_text<K: Ord + Clone + AsText + Drop, V: Clone + AsText>(
     alloc: Global,
     shelf: &Shelf<K, V>,
     key: &str,
@@ -119,7 +119,7 @@ fn value_text<K: Ord + Clone + Told + Drop, V: Clone + Told>(
     }
 }
 
-fn answer<K: Ord + Clone + Told + Drop, V: Clone + Told>(
+fn answer<K: Ord + Clone + AsText + Drop, V: Clone + AsText>(
     alloc: Global,
     shelf: &Shelf<K, V>,
     question: &str,
@@ -131,7 +131,7 @@ fn answer<K: Ord + Clone + Told + Drop, V: Clone + Told>(
     }
 }
 
-fn plays_line<K: Ord + Clone + Told + Drop, V: Clone + Told + Drop>(
+fn plays_line<K: Ord + Clone + AsText + Drop, V: Clone + AsText + Drop>(
     rt: &impl Abort,
     alloc: Global,
     shelves: &mut Vec<Shelf<K, V>>,
@@ -140,23 +140,23 @@ fn plays_line<K: Ord + Clone + Told + Drop, V: Clone + Told + Drop>(
     requires keys { ClonesEqual K.is_clone }
     requires values { ClonesEqual V.is_clone }
 {
-    let (number, told) = line.split_once(' ').unwrap_or((line, ""));
+    let (number, as_text) = line.split_once(' ').unwrap_or((line, ""));
     let Some(shelf) = shelves.get(number.parse::<usize>()?) else {
         return Err(Fail::from("no such shelf"));
     };
-    if let Some((question, want)) = told.split_once(" => ") {
+    if let Some((question, expected)) = as_text.split_once(" => ") {
         let got = answer(alloc, shelf, question)?;
-        is_text(rt, got.as_str(), want, line);
+        is_text(rt, got.as_str(), expected, line);
         return Ok(());
     }
-    let next = made(rt, alloc, shelf, told)?;
+    let next = made(rt, alloc, shelf, as_text)?;
     Ok(shelves.push(next)?)
 }
 
 /// Plays a script over a first shelf, which has number 0. Each line begins with the number of a shelf. Lines with `with` and a row,
 /// `without` and a key, or `clone` make the shelf of the next number from that one. Other lines read the `range` between two bounds,
 /// or `get` the value at a key, and compare it with the text after ` => `.
-pub fn plays<K: Ord + Clone + Told + Drop, V: Clone + Told + Drop>(
+pub fn plays<K: Ord + Clone + AsText + Drop, V: Clone + AsText + Drop>(
     rt: &impl Abort,
     alloc: Global,
     first: Shelf<K, V>,

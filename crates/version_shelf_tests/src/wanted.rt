@@ -16,11 +16,11 @@ pub fn holds_at(rt: &impl Abort, it: bool, at: &str, number: u64) {
 }
 
 /// Asserts that the two numbers are equal.
-pub fn is_number(rt: &impl Abort, got: u64, want: u64, at: &str) {
-    assert_eq!(rt; got, want, "{at}");
+pub fn is_number(rt: &impl Abort, got: u64, expected: u64, at: &str) {
+    assert_eq!(rt; got, expected, "{at}");
 }
 
 /// Asserts that the two texts are equal.
-pub fn is_text(rt: &impl Abort, got: &str, want: &str, at: &str) {
-    assert_eq!(rt; got, want, "{at}");
+pub fn is_text(rt: &impl Abort, got: &str, expected: &str, at: &str) {
+    assert_eq!(rt; got, expected, "{at}");
 }

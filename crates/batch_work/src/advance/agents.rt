@@ -5,7 +5,7 @@ ghost use Rattle.entry_book.specs.Order.{first};
 ghost use Rattle.entry_book.specs.Writes.{wrote_agent};
 ghost use Rattle.batch_work.specs.Steps.{agent_gone, for_agent_next};
 
-use crate::phase::{Asked, Next, Phase};
+use crate::phase::{WalkFor, Next, Phase};
 use crate::rows::first_of;
 use entry_book::{Agent, OpRefusal, OpReply, both};
 use std::alloc::{AllocError, Global};
@@ -13,12 +13,12 @@ use version_book::Changes;
 
 /// The next read is that of the server's children. The operation is refused if there is no agent. The error is a reference
 /// count at its maximum.
-pub(crate) fn asked_next(asked: Asked, agents: &[Agent]) -> Result<Next, AllocError>
-    ensures { IfOk result (λ next. next ≡ for_agent_next (first agents.now) (λ a. Next.Goes (Phase.Server asked a))) }
+pub(crate) fn asked_next(asked: WalkFor, agents: &[Agent]) -> Result<Next, AllocError>
+    ensures { IfOk result (λ next. next ≡ for_agent_next (first agents.now) (λ a. Next.Continues (Phase.Server asked a))) }
 {
     match agents {
         [] => Ok(Next::Refused(OpRefusal::NoAgent)),
-        [agent, ..] => Ok(Next::Goes(Phase::Server(asked, agent.clone()?))),
+        [agent, ..] => Ok(Next::Continues(Phase::Server(asked, agent.clone()?))),
     }
 }
 

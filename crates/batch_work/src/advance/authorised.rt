@@ -3,11 +3,11 @@
 ghost use Rattle.std.specs.Prelude.{◌≡◌, ◌<◌, ◌+◌, ◌^◌, ◌++◌, [], true, false, filter, slice_get, IfErr, IfOk, IfSome};
 ghost use Rattle.entry_book.specs.Authorised.{holds};
 ghost use Rattle.batch_work.specs.Steps.{next_trusted, trusted_next, walk_next};
-ghost use Rattle.batch_work.specs.WalkStates.{first_walk, is_over, walked};
+ghost use Rattle.batch_work.specs.WalkStates.{first_walk, is_walk_over, walked};
 
 use crate::advance::answered;
 use crate::domains::domains_of;
-use crate::phase::{Asked, Next, Phase};
+use crate::phase::{WalkFor, Next, Phase};
 use crate::rows::held;
 use crate::walk::Walk;
 use entry_book::{Agent, Bundle, Entry, OpReply, Sequence, Shared};
@@ -19,38 +19,38 @@ use std::alloc::{AllocError, Global};
 pub(crate) fn held_next(
     alloc: Global,
     server: &SpiffeId,
-    asked: Asked,
+    asked: WalkFor,
     agent: &Agent,
     entries: &[Entry],
 ) -> Result<Next, AllocError>
-    ensures { IfOk result (λ next. next ≡ Next.Goes (Phase.Own asked
+    ensures { IfOk result (λ next. next ≡ Next.Continues (Phase.OfAgent asked
         (walked (filter (holds server.now agent.now) entries.now) (first_walk agent.now)))) }
 {
     let mut walk = Walk::new(alloc, agent.clone()?)?;
-    walk.goes_on(alloc, held(alloc, server, agent, entries)?)?;
-    Ok(Next::Goes(Phase::Own(asked, walk)))
+    walk.continues(alloc, held(alloc, server, agent, entries)?)?;
+    Ok(Next::Continues(Phase::OfAgent(asked, walk)))
 }
 
 /// Returns what follows from the read of the agent's own children. If memory runs out, the error is the phase, unchanged.
 pub(crate) fn own_next(
     alloc: Global,
-    asked: Asked,
+    asked: WalkFor,
     walk: Walk,
     entries: Vec<Entry>,
 ) -> Result<Next, Phase>
     ensures next { IfOk result (λ next. next ≡ walk_next asked (walked entries.items walk)) }
-    ensures back { IfErr result (λ back. back ≡ Phase.Own asked walk) }
+    ensures back { IfErr result (λ back. back ≡ Phase.OfAgent asked walk) }
 {
     match walk_next(alloc, asked, walk, entries) {
         Ok(next) => Ok(next),
-        Err(walk) => Err(Phase::Own(asked, walk)),
+        Err(walk) => Err(Phase::OfAgent(asked, walk)),
     }
 }
 
 /// Returns what follows from the read of the children of an identity. If memory runs out, the error is the phase, unchanged.
 pub(crate) fn identity_next(
     alloc: Global,
-    asked: Asked,
+    asked: WalkFor,
     walk: Walk,
     identity: Shared<SpiffeId>,
     entries: Vec<Entry>,
@@ -66,13 +66,13 @@ pub(crate) fn identity_next(
 
 /// Adds the entries of a read to the walk. The next read is that of the children of the least pending identity; if none is
 /// pending, the walk is over. If memory runs out, the error is the walk, unchanged.
-fn walk_next(alloc: Global, asked: Asked, walk: Walk, entries: Vec<Entry>) -> Result<Next, Walk>
+fn walk_next(alloc: Global, asked: WalkFor, walk: Walk, entries: Vec<Entry>) -> Result<Next, Walk>
     ensures next { IfOk result (λ next. next ≡ walk_next asked (walked entries.items walk)) }
     ensures back { IfErr result (λ back. back ≡ walk) }
 {
     match asked {
-        Asked::Entries => entries_next(alloc, walk, entries),
-        Asked::Bundles => {
+        WalkFor::Entries => entries_next(alloc, walk, entries),
+        WalkFor::Bundles => {
             if !walk.ends_with(entries.as_slice()) {
                 return bundles_walk(alloc, walk, entries);
             }
@@ -87,15 +87,15 @@ fn walk_next(alloc: Global, asked: Asked, walk: Walk, entries: Vec<Entry>) -> Re
 /// Continues the walk of `authorised`, or ends the operation with the entries found. If memory runs out, the error is the walk,
 /// unchanged.
 fn entries_next(alloc: Global, walk: Walk, entries: Vec<Entry>) -> Result<Next, Walk>
-    ensures next { IfOk result (λ next. next ≡ walk_next Asked.Entries (walked entries.items walk)) }
+    ensures next { IfOk result (λ next. next ≡ walk_next WalkFor.Entries (walked entries.items walk)) }
     ensures back { IfErr result (λ back. back ≡ walk) }
 {
     let mut walk = walk;
-    let Ok(()) = walk.goes_on(alloc, entries) else {
+    let Ok(()) = walk.continues(alloc, entries) else {
         return Err(walk);
     };
     match walk.take_least() {
-        Some(least) => Ok(Next::Goes(Phase::Identity(Asked::Entries, walk, least))),
+        Some(least) => Ok(Next::Continues(Phase::Identity(WalkFor::Entries, walk, least))),
         None => {
             let found = Sequence::of(walk.into_found());
             Ok(answered(alloc, OpReply::Entries(found)))
@@ -105,29 +105,29 @@ fn entries_next(alloc: Global, walk: Walk, entries: Vec<Entry>) -> Result<Next, 
 
 /// Continues the walk of `trust`, which these entries don't complete. If memory runs out, the error is the walk, unchanged.
 fn bundles_walk(alloc: Global, walk: Walk, entries: Vec<Entry>) -> Result<Next, Walk>
-    requires goes_on { is_over (walked entries.items walk) ≡ false }
-    ensures next { IfOk result (λ next. next ≡ walk_next Asked.Bundles (walked entries.items walk)) }
+    requires continues { is_walk_over (walked entries.items walk) ≡ false }
+    ensures next { IfOk result (λ next. next ≡ walk_next WalkFor.Bundles (walked entries.items walk)) }
     ensures back { IfErr result (λ back. back ≡ walk) }
 {
     let mut walk = walk;
-    let Ok(()) = walk.goes_on(alloc, entries) else {
+    let Ok(()) = walk.continues(alloc, entries) else {
         return Err(walk);
     };
     let Some(least) = walk.take_least() else {
         unreachable!();
     };
-    Ok(Next::Goes(Phase::Identity(Asked::Bundles, walk, least)))
+    Ok(Next::Continues(Phase::Identity(WalkFor::Bundles, walk, least)))
 }
 
 /// Completes the walk of `trust` with these entries. The next read is the bundle of the first domain that an entry found names;
 /// if there is none, the operation ends. The given walk is unchanged, so that the step can be repeated. The error is out of
 /// memory.
 fn bundles_end(alloc: Global, walk: &Walk, entries: Vec<Entry>) -> Result<Next, AllocError>
-    requires over { is_over (walked entries.items walk.now) ≡ true }
-    ensures { IfOk result (λ next. next ≡ walk_next Asked.Bundles (walked entries.items walk.now)) }
+    requires over { is_walk_over (walked entries.items walk.now) ≡ true }
+    ensures { IfOk result (λ next. next ≡ walk_next WalkFor.Bundles (walked entries.items walk.now)) }
 {
     let mut last = walk.clone()?;
-    last.goes_on(alloc, entries)?;
+    last.continues(alloc, entries)?;
     let domains = Sequence::of(domains_of(alloc, last.into_found().as_slice())?);
     let next = domain_at(&domains, 0)?;
     Ok(trusted_next(alloc, next, domains, 0, Sequence::empty(alloc)))
@@ -176,7 +176,7 @@ fn trusted_next(
     ensures { result ≡ next_trusted next domains index found }
 {
     match next {
-        Some(domain) => Next::Goes(Phase::Trusted(domain, domains, index + 1, found)),
+        Some(domain) => Next::Continues(Phase::Trusted(domain, domains, index + 1, found)),
         None => answered(alloc, OpReply::Bundles(found)),
     }
 }

@@ -58,7 +58,7 @@ pub(crate) fn drop_next(
 {
     match bundles {
         [] => Ok(Next::Refused(OpRefusal::NoBundle(domain.clone()?))),
-        [bundle, ..] => Ok(Next::Goes(Phase::Users(bundle.clone()?, mode))),
+        [bundle, ..] => Ok(Next::Continues(Phase::Users(bundle.clone()?, mode))),
     }
 }
 

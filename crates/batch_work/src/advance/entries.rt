@@ -5,7 +5,7 @@ ghost use Rattle.entry_book.specs.Order.{Within, first};
 ghost use Rattle.entry_book.specs.Ops.{put, removed};
 ghost use Rattle.entry_book.specs.Pages.{listed, next_of};
 ghost use Rattle.entry_book.specs.Rows.{Entry as EntryRow, entry_key};
-ghost use Rattle.batch_work.specs.Steps.{beside_next, bundle_next, bundles_next, create_next, delete_next, similar_in, update_next};
+ghost use Rattle.batch_work.specs.Steps.{unless_similar_next, bundle_next, bundles_next, create_next, delete_next, similar_in, update_next};
 
 use crate::phase::{Next, Phase};
 use crate::rows::similar_in;
@@ -21,7 +21,7 @@ pub(crate) fn create_next(new: &Shared<NewEntry>, entries: &[Entry]) -> Result<N
     ensures { IfOk result (λ next. next ≡ create_next (first entries.now) new.now) }
 {
     match entries {
-        [] => Ok(Next::Goes(Phase::Group(None, Entry::at_revision(new, 0)?))),
+        [] => Ok(Next::Continues(Phase::Group(None, Entry::at_revision(new, 0)?))),
         [_, ..] => Ok(Next::Refused(OpRefusal::IdTaken)),
     }
 }
@@ -43,7 +43,7 @@ pub(crate) fn update_next(
                 return Ok(Next::Refused(OpRefusal::StaleRevision));
             }
             let entry = Entry::at_revision(new, old.revision() + 1)?;
-            Ok(Next::Goes(Phase::Group(Some(old.clone()?), entry)))
+            Ok(Next::Continues(Phase::Group(Some(old.clone()?), entry)))
         }
     }
 }
@@ -72,13 +72,13 @@ pub(crate) fn delete_next(
 
 /// The next read is the bundle of the entry's first domain; if there is none, the operation ends with the entry put. It is
 /// refused if an entry of the group is similar. The error is out of memory.
-pub(crate) fn beside_next(
+pub(crate) fn unless_similar_next(
     alloc: Global,
     old: &Option<Entry>,
     entry: &Entry,
     group: &[Entry],
 ) -> Result<Next, AllocError>
-    ensures { IfOk result (λ next. next ≡ beside_next (similar_in entry.now group.now) old.now entry.now) }
+    ensures { IfOk result (λ next. next ≡ unless_similar_next (similar_in entry.now group.now) old.now entry.now) }
 {
     match similar_in(group, entry) {
         Some(other) => Ok(Next::Refused(OpRefusal::Similar(*other.id()))),
@@ -118,7 +118,7 @@ fn bundles_next(
         Some(domain) => {
             let rows = both(old.clone(), entry.clone());
             let ((old, entry), domain) = both(rows, domain.clone())?;
-            Ok(Next::Goes(Phase::Bundle(old, entry, domain, index + 1)))
+            Ok(Next::Continues(Phase::Bundle(old, entry, domain, index + 1)))
         }
         None => {
             let changes = entry_put(alloc, old, entry);

@@ -1,7 +1,7 @@
 //! SPIFFE IDs, trust domains and UUIDs.
 
 ghost use Rattle.serde_json.specs.View.{view};
-ghost use Rattle.line_reading.specs.Fields.{domain_at, domain_of, id_at, id_in, new_uuid_at, optional_id_at, optional_uuid_at, uuid_at, uuid_in, uuid_of, uuid_or_drawn_at};
+ghost use Rattle.line_reading.specs.Fields.{domain_at, domain_or_fault, id_at, id_in, new_uuid_at, optional_id_at, optional_uuid_at, uuid_at, uuid_in, uuid_of, uuid_or_drawn_at};
 ghost use Rattle.line_reading.specs.FieldsPrivate.{Gives};
 ghost use Rattle.uuid.specs.Text.{parsed};
 
@@ -57,7 +57,7 @@ pub(crate) fn optional_id_at(
 
 /// Parses a text as a trust domain.
 pub(super) fn domain_of(alloc: Global, text: &str, key: Key) -> Result<TrustDomain, Failure<Fault>>
-    ensures { Gives (λ domain. domain) result (domain_of key text.now) }
+    ensures { Gives (λ domain. domain) result (domain_or_fault key text.now) }
 {
     match TrustDomain::parse(alloc, text) {
         Ok(domain) => Ok(domain),

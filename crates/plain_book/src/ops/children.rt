@@ -6,7 +6,7 @@ ghost use Rattle.entry_book.specs.Ops.{done};
 ghost use Rattle.plain_book.specs.Performed.{performed};
 
 use crate::book::Book;
-use entry_book::{OpRefusal, OpReply, beside};
+use entry_book::{OpRefusal, OpReply, pair_with};
 use spiffe_name::SpiffeId;
 use std::alloc::{AllocError, Global};
 
@@ -20,5 +20,5 @@ pub(crate) fn children(
         (done (OpReply.Entries (children_of parent.now book.now)) []) book.now) }
 {
     let entries = book.children(alloc, parent)?;
-    Ok(Ok(beside(OpReply::Entries(entries), book.clone())?))
+    Ok(Ok(pair_with(OpReply::Entries(entries), book.clone())?))
 }

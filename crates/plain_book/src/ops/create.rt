@@ -7,7 +7,7 @@ ghost use Rattle.entry_book.specs.Ops.{create_over};
 ghost use Rattle.plain_book.specs.Performed.{performed};
 
 use crate::book::Book;
-use crate::ops::put::put_beside;
+use crate::ops::put::put_unless_similar;
 use entry_book::{NewEntry, OpRefusal, OpReply, Shared};
 use std::alloc::{AllocError, Global};
 
@@ -23,5 +23,5 @@ pub(crate) fn create(
     if book.entry(&new.get().id).is_some() {
         return Ok(Err(OpRefusal::IdTaken));
     }
-    put_beside(alloc, new, 0, book)
+    put_unless_similar(alloc, new, 0, book)
 }

@@ -6,7 +6,7 @@ ghost use Rattle.entry_book.specs.Ops.{delete_over};
 ghost use Rattle.plain_book.specs.Performed.{performed};
 
 use crate::book::Book;
-use entry_book::{OpRefusal, OpReply, beside};
+use entry_book::{OpRefusal, OpReply, pair_with};
 use std::alloc::{AllocError, Global};
 use uuid::Uuid;
 
@@ -27,5 +27,5 @@ pub(crate) fn delete(
         return Ok(Err(OpRefusal::StaleRevision));
     }
     let reply = OpReply::Entry(entry.clone()?);
-    Ok(Ok(beside(reply, book.without_entry(alloc, entry))?))
+    Ok(Ok(pair_with(reply, book.without_entry(alloc, entry))?))
 }

@@ -6,7 +6,7 @@ ghost use Rattle.entry_book.specs.Ops.{agent_dropped, for_agent};
 ghost use Rattle.plain_book.specs.Performed.{performed};
 
 use crate::book::Book;
-use entry_book::{OpRefusal, OpReply, beside};
+use entry_book::{OpRefusal, OpReply, pair_with};
 use spiffe_name::SpiffeId;
 use std::alloc::{AllocError, Global};
 
@@ -22,5 +22,5 @@ pub(crate) fn drop_agent(
         return Ok(Err(OpRefusal::NoAgent));
     };
     let reply = OpReply::Agent(agent.clone()?);
-    Ok(Ok(beside(reply, book.without_agent(alloc, agent))?))
+    Ok(Ok(pair_with(reply, book.without_agent(alloc, agent))?))
 }

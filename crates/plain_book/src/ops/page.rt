@@ -6,7 +6,7 @@ ghost use Rattle.entry_book.specs.Pages.{listed, next_of};
 ghost use Rattle.plain_book.specs.Performed.{performed};
 
 use crate::book::Book;
-use entry_book::{OpRefusal, OpReply, PageQuery, beside};
+use entry_book::{OpRefusal, OpReply, PageQuery, pair_with};
 use std::alloc::{AllocError, Global};
 
 /// Never refused.
@@ -19,5 +19,5 @@ pub(crate) fn page(
         (done (OpReply.Page (listed query.now book.now) (next_of query.now book.now)) []) book.now) }
 {
     let (entries, next) = book.page(alloc, query)?;
-    Ok(Ok(beside(OpReply::Page(entries, next), book.clone())?))
+    Ok(Ok(pair_with(OpReply::Page(entries, next), book.clone())?))
 }

@@ -5,7 +5,7 @@ ghost use Rattle.entry_book.specs.Ops.{agent_set};
 ghost use Rattle.plain_book.specs.Performed.{performed};
 
 use crate::book::Book;
-use entry_book::{Agent, OpRefusal, OpReply, beside};
+use entry_book::{Agent, OpRefusal, OpReply, pair_with};
 use std::alloc::{AllocError, Global};
 
 /// Never refused.
@@ -16,6 +16,6 @@ pub(crate) fn set_agent(
 ) -> Result<Result<(OpReply, Book), OpRefusal>, AllocError>
     ensures { IfOk result (λ answer. answer ≡ performed (agent_set agent.now book.now) book.now) }
 {
-    let (kept, told) = beside(agent.clone()?, agent.clone())?;
-    Ok(Ok(beside(OpReply::Agent(told), book.with_agent(alloc, kept))?))
+    let (kept, replied) = pair_with(agent.clone()?, agent.clone())?;
+    Ok(Ok(pair_with(OpReply::Agent(replied), book.with_agent(alloc, kept))?))
 }

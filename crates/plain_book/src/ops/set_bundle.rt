@@ -7,7 +7,7 @@ ghost use Rattle.entry_book.specs.Ops.{bundle_set};
 ghost use Rattle.plain_book.specs.Performed.{performed};
 
 use crate::book::Book;
-use entry_book::{Bundle, OpRefusal, OpReply, Shared, Text, beside};
+use entry_book::{Bundle, OpRefusal, OpReply, Shared, Text, pair_with};
 use spiffe_name::TrustDomain;
 use std::alloc::{AllocError, Global};
 
@@ -26,12 +26,12 @@ pub(crate) fn set_bundle(
         None => 0,
         Some(old) => old.sequence + 1,
     };
-    let (domain, text) = beside(domain.clone()?, text.clone())?;
+    let (domain, text) = pair_with(domain.clone()?, text.clone())?;
     let bundle = Bundle {
         domain,
         text,
         sequence,
     };
     let reply = OpReply::Bundle(bundle.clone()?);
-    Ok(Ok(beside(reply, book.with_bundle(alloc, bundle))?))
+    Ok(Ok(pair_with(reply, book.with_bundle(alloc, bundle))?))
 }

@@ -6,7 +6,7 @@ ghost use Rattle.entry_book.specs.Ops.{done};
 ghost use Rattle.plain_book.specs.Performed.{performed};
 
 use crate::book::Book;
-use entry_book::{OpRefusal, OpReply, beside};
+use entry_book::{OpRefusal, OpReply, pair_with};
 use std::alloc::AllocError;
 use uuid::Uuid;
 
@@ -19,5 +19,5 @@ pub(crate) fn show(id: &Uuid, book: &Book) -> Result<Result<(OpReply, Book), OpR
         Some(row) => Some(row.clone()?),
         None => None,
     };
-    Ok(Ok(beside(OpReply::EntryShown(shown), book.clone())?))
+    Ok(Ok(pair_with(OpReply::EntryShown(shown), book.clone())?))
 }

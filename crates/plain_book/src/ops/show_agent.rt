@@ -6,7 +6,7 @@ ghost use Rattle.entry_book.specs.Ops.{done};
 ghost use Rattle.plain_book.specs.Performed.{performed};
 
 use crate::book::Book;
-use entry_book::{OpRefusal, OpReply, beside};
+use entry_book::{OpRefusal, OpReply, pair_with};
 use spiffe_name::SpiffeId;
 use std::alloc::AllocError;
 
@@ -22,5 +22,5 @@ pub(crate) fn show_agent(
         Some(row) => Some(row.clone()?),
         None => None,
     };
-    Ok(Ok(beside(OpReply::AgentShown(shown), book.clone())?))
+    Ok(Ok(pair_with(OpReply::AgentShown(shown), book.clone())?))
 }

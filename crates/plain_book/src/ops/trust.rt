@@ -8,28 +8,28 @@ ghost use Rattle.entry_book.specs.Ops.{bundles_of, done, for_agent};
 ghost use Rattle.plain_book.specs.Performed.{performed};
 
 use crate::book::Book;
-use entry_book::{OpRefusal, OpReply, beside};
+use entry_book::{OpRefusal, OpReply, pair_with};
 use spiffe_name::{SpiffeId, TrustDomain};
 use std::alloc::{AllocError, Global};
 
 /// Refused if the agent isn't in the book.
 pub(crate) fn trust(
     alloc: Global,
-    own: &TrustDomain,
+    own_domain: &TrustDomain,
     agent: &SpiffeId,
     book: &Book,
 ) -> Result<Result<(OpReply, Book), OpRefusal>, AllocError>
     ensures { IfOk result (λ answer. answer ≡ performed
         (for_agent (agent_at agent.now book.now)
         (λ found. done (OpReply.Bundles
-        (bundles_of (authorised (server_text own.now) found book.now) book.now)) [])) book.now) }
+        (bundles_of (authorised (server_text own_domain.now) found book.now) book.now)) [])) book.now) }
 {
     let Some(found) = book.agent(agent) else {
         return Ok(Err(OpRefusal::NoAgent));
     };
-    let entries = book.authorised(alloc, own, found)?;
+    let entries = book.authorised(alloc, own_domain, found)?;
     let bundles = book.bundles_of(alloc, entries.as_slice());
     drop(entries);
     let bundles = bundles?;
-    Ok(Ok(beside(OpReply::Bundles(bundles), book.clone())?))
+    Ok(Ok(pair_with(OpReply::Bundles(bundles), book.clone())?))
 }

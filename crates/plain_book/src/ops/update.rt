@@ -7,7 +7,7 @@ ghost use Rattle.entry_book.specs.Ops.{update_over};
 ghost use Rattle.plain_book.specs.Performed.{performed};
 
 use crate::book::Book;
-use crate::ops::put::put_beside;
+use crate::ops::put::put_unless_similar;
 use entry_book::{NewEntry, OpRefusal, OpReply, Shared};
 use std::alloc::{AllocError, Global};
 
@@ -29,5 +29,5 @@ pub(crate) fn update(
     if old.is_stale(expected) {
         return Ok(Err(OpRefusal::StaleRevision));
     }
-    put_beside(alloc, new, old.revision() + 1, book)
+    put_unless_similar(alloc, new, old.revision() + 1, book)
 }

@@ -7,7 +7,7 @@ ghost use Rattle.reg_lines.specs.Values.{agent_data, bundle_data, entry_data, op
 
 use crate::invariants::Written;
 use crate::printing::replies::CallReply;
-use entry_book::{Agent, Bundle, Entry, OpRefusal, OpReply, Outcome, Refusal};
+use entry_book::{Agent, Bundle, Entry, OpRefusal, OpReply, ReplyOutcome, Refusal};
 
 impl Written for Entry {
     ghost is_written = { λ _. ⊤ };
@@ -125,10 +125,10 @@ impl Written for CallReply<'_> {
         call.know();
         place.know();
         match &self.reply.outcome {
-            Outcome::Committed(replies) => replies.know(),
-            Outcome::Answered(replies) => replies.know(),
-            Outcome::Repeated(replies) => replies.know(),
-            Outcome::Refused(refusal) => know_refused(call, place, refusal),
+            ReplyOutcome::Committed(replies) => replies.know(),
+            ReplyOutcome::Answered(replies) => replies.know(),
+            ReplyOutcome::Repeated(replies) => replies.know(),
+            ReplyOutcome::Refused(refusal) => know_refused(call, place, refusal),
         }
     }
 }

@@ -8,7 +8,7 @@ use crate::printing::print_json::{PrintJson, print_list, print_number};
 use crate::printing::refusal::put_op;
 use crate::printing::text::print_text;
 use call_answers::CallAnswer;
-use entry_book::{OpRefusal, OpReply, Outcome, Refusal, Reply};
+use entry_book::{OpRefusal, OpReply, ReplyOutcome, Refusal, Reply};
 use line_devices::{Output, Sink};
 use uuid::Uuid;
 
@@ -87,7 +87,7 @@ impl PrintJson for CallReply<'_> {
     fn print_to<S: Sink>(&self, output: &mut Output<S>) {
         let place = self.reply.place;
         match &self.reply.outcome {
-            Outcome::Committed(replies) => {
+            ReplyOutcome::Committed(replies) => {
                 print_done(
                     self.call,
                     place,
@@ -96,7 +96,7 @@ impl PrintJson for CallReply<'_> {
                     output,
                 );
             }
-            Outcome::Answered(replies) => {
+            ReplyOutcome::Answered(replies) => {
                 print_done(
                     self.call,
                     place,
@@ -105,7 +105,7 @@ impl PrintJson for CallReply<'_> {
                     output,
                 );
             }
-            Outcome::Repeated(replies) => {
+            ReplyOutcome::Repeated(replies) => {
                 print_done(
                     self.call,
                     place,
@@ -114,7 +114,7 @@ impl PrintJson for CallReply<'_> {
                     output,
                 );
             }
-            Outcome::Refused(refusal) => print_refused(self.call, place, refusal, output),
+            ReplyOutcome::Refused(refusal) => print_refused(self.call, place, refusal, output),
         }
     }
 }

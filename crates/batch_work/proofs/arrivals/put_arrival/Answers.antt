@@ -1,7 +1,7 @@
 use Rattle.std.proofs.Common.{ap, ◌∙◌}
 use Rattle.entry_book.specs.Rows.{Entry}
 use Rattle.batch_work.specs.WalkStates.{with_text}
-use Rattle.batch_work.proofs.Places.{put_missing}
+use Rattle.batch_work.proofs.Ranks.{put_missing}
 use Rattle.batch_work.proofs.arrivals.put_arrival.Goals as goal
 
 pub returns-clause-met : goal.returns-clause-met

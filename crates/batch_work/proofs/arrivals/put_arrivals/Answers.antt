@@ -5,7 +5,7 @@ use Rattle.entry_book.specs.Rows.{entry_key}
 use Rattle.entry_book.proofs.InOrder.{ascending-with_row}
 use Rattle.batch_work.specs.Reads.{is_one_of}
 use Rattle.batch_work.specs.WalkStates.{walked}
-use Rattle.batch_work.proofs.Places.{ascending_met}
+use Rattle.batch_work.proofs.Ranks.{ascending_met}
 use Rattle.batch_work.proofs.FoundEntries.{walked_next}
 use Rattle.batch_work.proofs.arrivals.put_arrivals.Goals as goal
 

@@ -1,6 +1,6 @@
 use Rattle.std.proofs.Common.{ap, sym, subst, ◌∙◌}
 use Rattle.entry_book.specs.Batches.{past_place}
-use Rattle.batch_work.specs.Standing.{InTime}
+use Rattle.batch_work.specs.WorkInvariants.{InTime}
 use Rattle.batch_work.specs.Working.{version_read}
 use Rattle.batch_work.proofs.Taking.{ops_begin}
 use Rattle.batch_work.proofs.begin.first_stage.Goals as goal

@@ -1,6 +1,6 @@
 use Rattle.std.proofs.Common.{◌≡◌, Some, ap, ◌∙◌}
 use Rattle.entry_book.specs.Batches.{past_place}
-use Rattle.batch_work.specs.Standing.{base_of}
+use Rattle.batch_work.specs.WorkInvariants.{base_of}
 use Rattle.batch_work.specs.Working.{version_read}
 use Rattle.batch_work.proofs.Looking.{grows, looked}
 use Rattle.batch_work.proofs.look.look_op.Goals as goal

@@ -1,7 +1,7 @@
 use Rattle.std.proofs.Common.{◌≡◌, Some, length, subst}
 use Rattle.std.specs.Prelude.{slice_get}
 use Rattle.std.proofs.lemmas.Result.{IfOk-weaker}
-use Rattle.batch_work.specs.Standing.{StandsAt, base_of}
+use Rattle.batch_work.specs.WorkInvariants.{StageInvariant, base_of}
 use Rattle.batch_work.specs.Working.{footprint_there}
 use Rattle.batch_work.proofs.NextMarks.{next_in_op, next_read, when_copied}
 use Rattle.batch_work.proofs.look.next_mark.Goals as goal
@@ -9,14 +9,14 @@ use Rattle.batch_work.proofs.look.next_mark.Goals as goal
 pub returns-in-At : goal.returns-in-At
 returns-in-At c =
     let course = c.args.course.now in
-    let going = subst (λ g. StandsAt g c.args.batch.now (base_of c.args.begun.now) course.marks.items course.changes course.replies.items) c.in-At.is c.requires.stands in
+    let going = subst (λ g. StageInvariant g c.args.batch.now (base_of c.args.begun.now) course.marks.items course.changes course.replies.items) c.in-At.is c.requires.holds_at_stage in
     IfOk-weaker c.mark_of.result _ _ (λ mark e.
     next_in_op c.args.batch.now (base_of c.args.begun.now) course.marks.items course.changes course.replies.items c.in-At.index c.in-At.phase going c.ops.result.now c.index-ops-index.result c.ops.ensures.ops c.index-ops-index.is c.args.begun.now.server c.requires.began.server_is mark e) c.mark_of.ensures
 
 pub returns-in-Read : goal.returns-in-Read
 returns-in-Read c =
     let course = c.args.course.now in
-    let read = subst (λ g. StandsAt g c.args.batch.now (base_of c.args.begun.now) course.marks.items course.changes course.replies.items) c.in-Read.is c.requires.stands in
+    let read = subst (λ g. StageInvariant g c.args.batch.now (base_of c.args.begun.now) course.marks.items course.changes course.replies.items) c.in-Read.is c.requires.holds_at_stage in
     let there = footprint_there c.args.batch.now (base_of c.args.begun.now) in
     when_copied (λ mark. slice_get there (length course.marks.items) ≡ Some mark) c.in-Read.mark
     (next_read c.args.batch.now (base_of c.args.begun.now) course.marks.items course.changes course.replies.items c.in-Read.mark c.in-Read.field-1 read) _ c.clone.result c.clone.ensures.cases

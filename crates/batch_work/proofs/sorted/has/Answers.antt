@@ -1,5 +1,5 @@
 use Rattle.std.proofs.Common.{sym}
-use Rattle.batch_work.proofs.Places.{is_missing, is_there}
+use Rattle.batch_work.proofs.Ranks.{is_missing, is_there}
 use Rattle.batch_work.proofs.sorted.has.Goals as goal
 
 pub returns-in-Ok : goal.returns-in-Ok

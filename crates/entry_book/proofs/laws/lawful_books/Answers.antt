@@ -6,8 +6,8 @@ use Rattle.entry_book.proofs.laws.lawful_books.Goals as goal
 pub returns-clause-history : goal.returns-clause-history
 returns-clause-history c = lawful_history
 
-pub returns-clause-stands : goal.returns-clause-stands
-returns-clause-stands c = all_lawful
+pub returns-clause-holds_always : goal.returns-clause-holds_always
+returns-clause-holds_always c = all_lawful
 
 pub returns-clause-batch : goal.returns-clause-batch
 returns-clause-batch c = batch_keeps

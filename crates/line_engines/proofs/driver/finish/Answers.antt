@@ -5,20 +5,20 @@ use Rattle.line_engines.proofs.Driving.{Closes-flushed, closed_or_none}
 use Rattle.line_engines.proofs.driver.finish.Goals as goal
 
 pub returns-then-has_failed-clause-closed : goal.returns-then-has_failed-clause-closed
-returns-then-has_failed-clause-closed g c = λ now stands.
-    closed_or_none (g.A.Answerer.closes (g.A.Answerer.setting c.args.answerer.now)) now c.close-closed.result _ _ _ (c.close-closed.ensures.closed now stands) c.close-closed.ensures.stays c.flush.ensures.put
+returns-then-has_failed-clause-closed g c = λ now represents.
+    closed_or_none (g.A.LineHandler.closes (g.A.LineHandler.setting c.args.handler.now)) now c.close-closed.result _ _ _ (c.close-closed.ensures.closed now represents) c.close-closed.ensures.is_unchanged c.flush.ensures.put
 
 pub returns-in-Ok-clause-closed : goal.returns-in-Ok-clause-closed
-returns-in-Ok-clause-closed g c = λ now stands.
-    closed_or_none (g.A.Answerer.closes (g.A.Answerer.setting c.args.answerer.now)) now c.close-closed.result _ _ _ (c.close-closed.ensures.closed now stands) c.close-closed.ensures.stays c.flush.ensures.put
+returns-in-Ok-clause-closed g c = λ now represents.
+    closed_or_none (g.A.LineHandler.closes (g.A.LineHandler.setting c.args.handler.now)) now c.close-closed.result _ _ _ (c.close-closed.ensures.closed now represents) c.close-closed.ensures.is_unchanged c.flush.ensures.put
 
 pub returns-in-Ok-clause-ok_closed : goal.returns-in-Ok-clause-ok_closed
-returns-in-Ok-clause-ok_closed g c = λ now stands.
-    Closes-flushed (g.A.Answerer.closes (g.A.Answerer.setting c.args.answerer.now)) now _ _ _ (c.in-Ok.ensures.closed now stands) c.flush.ensures.put
+returns-in-Ok-clause-ok_closed g c = λ now represents.
+    Closes-flushed (g.A.LineHandler.closes (g.A.LineHandler.setting c.args.handler.now)) now _ _ _ (c.in-Ok.ensures.closed now represents) c.flush.ensures.put
 
 pub returns-in-Err-clause-closed : goal.returns-in-Err-clause-closed
-returns-in-Err-clause-closed g c = λ now stands.
-    closed_or_none (g.A.Answerer.closes (g.A.Answerer.setting c.args.answerer.now)) now c.close-closed.result _ _ _ (c.close-closed.ensures.closed now stands) c.close-closed.ensures.stays c.flush.ensures.put
+returns-in-Err-clause-closed g c = λ now represents.
+    closed_or_none (g.A.LineHandler.closes (g.A.LineHandler.setting c.args.handler.now)) now c.close-closed.result _ _ _ (c.close-closed.ensures.closed now represents) c.close-closed.ensures.is_unchanged c.flush.ensures.put
 
 pub returns-in-Err-clause-err : goal.returns-in-Err-clause-err
 returns-in-Err-clause-err g c =
@@ -26,8 +26,8 @@ returns-in-Err-clause-err g c =
     inr (
       refl,
       record {
-        may = c.in-Err.ensures.wanting;
-        none_put = subst (λ o. Puts o c.flush.new.self []) c.in-Err.ensures.stays c.flush.ensures.put;
+        may = c.in-Err.ensures.lacks_memory_now;
+        none_put = subst (λ o. Puts o c.flush.new.self []) c.in-Err.ensures.is_unchanged c.flush.ensures.put;
         not_failed = none;
         out = c.flush.ensures.out none;
       },

@@ -3,7 +3,7 @@ use Rattle.std.specs.Prelude.{Ok}
 use Rattle.spiffe_name.specs.declared.refusals.Failure.{Failure}
 use Rattle.spiffe_name.specs.declared.refusals.Failure.TheVariants.{NoMemory, Refused}
 use Rattle.rand_chacha.specs.ChaCha.{ChaCha}
-use Rattle.entry_book.specs.History.{PlainState, Stands, books_after, reply_to}
+use Rattle.entry_book.specs.History.{PlainState, RepresentsBooks, books_after, reply_to}
 use Rattle.line_reading.specs.Fields.{Fails}
 use Rattle.reg_lines.specs.Refusals.{fault_json, failure_json, no_memory_json}
 use Rattle.reg_lines.specs.Replies.{reply_json}
@@ -11,27 +11,27 @@ use Rattle.line_reading.specs.Requests.{spelled}
 use Rattle.line_devices.specs.Stream.{OutputState, Puts}
 use Rattle.line_reading.specs.declared.fault.Fault.{Fault}
 use Rattle.line_reading.specs.declared.request.Request.{Request}
-use Rattle.line_engines.specs.Answers.{Running, as_line, called, passed, refused, replied, not_read, not_run}
+use Rattle.line_engines.specs.Answers.{Running, as_line, called, plain_skips, refused, replied, not_read, not_run}
 use Rattle.line_engines.specs.AnswersPrivate.{AnswersBatch, AnswersLine}
 use Rattle.line_engines.proofs.plain_engine.answer.Goals as goal
 
 -- the line isn't a batch, or memory ran out
-of_failure : (domain : List ℕ) (now : Running) (line : List ℕ) (old new : OutputState) (book : PlainState) (ids : ChaCha) (failure : Failure Fault) → Stands book now.books → Fails failure (spelled domain now.ids line) → now.ids ≡ ids → Puts old new (as_line (failure_json (now.lines + 1) failure)) → AnswersLine domain now line old new book ids now.calls
-of_failure domain now line old new book ids NoMemory s e i p = (passed now, as_line (no_memory_json (now.lines + 1)), not_read refl refl, p, s, i, refl, refl)
-of_failure domain now line old new book ids (Refused fault) s e i p = (passed now, as_line (fault_json (now.lines + 1) fault), refused fault e refl refl, p, s, i, refl, refl)
+of_failure : (domain : List ℕ) (now : Running) (line : List ℕ) (old new : OutputState) (book : PlainState) (ids : ChaCha) (failure : Failure Fault) → RepresentsBooks book now.books → Fails failure (spelled domain now.ids line) → now.ids ≡ ids → Puts old new (as_line (failure_json (now.lines + 1) failure)) → AnswersLine domain now line old new book ids now.calls
+of_failure domain now line old new book ids NoMemory s e i p = (plain_skips now, as_line (no_memory_json (now.lines + 1)), not_read refl refl, p, s, i, refl, refl)
+of_failure domain now line old new book ids (Refused fault) s e i p = (plain_skips now, as_line (fault_json (now.lines + 1) fault), refused fault e refl refl, p, s, i, refl, refl)
 
 of_batch : (domain : List ℕ) (now : Running) (line : List ℕ) (old new : OutputState) (book : PlainState) (ids : ChaCha) (request : Request) → spelled domain now.ids line ≡ Ok (request, ids) → AnswersBatch now.books request.batch (now.calls + 1) (now.lines + 1) old new book → AnswersLine domain now line old new book ids (now.calls + 1)
 of_batch domain now line old new book ids request e (inl a) = (called now (books_after request.batch now.books) ids, as_line (reply_json (now.calls + 1) (reply_to request.batch now.books)), replied request ids e refl refl, a.1, a.0, refl, refl, refl)
 of_batch domain now line old new book ids request e (inr a) = (called now now.books ids, as_line (no_memory_json (now.lines + 1)), not_run request ids e refl refl, a.1, a.0, refl, refl, refl)
 
 pub returns-in-Err-clause-line : goal.returns-in-Err-clause-line
-returns-in-Err-clause-line g c = λ books stands.
+returns-in-Err-clause-line g c = λ books represents.
     let said = c.in-Err.ensures.spelled in
-    let told = rw c.domain.ensures at said.1 in
+    let reported = rw c.domain.ensures at said.1 in
     let put = subst (λ (line : ℕ). Puts c.args.output.now c.print_line.new.output (as_line (failure_json line c.in-Err.refusal.failure))) said.0 c.print_line.ensures in
-    of_failure c.args.book.now.domain (record { books = books; ids = c.args.ids.now; calls = c.args.calls; lines = c.args.lines }) c.args.line.now _ _ _ _ c.in-Err.refusal.failure stands told (sym c.in-Err.ensures.kept) put
+    of_failure c.args.book.now.domain (record { books = books; ids = c.args.ids.now; calls = c.args.calls; lines = c.args.lines }) c.args.line.now _ _ _ _ c.in-Err.refusal.failure represents reported (sym c.in-Err.ensures.kept) put
 
 pub returns-in-Ok-clause-line : goal.returns-in-Ok-clause-line
-returns-in-Ok-clause-line g c = λ books stands.
+returns-in-Ok-clause-line g c = λ books represents.
     let e = rw c.domain.ensures at c.in-Ok.ensures.spelled in
-    of_batch c.args.book.now.domain (record { books = books; ids = c.args.ids.now; calls = c.args.calls; lines = c.args.lines }) c.args.line.now _ _ _ _ c.in-Ok.request e (c.call.ensures.answered books stands)
+    of_batch c.args.book.now.domain (record { books = books; ids = c.args.ids.now; calls = c.args.calls; lines = c.args.lines }) c.args.line.now _ _ _ _ c.in-Ok.request e (c.call.ensures.answered books represents)

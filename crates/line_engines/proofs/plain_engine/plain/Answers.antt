@@ -1,6 +1,6 @@
 use Rattle.std.proofs.Common.{◌≡◌, List, ℕ, Err, refl, subst, arith}
 use Rattle.std.proofs.lemmas.Grind.{common_steps}
-use Rattle.line_engines.specs.Answers.{Answers, ClosesWithNothing, RunsPlain, start}
+use Rattle.line_engines.specs.Answers.{Answers, ClosesWithNothing, RunsPlain, plain_start}
 use Rattle.line_engines.specs.AnswersPrivate.{an_answer}
 use Rattle.line_engines.specs.declared.fault.RunFault.TheVariants.{NoMemory}
 use Rattle.line_engines.proofs.Driving.{RunsOver-closes, RunsOver-no_memory}
@@ -9,9 +9,9 @@ use Rattle.line_engines.proofs.plain_engine.plain.Goals as goal
 pub returns-in_err-run : goal.returns-in_err-run
 returns-in_err-run g c =
     let is : c.from_residual.result ≡ Err NoMemory = grind (arith, common_steps) in
-    RunsOver-no_memory (Answers c.args.domain) ClosesWithNothing ⊥ c.from_residual.result (an_answer c.args.domain) (start c.args.seed) c.args.input.now c.args.output.now c.requires.output c.requires.none_held is
+    RunsOver-no_memory (Answers c.args.domain) ClosesWithNothing ⊥ c.from_residual.result (an_answer c.args.domain) (plain_start c.args.seed) c.args.input.now c.args.output.now c.requires.output c.requires.none_held is
 
 pub returns : goal.returns
 returns g c =
     let P : List ℕ → Type 0 = λ d. RunsPlain d c.args.seed c.args.input.now c.run_lines.new.input c.args.output.now c.run_lines.new.output c.run_lines.result in
-    subst P c.in_ok-run.ensures.domain (RunsOver-closes _ _ ClosesWithNothing _ _ _ _ _ _ _ (λ now end k. k.0) (c.run_lines.ensures.runs (start c.args.seed) c.in_ok-run.ensures.stands refl))
+    subst P c.in_ok-run.ensures.domain (RunsOver-closes _ _ ClosesWithNothing _ _ _ _ _ _ _ (λ now end k. k.0) (c.run_lines.ensures.runs (plain_start c.args.seed) c.in_ok-run.ensures.represents refl))

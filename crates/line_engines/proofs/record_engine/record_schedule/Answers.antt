@@ -21,25 +21,25 @@ pub returns-in-Ok : goal.returns-in-Ok
 returns-in-Ok g c =
     let domain = c.args.domain in
     let seed = c.args.seed in
-    let kept = c.run_lines.new.answerer in
+    let kept = c.run_lines.new.handler in
     let left = c.args.input.now.left in
     let P : List ℕ → Type 0 = λ d. RunsOver (RecordsLine d) (ClosesAs (ClosesRecording d) (KeepsRecording kept)) ⊤ (first_recording domain seed) c.args.input.now c.run_lines.new.input c.args.output.now c.run_lines.new.output c.run_lines.result in
-    let ran = subst P c.in_ok-run.ensures.domain (c.run_lines.ensures.runs (first_recording domain seed) c.in_ok-run.ensures.stands refl) in
+    let ran = subst P c.in_ok-run.ensures.domain (c.run_lines.ensures.runs (first_recording domain seed) c.in_ok-run.ensures.represents refl) in
     let done = RunsOver-ok {W = ℕ} _ _ _ _ _ _ _ _ c.run_lines.result _ c.lost.result c.in-Ok.is ran in
-    let told = alone domain seed kept c.lost.result left c.args.output.now.written c.run_lines.new.output.written c.lost.ensures done.text in
+    let reported = alone domain seed kept c.lost.result left c.args.output.now.written c.run_lines.new.output.written c.lost.ensures done.text in
     record {
       run = RunsOver-closes _ _ (ClosesRecording domain) _ _ _ _ _ _ _ (λ now end k. k.0) done;
-      alone = told;
-      all = all domain seed c.lost.result left c.args.output.now.written c.run_lines.new.output.written told;
+      alone = reported;
+      all = all domain seed c.lost.result left c.args.output.now.written c.run_lines.new.output.written reported;
     }
 
 pub returns : goal.returns
 returns g c =
     let domain = c.args.domain in
     let seed = c.args.seed in
-    let kept = c.run_lines.new.answerer in
+    let kept = c.run_lines.new.handler in
     let P : List ℕ → Type 0 = λ d. RunsOver (RecordsLine d) (ClosesAs (ClosesRecording d) (KeepsRecording kept)) ⊤ (first_recording domain seed) c.args.input.now c.run_lines.new.input c.args.output.now c.run_lines.new.output c.run_lines.result in
-    let ran = subst P c.in_ok-run.ensures.domain (c.run_lines.ensures.runs (first_recording domain seed) c.in_ok-run.ensures.stands refl) in
+    let ran = subst P c.in_ok-run.ensures.domain (c.run_lines.ensures.runs (first_recording domain seed) c.in_ok-run.ensures.represents refl) in
     let done = RunsOver-err {W = ℕ} _ _ _ _ _ _ _ _ c.run_lines.result _ c.in-Err.is ran in
     record {
       run = RunsOver-closes _ _ (ClosesRecording domain) _ _ _ _ _ _ _ (λ now end k. k.0) done;

@@ -7,12 +7,12 @@ pub returns-in-Some : goal.returns-in-Some
 returns-in-Some g c =
     let key = g.T.BookRow.key in
     let before = c.split_at.result.0.now in
-    let place : length before ≡ c.block_place.result - 1 = omega arith in
+    let rank : length before ≡ c.block_rank.result - 1 = omega arith in
     subst (λ rows. IsCut key c.args.key.now c.args.blocks.now before rows c.in-Some.behind.now) (sym (c.as_slice.ensures ∙ c.get.ensures))
-    (cut_some key c.args.key.now c.args.blocks.now before c.in-Some.block.now c.in-Some.behind.now c.block_place.result c.block_place.ensures
-    (c.split_at.ensures.by_index.0 ∙ ap (λ l. before ++ l) c.in-Some.ensures.cases.0) place c.requires.order c.requires.filled)
+    (cut_some key c.args.key.now c.args.blocks.now before c.in-Some.block.now c.in-Some.behind.now c.block_rank.result c.block_rank.ensures
+    (c.split_at.ensures.by_index.0 ∙ ap (λ l. before ++ l) c.in-Some.ensures.cases.0) rank c.requires.order c.requires.filled)
 
 pub returns-in-None : goal.returns-in-None
 returns-in-None g c =
-    let place : length c.split_at.result.0.now ≡ c.block_place.result - 1 = omega arith in
-    cut_none g.T.BookRow.key c.args.key.now c.args.blocks.now c.split_at.result.0.now c.split_at.result.1.now c.block_place.result c.block_place.ensures c.split_at.ensures.by_index.0 place c.in-None.ensures.cases
+    let rank : length c.split_at.result.0.now ≡ c.block_rank.result - 1 = omega arith in
+    cut_none g.T.BookRow.key c.args.key.now c.args.blocks.now c.split_at.result.0.now c.split_at.result.1.now c.block_rank.result c.block_rank.ensures c.split_at.ensures.by_index.0 rank c.in-None.ensures.cases

@@ -10,7 +10,7 @@ use Rattle.plain_book.proofs.worklist.authorised_of.Goals as goal
 
 pub loop-parent-init : goal.loop-parent-init
 loop-parent-init c =
-    let s = server_text c.args.own.now in
+    let s = server_text c.args.own_domain.now in
     let a = c.args.agent.now in
     let es = c.args.entries.now in
     let order = c.in_ok-aliases.ensures.order in
@@ -19,9 +19,9 @@ loop-parent-init c =
     c.in_ok-starts.ensures
     ∙ (ap (filter (λ e. is_within e.selectors a.selectors)) (c.as_slice.ensures.value ∙ aliases)
     ∙ filter_both (λ e. bytes_eq e.parent s) (λ e. is_within e.selectors a.selectors) es) in
-    let own = c.in_ok-own_children.ensures.found ∙ ap (λ k. filter (λ e. bytes_eq e.parent k) es) c.get-own_id.ensures in
+    let own_domain = c.in_ok-agent_children.ensures.found ∙ ap (λ k. filter (λ e. bytes_eq e.parent k) es) c.get-own_id.ensures in
     let starts_now = c.as_slice-2.ensures.value ∙ starts in
-    let own_now = c.as_slice-3.ensures.value ∙ own in
+    let own_now = c.as_slice-3.ensures.value ∙ own_domain in
     let none = c.new-found.ensures.items in
     let first = first_found s a es order c.as_slice-2.result.now c.new-found.result.items c.reach.new.found.items starts_now none c.in_ok-reach.ensures.found in
     let before = c.in_ok-reach.ensures.pending ∙ ap (λ l. l ++ filter (is_missing c.new-found.result.items) c.as_slice-2.result.now) c.new-pending.ensures.items in (
@@ -33,7 +33,7 @@ loop-parent-init c =
     )
 
 module _ (c : goal.After-drop-parent-inside-in-Some) where
-  this_turn : Turn (server_text c.args.own.now) c.args.agent.now c.args.entries.now c.in_ok-aliases.ensures.order c.loop-parent.invariant.0 c.get-identity.result.now c.in-Some.parent c.as_slice-in-Some.result.now c.loop-parent.found.items c.reach-in-Some.new.found.items c.pop.new.self.items c.reach-in-Some.new.pending.items
+  this_turn : Turn (server_text c.args.own_domain.now) c.args.agent.now c.args.entries.now c.in_ok-aliases.ensures.order c.loop-parent.invariant.0 c.get-identity.result.now c.in-Some.parent c.as_slice-in-Some.result.now c.loop-parent.found.items c.reach-in-Some.new.found.items c.pop.new.self.items c.reach-in-Some.new.pending.items
   this_turn = record {
     identity = c.get-identity.ensures ∙ c.identity.ensures;
     read = c.as_slice-in-Some.ensures.value ∙ c.in_ok-children.ensures.found;
@@ -44,7 +44,7 @@ module _ (c : goal.After-drop-parent-inside-in-Some) where
 
 pub loop-parent-preserved : goal.loop-parent-preserved
 loop-parent-preserved c =
-    let s = server_text c.args.own.now in
+    let s = server_text c.args.own_domain.now in
     let a = c.args.agent.now in
     let es = c.args.entries.now in
     let read = c.loop-parent.invariant.0 in
@@ -54,7 +54,7 @@ loop-parent-preserved c =
 
 pub loop-parent-smaller : goal.loop-parent-smaller
 loop-parent-smaller c =
-    let s = server_text c.args.own.now in
+    let s = server_text c.args.own_domain.now in
     let a = c.args.agent.now in
     let es = c.args.entries.now in
     let smaller = turn_smaller s a es c.in_ok-aliases.ensures.order c.loop-parent.invariant.0 c.get-identity.result.now c.in-Some.parent c.as_slice-in-Some.result.now c.loop-parent.found.items c.reach-in-Some.new.found.items c.pop.new.self.items c.reach-in-Some.new.pending.items (this_turn c) in
@@ -63,7 +63,7 @@ loop-parent-smaller c =
 
 pub returns : goal.returns
 returns c =
-    let s = server_text c.args.own.now in
+    let s = server_text c.args.own_domain.now in
     let a = c.args.agent.now in
     let es = c.args.entries.now in
     let read = c.loop-parent.invariant.0 in

@@ -4,14 +4,14 @@ use Rattle.std.proofs.lemmas.Bool.{false≢true}
 use Rattle.std.proofs.lemmas.Grind.{common_steps}
 use Rattle.std.proofs.lemmas.Result.{on_ok_weaker}
 use Rattle.reg_lines_tests.specs.Numbered.{numbered}
-use Rattle.line_devices.specs.Lines.{kept}
+use Rattle.line_devices.specs.Lines.{stored_part}
 use Rattle.line_devices.specs.Runs.{StepsKept}
 use Rattle.line_devices.specs.Stream.{IsOut}
-use Rattle.line_devices.proofs.RunLemmas.{RunsFrom-start, RunsFrom-flush, RunsFrom-more, AppendsRun-so_far, AppendsRun-at_end, AppendsRun-at_most, AppendsRunFront-of}
+use Rattle.line_devices.proofs.RunLemmas.{RunsFrom-start, RunsFrom-flush, RunsFrom-more, AppendsRun-so_far, AppendsRun-at_end, AppendsRun-at_most, AppendsRunPrefix-of}
 use Rattle.reg_lines_tests.proofs.engine.number_lines.Goals as goal
 
 answers : (s : ℕ) (l : List ℕ) → (next : ℕ) × (reply : List ℕ) × numbered s l next reply
-answers s l = (s + 1, decimal (s + 1) ++ codes ":" ++ kept l, (refl, refl))
+answers s l = (s + 1, decimal (s + 1) ++ codes ":" ++ stored_part l, (refl, refl))
 
 steps : (s : ℕ) (bytes : List ℕ) → StepsKept numbered s bytes (s + 1) (decimal (s + 1) ++ codes ":" ++ bytes)
 steps s bytes line is e = (refl, ap (λ b. decimal (s + 1) ++ codes ":" ++ b) e)
@@ -22,7 +22,7 @@ loop-index-init g c = record { way = RunsFrom-start _ _ _ _; input = c.requires.
 pub returns-then-has_failed-clause-front : goal.returns-then-has_failed-clause-front
 returns-then-has_failed-clause-front g c =
     let way = RunsFrom-flush _ _ _ _ _ _ _ _ _ c.loop-index.invariant.way c.flush_before_waiting.ensures.put in
-    AppendsRunFront-of _ answers _ _ _ _ _ _ _ _ c.requires.output c.requires.none_held c.loop-index.invariant.index way
+    AppendsRunPrefix-of _ answers _ _ _ _ _ _ _ _ c.requires.output c.requires.none_held c.loop-index.invariant.index way
 
 pub returns-in-Err-clause-so_far : goal.returns-in-Err-clause-so_far
 returns-in-Err-clause-so_far g c =
@@ -34,7 +34,7 @@ returns-in-Err-clause-so_far g c =
 pub returns-in-Err-clause-front : goal.returns-in-Err-clause-front
 returns-in-Err-clause-front g c =
     let way = RunsFrom-flush _ _ _ _ _ _ _ _ _ c.loop-index.invariant.way c.flush_before_waiting.ensures.put in
-    AppendsRunFront-of _ answers _ _ _ _ _ _ _ _ c.requires.output c.requires.none_held c.loop-index.invariant.index way
+    AppendsRunPrefix-of _ answers _ _ _ _ _ _ _ _ c.requires.output c.requires.none_held c.loop-index.invariant.index way
 
 pub returns-in-Ok-false-clause-text : goal.returns-in-Ok-false-clause-text
 returns-in-Ok-false-clause-text g c =
@@ -47,7 +47,7 @@ pub returns-in-Ok-false-clause-front : goal.returns-in-Ok-false-clause-front
 returns-in-Ok-false-clause-front g c =
     let way = RunsFrom-flush _ _ _ _ _ _ _ _ _ c.loop-index.invariant.way c.flush_before_waiting.ensures.put in
     let out = RunsFrom-flush _ _ _ _ _ _ _ _ _ way c.finish.ensures.put in
-    AppendsRunFront-of _ answers _ _ _ _ _ _ _ _ c.requires.output c.requires.none_held c.loop-index.invariant.index out
+    AppendsRunPrefix-of _ answers _ _ _ _ _ _ _ _ c.requires.output c.requires.none_held c.loop-index.invariant.index out
 
 pub loop-index-preserved : goal.loop-index-preserved
 loop-index-preserved g c =
@@ -69,4 +69,4 @@ returns-clause-text g c =
 pub returns-clause-front : goal.returns-clause-front
 returns-clause-front g c =
     let out = RunsFrom-flush _ _ _ _ _ _ _ _ _ c.loop-index.invariant.way c.finish-2.ensures.put in
-    AppendsRunFront-of _ answers _ _ _ _ _ _ _ _ c.requires.output c.requires.none_held c.loop-index.invariant.index out
+    AppendsRunPrefix-of _ answers _ _ _ _ _ _ _ _ c.requires.output c.requires.none_held c.loop-index.invariant.index out

@@ -10,10 +10,10 @@ returns-in-Err g c =
     let now : Session = record { seat = c.args.seat.now; ids = c.args.ids.now; lines = c.args.lines } in
     let said = c.in-Err.ensures.spelled in
     let heard = rw c.requires.domain at said.1 in
-    let taken = line_refused g.J.Naming.domain now c.args.line.now c.read_request.new.ids c.in-Err.refusal (sym c.in-Err.ensures.kept) heard said.0 in
+    let taken = line_refused g.J.RegistryId.domain now c.args.line.now c.read_request.new.ids c.in-Err.refusal (sym c.in-Err.ensures.kept) heard said.0 in
     record {
       asked = tt;
-      line = λ t text p. printed g.J.Naming.domain now c.args.line.now _ text now.seat t c.read_request.new.ids p.0 p.1 taken;
+      line = λ t text p. printed g.J.RegistryId.domain now c.args.line.now _ text now.seat t c.read_request.new.ids p.0 p.1 taken;
     }
 
 pub returns-then-has_calls : goal.returns-then-has_calls
@@ -22,7 +22,7 @@ returns-then-has_calls g c =
     let e = rw c.requires.domain at c.in-Ok.ensures.spelled in
     record {
       asked = c.call.ensures.asked;
-      line = λ t text p. call_answered g.J.Naming.domain now c.args.line.now text t _ c.in-Ok.request e (c.call.ensures.answers t text p);
+      line = λ t text p. call_answered g.J.RegistryId.domain now c.args.line.now text t _ c.in-Ok.request e (c.call.ensures.answers t text p);
     }
 
 pub returns-else-has_calls : goal.returns-else-has_calls
@@ -31,8 +31,8 @@ returns-else-has_calls g c =
     let e = rw c.requires.domain at c.in-Ok.ensures.spelled in
     let none : nat_lt now.seat.calls (2 ^ 48) ≡ false = sym c.has_calls.ensures ∙ c.if-has_calls.false in
     let spent : 2 ^ 48 ≤ now.seat.calls = grind (arith, nat_tests) in
-    let taken = seat_spent g.J.Naming.domain now c.args.line.now _ c.in-Ok.request e spent in
+    let taken = seat_spent g.J.RegistryId.domain now c.args.line.now _ c.in-Ok.request e spent in
     record {
       asked = tt;
-      line = λ t text p. printed g.J.Naming.domain now c.args.line.now _ text now.seat t c.read_request.new.ids p.0 p.1 taken;
+      line = λ t text p. printed g.J.RegistryId.domain now c.args.line.now _ text now.seat t c.read_request.new.ids p.0 p.1 taken;
     }

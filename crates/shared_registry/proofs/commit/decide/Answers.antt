@@ -3,95 +3,95 @@ use mathlib.Core.List.{IsPrefix}
 use Rattle.commit_head.specs.declared.item.Item.{Item}
 use Rattle.commit_head.specs.Heads.{IsJournal}
 use Rattle.commit_head.specs.Journals.{IsLawfulJournal}
-use Rattle.shared_registry.specs.Desk.{IsTied}
+use Rattle.shared_registry.specs.WriterStates.{IsTied}
 use Rattle.shared_registry.specs.Seated.{Seated}
 use Rattle.shared_registry.specs.Seats.{AllBelow, calls_of}
-use Rattle.shared_registry.specs.ShownPrivate.{IsCounted, Shows, whole_head}
+use Rattle.shared_registry.specs.ShownPrivate.{IsCounted, ShowsJournal, whole_head}
 use Rattle.shared_registry.specs.Shown.{Shown}
-use Rattle.shared_registry.proofs.Committing.{journal_low, lawful_more, next_fits, place_is, refused_there, shows_more, tidied, tied_more, tied_stays}
+use Rattle.shared_registry.proofs.Committing.{journal_low, lawful_more, next_fits, place_is, refused_there, shows_more, checkpointed, tied_more, tied_unchanged}
 use Rattle.shared_registry.proofs.Overtaken.{began}
-use Rattle.shared_registry.proofs.Tries.{goes_on, goes_turned}
+use Rattle.shared_registry.proofs.Tries.{during_call_joined, during_call_turned}
 use Rattle.shared_registry.proofs.commit.decide.Goals as goal
 
 pub prepare-requires-clause-began : goal.prepare-requires-clause-began
 prepare-requires-clause-began g c =
     let log = ap (λ (p : Shown). p.journal) c.published-published.ensures ∙ c.requires.published.journal_is in
     let pre = subst (IsPrefix c.args.seat.now.seen) log (c.fits.ensures.seen c.if-not-fits.false) in
-    let tidy = tidied g.J.Naming.domain c.args.last.now c.args.head.now c.tidy.new.head c.requires.tied c.tidy.ensures.window c.tidy.ensures.kept c.tidy.ensures.few in
-    began g.J.Naming.domain c.args.seat.now.seen c.args.last.now c.args.work.now.batch c.args.work.now c.tidy.new.head c.requires.read pre tidy
+    let checkpoint_if_full = checkpointed g.J.RegistryId.domain c.args.last.now c.args.head.now c.checkpoint_if_full.new.head c.requires.tied c.checkpoint_if_full.ensures.window c.checkpoint_if_full.ensures.kept c.checkpoint_if_full.ensures.few in
+    began g.J.RegistryId.domain c.args.seat.now.seen c.args.last.now c.args.work.now.batch c.args.work.now c.checkpoint_if_full.new.head c.requires.read pre checkpoint_if_full
 
 pub returns-in-Err-clause-tied : goal.returns-in-Err-clause-tied
 returns-in-Err-clause-tied g c =
-    let tidy = tidied g.J.Naming.domain c.args.last.now c.args.head.now c.tidy.new.head c.requires.tied c.tidy.ensures.window c.tidy.ensures.kept c.tidy.ensures.few in
-    let tied = tied_stays g.J.Naming.domain c.args.last.now c.tidy.new.head c.prepare.new.self tidy c.prepare.ensures.stays in
+    let checkpoint_if_full = checkpointed g.J.RegistryId.domain c.args.last.now c.args.head.now c.checkpoint_if_full.new.head c.requires.tied c.checkpoint_if_full.ensures.window c.checkpoint_if_full.ensures.kept c.checkpoint_if_full.ensures.few in
+    let tied = tied_unchanged g.J.RegistryId.domain c.args.last.now c.checkpoint_if_full.new.head c.prepare.new.self checkpoint_if_full c.prepare.ensures.is_unchanged in
     tied
 
 pub returns-in-Err-clause-decided : goal.returns-in-Err-clause-decided
 returns-in-Err-clause-decided g c =
     let log = ap (λ (p : Shown). p.journal) c.published-published.ensures ∙ c.requires.published.journal_is in
     let pre = subst (IsPrefix c.args.seat.now.seen) log (c.fits.ensures.seen c.if-not-fits.false) in
-    let tidy = tidied g.J.Naming.domain c.args.last.now c.args.head.now c.tidy.new.head c.requires.tied c.tidy.ensures.window c.tidy.ensures.kept c.tidy.ensures.few in
-    refused_there g.J.Naming.domain c.args.last.now c.args.seat.now c.see.new.self c.args.work.now c.tidy.new.head c.in-Err.refusal c.requires.read c.requires.ready pre tidy
+    let checkpoint_if_full = checkpointed g.J.RegistryId.domain c.args.last.now c.args.head.now c.checkpoint_if_full.new.head c.requires.tied c.checkpoint_if_full.ensures.window c.checkpoint_if_full.ensures.kept c.checkpoint_if_full.ensures.few in
+    refused_there g.J.RegistryId.domain c.args.last.now c.args.seat.now c.see.new.self c.args.work.now c.checkpoint_if_full.new.head c.in-Err.refusal c.requires.read c.requires.ready pre checkpoint_if_full
     (record { same = refl; seen = c.see.ensures.seen ∙ c.again.ensures; own = c.see.ensures.own })
     c.in-Err.ensures.refused
 
-pub boards_with-requires-clause-fits : goal.boards_with-requires-clause-fits
-boards_with-requires-clause-fits g c =
+pub public_states_with-requires-clause-fits : goal.public_states_with-requires-clause-fits
+public_states_with-requires-clause-fits g c =
     let log = ap (λ (p : Shown). p.journal) c.published-published.ensures ∙ c.requires.published.journal_is in
-    let tidy = tidied g.J.Naming.domain c.args.last.now c.args.head.now c.tidy.new.head c.requires.tied c.tidy.ensures.window c.tidy.ensures.kept c.tidy.ensures.few in
-    let tied = tied_stays g.J.Naming.domain c.args.last.now c.tidy.new.head c.prepare.new.self tidy c.prepare.ensures.stays in
+    let checkpoint_if_full = checkpointed g.J.RegistryId.domain c.args.last.now c.args.head.now c.checkpoint_if_full.new.head c.requires.tied c.checkpoint_if_full.ensures.window c.checkpoint_if_full.ensures.kept c.checkpoint_if_full.ensures.few in
+    let tied = tied_unchanged g.J.RegistryId.domain c.args.last.now c.checkpoint_if_full.new.head c.prepare.new.self checkpoint_if_full c.prepare.ensures.is_unchanged in
     let domain = ap (λ (p : Shown). p.window.newest.domain) c.published-published.ensures ∙ c.requires.published.of_it.domain_is in
     let journal : IsJournal c.args.last.now (whole_head c.published-published.result.now.window c.args.last.now) = subst (λ l. IsJournal l (whole_head c.published-published.result.now.window l)) log c.window-window.ensures.journal in
-    next_fits g.J.Naming.domain c.args.last.now c.prepare.new.self c.published-published.result.now.window c.in-Ok.prepared tied journal domain c.in-Ok.ensures.fits.goes
+    next_fits g.J.RegistryId.domain c.args.last.now c.prepare.new.self c.published-published.result.now.window c.in-Ok.prepared tied journal domain c.in-Ok.ensures.fits.goes
 
 pub returns-in_default-clause-tied : goal.returns-in_default-clause-tied
 returns-in_default-clause-tied g c =
-    let tidy = tidied g.J.Naming.domain c.args.last.now c.args.head.now c.tidy.new.head c.requires.tied c.tidy.ensures.window c.tidy.ensures.kept c.tidy.ensures.few in
-    let tied = tied_stays g.J.Naming.domain c.args.last.now c.tidy.new.head c.prepare.new.self tidy c.prepare.ensures.stays in
+    let checkpoint_if_full = checkpointed g.J.RegistryId.domain c.args.last.now c.args.head.now c.checkpoint_if_full.new.head c.requires.tied c.checkpoint_if_full.ensures.window c.checkpoint_if_full.ensures.kept c.checkpoint_if_full.ensures.few in
+    let tied = tied_unchanged g.J.RegistryId.domain c.args.last.now c.checkpoint_if_full.new.head c.prepare.new.self checkpoint_if_full c.prepare.ensures.is_unchanged in
     tied
 
 pub add-requires-clause-room : goal.add-requires-clause-room
 add-requires-clause-room g c =
-    let tidy = tidied g.J.Naming.domain c.args.last.now c.args.head.now c.tidy.new.head c.requires.tied c.tidy.ensures.window c.tidy.ensures.kept c.tidy.ensures.few in
-    let tied = tied_stays g.J.Naming.domain c.args.last.now c.tidy.new.head c.prepare.new.self tidy c.prepare.ensures.stays in
-    let low = journal_low g.J.Naming.domain c.args.last.now c.prepare.new.self tied in
-    let same = ap length c.again-front.ensures in
+    let checkpoint_if_full = checkpointed g.J.RegistryId.domain c.args.last.now c.args.head.now c.checkpoint_if_full.new.head c.requires.tied c.checkpoint_if_full.ensures.window c.checkpoint_if_full.ensures.kept c.checkpoint_if_full.ensures.few in
+    let tied = tied_unchanged g.J.RegistryId.domain c.args.last.now c.checkpoint_if_full.new.head c.prepare.new.self checkpoint_if_full c.prepare.ensures.is_unchanged in
+    let low = journal_low g.J.RegistryId.domain c.args.last.now c.prepare.new.self tied in
+    let same = ap length c.again-prefix.ensures in
     omega arith
 
 pub add-requires-clause-lawful : goal.add-requires-clause-lawful
 add-requires-clause-lawful g c =
     let log = ap (λ (p : Shown). p.journal) c.published-published.ensures ∙ c.requires.published.journal_is in
-    let tidy = tidied g.J.Naming.domain c.args.last.now c.args.head.now c.tidy.new.head c.requires.tied c.tidy.ensures.window c.tidy.ensures.kept c.tidy.ensures.few in
-    let tied = tied_stays g.J.Naming.domain c.args.last.now c.tidy.new.head c.prepare.new.self tidy c.prepare.ensures.stays in
+    let checkpoint_if_full = checkpointed g.J.RegistryId.domain c.args.last.now c.args.head.now c.checkpoint_if_full.new.head c.requires.tied c.checkpoint_if_full.ensures.window c.checkpoint_if_full.ensures.kept c.checkpoint_if_full.ensures.few in
+    let tied = tied_unchanged g.J.RegistryId.domain c.args.last.now c.checkpoint_if_full.new.head c.prepare.new.self checkpoint_if_full c.prepare.ensures.is_unchanged in
     let of_work = c.in-Ok.ensures.of_work in
     let own = sym (c.fits.ensures.own c.if-not-fits.false) ∙ ap (calls_of c.args.seat.now.number) log in
     let below = subst (AllBelow c.args.seat.now.calls) own c.requires.call in
-    let lawful = lawful_more g.J.Naming.domain c.args.last.now c.in-Ok.prepared.item c.prepare.new.self c.args.seat.now.number c.args.seat.now.calls tied c.len-place.ensures.lawful c.in-Ok.ensures.fits.goes.joins (of_work.seat_is ∙ c.number.ensures.0) (of_work.call_is ∙ c.calls.ensures) below in
-    let same : c.again-front.result ++ c.item.result.now ∷ [] ≡ c.args.last.now ++ c.in-Ok.prepared.item ∷ [] = λ i. c.again-front.ensures i ++ c.item.ensures i ∷ [] in
-    subst (IsLawfulJournal g.J.Naming.domain) (sym same) lawful
+    let lawful = lawful_more g.J.RegistryId.domain c.args.last.now c.in-Ok.prepared.item c.prepare.new.self c.args.seat.now.number c.args.seat.now.calls tied c.len-place.ensures.lawful c.in-Ok.ensures.fits.goes.joins (of_work.seat_is ∙ c.number.ensures.0) (of_work.call_is ∙ c.calls.ensures) below in
+    let same : c.again-prefix.result ++ c.item.result.now ∷ [] ≡ c.args.last.now ++ c.in-Ok.prepared.item ∷ [] = λ i. c.again-prefix.ensures i ++ c.item.ensures i ∷ [] in
+    subst (IsLawfulJournal g.J.RegistryId.domain) (sym same) lawful
 
 pub returns-then-not-add-clause-tied : goal.returns-then-not-add-clause-tied
 returns-then-not-add-clause-tied g c =
-    let tidy = tidied g.J.Naming.domain c.args.last.now c.args.head.now c.tidy.new.head c.requires.tied c.tidy.ensures.window c.tidy.ensures.kept c.tidy.ensures.few in
-    let tied = tied_stays g.J.Naming.domain c.args.last.now c.tidy.new.head c.prepare.new.self tidy c.prepare.ensures.stays in
+    let checkpoint_if_full = checkpointed g.J.RegistryId.domain c.args.last.now c.args.head.now c.checkpoint_if_full.new.head c.requires.tied c.checkpoint_if_full.ensures.window c.checkpoint_if_full.ensures.kept c.checkpoint_if_full.ensures.few in
+    let tied = tied_unchanged g.J.RegistryId.domain c.args.last.now c.checkpoint_if_full.new.head c.prepare.new.self checkpoint_if_full c.prepare.ensures.is_unchanged in
     tied
 
-pub pages-page-requires-clause-shows : goal.pages-page-requires-clause-shows
-pages-page-requires-clause-shows g c =
+pub snapshots-snapshot-requires-clause-shows : goal.snapshots-snapshot-requires-clause-shows
+snapshots-snapshot-requires-clause-shows g c =
     let log = ap (λ (p : Shown). p.journal) c.published-published.ensures ∙ c.requires.published.journal_is in
-    let tidy = tidied g.J.Naming.domain c.args.last.now c.args.head.now c.tidy.new.head c.requires.tied c.tidy.ensures.window c.tidy.ensures.kept c.tidy.ensures.few in
-    let tied = tied_stays g.J.Naming.domain c.args.last.now c.tidy.new.head c.prepare.new.self tidy c.prepare.ensures.stays in
+    let checkpoint_if_full = checkpointed g.J.RegistryId.domain c.args.last.now c.args.head.now c.checkpoint_if_full.new.head c.requires.tied c.checkpoint_if_full.ensures.window c.checkpoint_if_full.ensures.kept c.checkpoint_if_full.ensures.few in
+    let tied = tied_unchanged g.J.RegistryId.domain c.args.last.now c.checkpoint_if_full.new.head c.prepare.new.self checkpoint_if_full c.prepare.ensures.is_unchanged in
     let domain = ap (λ (p : Shown). p.window.newest.domain) c.published-published.ensures ∙ c.requires.published.of_it.domain_is in
     let journal : IsJournal c.args.last.now (whole_head c.published-published.result.now.window c.args.last.now) = subst (λ l. IsJournal l (whole_head c.published-published.result.now.window l)) log c.window-window.ensures.journal in
     let of_work = c.in-Ok.ensures.of_work in
     let own = sym (c.fits.ensures.own c.if-not-fits.false) ∙ ap (calls_of c.args.seat.now.number) log in
     let below = subst (AllBelow c.args.seat.now.calls) own c.requires.call in
-    let lawful = lawful_more g.J.Naming.domain c.args.last.now c.in-Ok.prepared.item c.prepare.new.self c.args.seat.now.number c.args.seat.now.calls tied c.len-place.ensures.lawful c.in-Ok.ensures.fits.goes.joins (of_work.seat_is ∙ c.number.ensures.0) (of_work.call_is ∙ c.calls.ensures) below in
-    let whole : c.add.new.self ≡ c.args.last.now ++ c.in-Ok.prepared.item ∷ [] = c.if-not-add.ensures ∙ (λ i. c.again-front.ensures i ++ c.item.ensures i ∷ []) in
-    let goes = next_fits g.J.Naming.domain c.args.last.now c.prepare.new.self c.published-published.result.now.window c.in-Ok.prepared tied journal domain c.in-Ok.ensures.fits.goes in
-    let board = c.in-Ok-boards_with.boards.0 in
-    let counted = subst (λ l. IsCounted board.counts (l ++ c.in-Ok.prepared.item ∷ [])) log c.in-Ok-boards_with.ensures.counts in
-    subst (λ l. Shows l board.window board.counts) (sym whole) (shows_more g.J.Naming.domain c.args.last.now c.in-Ok.prepared c.published-published.result.now.window board.window board.counts journal goes c.in-Ok-boards_with.ensures.window lawful counted)
+    let lawful = lawful_more g.J.RegistryId.domain c.args.last.now c.in-Ok.prepared.item c.prepare.new.self c.args.seat.now.number c.args.seat.now.calls tied c.len-place.ensures.lawful c.in-Ok.ensures.fits.goes.joins (of_work.seat_is ∙ c.number.ensures.0) (of_work.call_is ∙ c.calls.ensures) below in
+    let whole : c.add.new.self ≡ c.args.last.now ++ c.in-Ok.prepared.item ∷ [] = c.if-not-add.ensures ∙ (λ i. c.again-prefix.ensures i ++ c.item.ensures i ∷ []) in
+    let goes = next_fits g.J.RegistryId.domain c.args.last.now c.prepare.new.self c.published-published.result.now.window c.in-Ok.prepared tied journal domain c.in-Ok.ensures.fits.goes in
+    let public_state = c.in-Ok-public_states_with.public_states.0 in
+    let counted = subst (λ l. IsCounted public_state.counts (l ++ c.in-Ok.prepared.item ∷ [])) log c.in-Ok-public_states_with.ensures.counts in
+    subst (λ l. ShowsJournal l public_state.window public_state.counts) (sym whole) (shows_more g.J.RegistryId.domain c.args.last.now c.in-Ok.prepared c.published-published.result.now.window public_state.window public_state.counts journal goes c.in-Ok-public_states_with.ensures.window lawful counted)
 
 pub see-requires-2-clause-seen : goal.see-requires-2-clause-seen
 see-requires-2-clause-seen g c =
@@ -101,22 +101,22 @@ see-requires-2-clause-seen g c =
 
 pub returns-clause-tied : goal.returns-clause-tied
 returns-clause-tied g c =
-    let few = subst (λ (l : List Item). length l < 4096) (sym c.prepare.ensures.stays.kept) c.tidy.ensures.few in
-    let tidy = tidied g.J.Naming.domain c.args.last.now c.args.head.now c.tidy.new.head c.requires.tied c.tidy.ensures.window c.tidy.ensures.kept c.tidy.ensures.few in
-    let tied = tied_stays g.J.Naming.domain c.args.last.now c.tidy.new.head c.prepare.new.self tidy c.prepare.ensures.stays in
-    let whole : c.add.new.self ≡ c.args.last.now ++ c.in-Ok.prepared.item ∷ [] = c.if-not-add.ensures ∙ (λ i. c.again-front.ensures i ++ c.item.ensures i ∷ []) in
-    subst (λ l. IsTied g.J.Naming.domain l c.finish-place.new.self) (sym whole) (tied_more g.J.Naming.domain c.args.last.now c.in-Ok.prepared.item c.prepare.new.self c.finish-place.new.self tied c.in-Ok.ensures.fits.goes.joins c.finish-place.ensures.appended few)
+    let few = subst (λ (l : List Item). length l < 4096) (sym c.prepare.ensures.is_unchanged.kept) c.checkpoint_if_full.ensures.few in
+    let checkpoint_if_full = checkpointed g.J.RegistryId.domain c.args.last.now c.args.head.now c.checkpoint_if_full.new.head c.requires.tied c.checkpoint_if_full.ensures.window c.checkpoint_if_full.ensures.kept c.checkpoint_if_full.ensures.few in
+    let tied = tied_unchanged g.J.RegistryId.domain c.args.last.now c.checkpoint_if_full.new.head c.prepare.new.self checkpoint_if_full c.prepare.ensures.is_unchanged in
+    let whole : c.add.new.self ≡ c.args.last.now ++ c.in-Ok.prepared.item ∷ [] = c.if-not-add.ensures ∙ (λ i. c.again-prefix.ensures i ++ c.item.ensures i ∷ []) in
+    subst (λ l. IsTied g.J.RegistryId.domain l c.finish-place.new.self) (sym whole) (tied_more g.J.RegistryId.domain c.args.last.now c.in-Ok.prepared.item c.prepare.new.self c.finish-place.new.self tied c.in-Ok.ensures.fits.goes.joins c.finish-place.ensures.appended few)
 
 pub returns-clause-goes : goal.returns-clause-goes
 returns-clause-goes g c =
-    let goes = goes_on c.args.seat.now c.see-2.new.self c.see_own.new.self c.see-2.ensures.goes c.see_own.ensures.goes in
-    goes_turned c.args.seat.now c.see_own.new.self c.turn_to-before.new.self _ goes c.turn_to-before.ensures
+    let goes = during_call_joined c.args.seat.now c.see-2.new.self c.see_own.new.self c.see-2.ensures.goes c.see_own.ensures.goes in
+    during_call_turned c.args.seat.now c.see_own.new.self c.turn_to-before.new.self _ goes c.turn_to-before.ensures
 
 pub returns-clause-decided : goal.returns-clause-decided
 returns-clause-decided g c =
-    let tidy = tidied g.J.Naming.domain c.args.last.now c.args.head.now c.tidy.new.head c.requires.tied c.tidy.ensures.window c.tidy.ensures.kept c.tidy.ensures.few in
-    let tied = tied_stays g.J.Naming.domain c.args.last.now c.tidy.new.head c.prepare.new.self tidy c.prepare.ensures.stays in
-    let whole : c.add.new.self ≡ c.args.last.now ++ c.in-Ok.prepared.item ∷ [] = c.if-not-add.ensures ∙ (λ i. c.again-front.ensures i ++ c.item.ensures i ∷ []) in
+    let checkpoint_if_full = checkpointed g.J.RegistryId.domain c.args.last.now c.args.head.now c.checkpoint_if_full.new.head c.requires.tied c.checkpoint_if_full.ensures.window c.checkpoint_if_full.ensures.kept c.checkpoint_if_full.ensures.few in
+    let tied = tied_unchanged g.J.RegistryId.domain c.args.last.now c.checkpoint_if_full.new.head c.prepare.new.self checkpoint_if_full c.prepare.ensures.is_unchanged in
+    let whole : c.add.new.self ≡ c.args.last.now ++ c.in-Ok.prepared.item ∷ [] = c.if-not-add.ensures ∙ (λ i. c.again-prefix.ensures i ++ c.item.ensures i ∷ []) in
     let of_work = c.in-Ok.ensures.of_work in record {
       item = c.in-Ok.prepared.item;
       whole = whole;
@@ -126,11 +126,11 @@ returns-clause-decided g c =
       replies = of_work.replies;
       place =
           let n = c.finish-place.ensures.number in
-          let m = place_is g.J.Naming.domain c.args.last.now c.prepare.new.self tied in
+          let m = place_is g.J.RegistryId.domain c.args.last.now c.prepare.new.self tied in
           let l = ap length whole in
           let k = length-append c.args.last.now (c.in-Ok.prepared.item ∷ []) in
           omega arith;
       seen = ap (λ (s : Seated). s.seen) c.turn_to-before.ensures ∙ (c.see_own.ensures.seen ∙ c.again-3.ensures);
       own = ap (λ (s : Seated). s.own) c.turn_to-before.ensures ∙ (c.see_own.ensures.own ∙ (λ i. c.see-2.ensures.own i ++ c.see-2.ensures.goes.calls i ∷ []));
-      found = ap (λ (s : Seated). s.found) c.turn_to-before.ensures ∙ (ap (λ (p : Shown). p.journal) c.pages-page.ensures.same ∙ c.pages-page.ensures.journal);
+      found = ap (λ (s : Seated). s.found) c.turn_to-before.ensures ∙ (ap (λ (p : Shown). p.journal) c.snapshots-snapshot.ensures.same ∙ c.snapshots-snapshot.ensures.journal);
     }

@@ -19,12 +19,12 @@ loop-key-preserved g c =
     record {
       split = append_assoc c.loop-key.yielded (c.in-Some.key ∷ []) c.next.new.self.rest.items ∙ (ap (λ l. c.loop-key.yielded ++ l) (sym c.in-Some.ensures.steps.0) ∙ c.loop-key.invariant.split);
       size = omega (arith, c.in_ok-more-2.ensures.count, c.loop-key.invariant.size);
-      puts = rw (c.in_ok-more-2.ensures.rows, same) (puts_one g.K.Ord.cmp c.requires.tells (tied_itself g.met.K.Ord.total) c.loop-key.yielded c.in-Some.key c.args.row.now c.args.index.now c.loop-key.more c.loop-key.invariant.puts);
+      puts = rw (c.in_ok-more-2.ensures.rows, same) (puts_one g.K.Ord.cmp c.requires.is_exact (tied_itself g.met.K.Ord.total) c.loop-key.yielded c.in-Some.key c.args.row.now c.args.index.now c.loop-key.more c.loop-key.invariant.puts);
     }
 
 pub returns : goal.returns
-returns g c = λ keys_of rows tell absent index e.
+returns g c = λ keys_of rows identify absent index e.
     let none : length c.loop-key.key-iterator.rest.items ≡ 0 = sym c.loop-key.key-iterator.rest.ok.0 ∙ c.in-None.ensures.steps.0 in
     let all = nothing_left c.loop-key.yielded c.loop-key.key-iterator.rest.items c.args.keys.items c.loop-key.invariant.split none in
-    index_with keys_of tell rows c.args.index.now c.loop-key.more index c.args.row.now absent
+    index_with keys_of identify rows c.args.index.now c.loop-key.more index c.args.row.now absent
     (subst (λ ks. Puts ks c.args.row.now c.args.index.now c.loop-key.more) (all ∙ e) c.loop-key.invariant.puts)

@@ -3,10 +3,10 @@ use Rattle.std.specs.Prelude.{if◌then◌else◌}
 use Rattle.std.proofs.lemmas.Result.{on_ok_weaker}
 use Rattle.entry_book.specs.Order.{Ascending}
 use Rattle.entry_book.proofs.InOrder.{ascending-with_row}
-use Rattle.version_book.specs.Marks.{kept}
+use Rattle.version_book.specs.Marks.{kept_if}
 use Rattle.version_book.proofs.overlay.put_named.Goals as goal
 
-kept_holds : {X : Type 0} (P : X → Type 0) (p : X → Bool) (row : Option X) → IfSome row P → IfSome (kept p row) P
+kept_holds : {X : Type 0} (P : X → Type 0) (p : X → Bool) (row : Option X) → IfSome row P → IfSome (kept_if p row) P
 kept_holds P p None h = tt
 kept_holds P p (Some x) h = elim (p x) as (λ b. IfSome (if b then Some x else None) P) [ true ↦ h | false ↦ tt ]
 

@@ -11,4 +11,4 @@ pub returns-clause-rows : goal.returns-clause-rows
 returns-clause-rows g c = rw (c.split_near.ensures.below, c.split.ensures.others) (between_is g.K.Ord.cmp _ _ _)
 
 pub split_near-requires-clause-size : goal.split_near-requires-clause-size
-split_near-requires-clause-size g c = rw c.split.ensures.others (omega (arith, length_filter (λ row. is_ge (g.K.Ord.cmp row.0 (g.L.Bound.place c.args.lo.now))) c.args.rows.now, c.requires.size))
+split_near-requires-clause-size g c = rw c.split.ensures.others (omega (arith, length_filter (λ row. is_ge (g.K.Ord.cmp row.0 (g.L.Bound.position c.args.lo.now))) c.args.rows.now, c.requires.size))

@@ -1,6 +1,6 @@
 use Rattle.std.proofs.Common.{◌≡◌, true, List, [], ◌∷◌, refl, sym, ap, ◌∙◌}
 use Rattle.entry_book.specs.Rows.{Bytes}
-use Rattle.batch_work.specs.declared.phase.Asked.TheVariants as asked
+use Rattle.batch_work.specs.declared.phase.WalkFor.TheVariants as asked
 use Rattle.batch_work.specs.Reads.{domains_of}
 use Rattle.batch_work.specs.Steps.{identity_next, next_trusted, trusted_next}
 use Rattle.batch_work.specs.WalkStates.{WalkState, is_empty, walked}
@@ -14,7 +14,7 @@ over (i ∷ is) w h = cc
 pub returns : goal.returns
 returns c =
     let w = walked c.args.entries.items c.args.walk.now in
-    let last : c.goes_on.new.self ≡ w = c.in_ok-goes_on.ensures.ok ∙ ap (walked c.args.entries.items) c.in_ok-last.ensures.cases in
+    let last : c.continues.new.self ≡ w = c.in_ok-continues.ensures.ok ∙ ap (walked c.args.entries.items) c.in_ok-last.ensures.cases in
     let found : c.as_slice.result.now ≡ w.found = c.as_slice.ensures.value ∙ (c.into_found.ensures ∙ ap (λ (w : WalkState). w.found) last) in
     let domains : c.of-domains.result ≡ domains_of w.found = c.of-domains.ensures ∙ (c.in_ok-domains_of.ensures ∙ ap domains_of found) in
     c.trusted_next.ensures

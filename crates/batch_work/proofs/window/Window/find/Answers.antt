@@ -1,5 +1,5 @@
 use Rattle.std.proofs.Common.{ℕ, ◌-◌, List, length, Option, ap, ◌∙◌, arith, slice_get}
-use Rattle.version_book.specs.CommittedRows.{State}
+use Rattle.version_book.specs.CommittedRows.{VersionState}
 use Rattle.batch_work.specs.WindowPlaces.{held}
 use Rattle.batch_work.specs.Windows.{Window, version_at}
 use Rattle.batch_work.proofs.WindowPlaces.{held_count}
@@ -28,5 +28,5 @@ returns c =
     let k = ap length c.as_slice.ensures.value ∙ held_count c.self.inside.older.items c.self.invariant.all in
     let i : ℕ = length c.as_slice.result.now - (c.number-newest.result - c.args.number) in
     c.version_in.ensures
-    ∙ (ap (λ (places : List (Option State)). slice_get (held places) i) c.as_slice-2.ensures.value
+    ∙ (ap (λ (places : List (Option VersionState)). slice_get (held places) i) c.as_slice-2.ensures.value
     ∙ (at_older c.args.number w c.self.invariant.counted i (omega arith) (omega arith) ∙ ap (version_at c.args.number) c.self.view_is))

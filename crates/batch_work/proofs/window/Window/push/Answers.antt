@@ -1,19 +1,19 @@
 use Rattle.std.proofs.Common.{ap, sym, subst, ◌∙◌}
-use Rattle.version_book.specs.CommittedRows.{State}
+use Rattle.version_book.specs.CommittedRows.{VersionState}
 use Rattle.batch_work.specs.WindowPlaces.{held}
-use Rattle.batch_work.specs.Windows.{IsNext, Window, pushed}
+use Rattle.batch_work.specs.Windows.{IsNextVersion, Window, pushed}
 use Rattle.batch_work.proofs.WindowPlaces.{still_kept, window_is, with_place}
 use Rattle.batch_work.proofs.window.Window.push.Goals as goal
 
 pub invariant_of-self : goal.invariant_of-self
 invariant_of-self c =
-    let places = c.push_last.ensures ∙ ap (λ (s : State). with_place s c.self.inside.older.items) c.replace-before.ensures.value in
-    let next = subst (λ (s : State). IsNext c.self.inside.newest s) (sym c.replace-before.ensures.after) (subst (λ (w : Window). IsNext w.newest c.args.version) (sym c.self.view_is) c.requires.next) in
+    let places = c.push_last.ensures ∙ ap (λ (s : VersionState). with_place s c.self.inside.older.items) c.replace-before.ensures.value in
+    let next = subst (λ (s : VersionState). IsNextVersion c.self.inside.newest s) (sym c.replace-before.ensures.after) (subst (λ (w : Window). IsNextVersion w.newest c.args.version) (sym c.self.view_is) c.requires.next) in
     still_kept c.self.inside.older.items c.self.inside.newest c.self.invariant c.push_last.new.items.items c.replace-before.new.dest places next
 
 pub returns : goal.returns
 returns c =
     let w : Window = record { older = held c.self.inside.older.items; newest = c.self.inside.newest } in
-    let places = c.push_last.ensures ∙ ap (λ (s : State). with_place s c.self.inside.older.items) c.replace-before.ensures.value in
+    let places = c.push_last.ensures ∙ ap (λ (s : VersionState). with_place s c.self.inside.older.items) c.replace-before.ensures.value in
     window_is c.self.inside.older.items c.self.inside.newest c.self.invariant c.push_last.new.items.items c.replace-before.new.dest places
-    ∙ (ap (λ (s : State). pushed s w) c.replace-before.ensures.after ∙ ap (pushed c.args.version) c.self.view_is)
+    ∙ (ap (λ (s : VersionState). pushed s w) c.replace-before.ensures.after ∙ ap (pushed c.args.version) c.self.view_is)

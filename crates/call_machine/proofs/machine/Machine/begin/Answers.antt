@@ -18,10 +18,10 @@ pub returns-in-Err-clause-err : goal.returns-in-Err-clause-err
 returns-in-Err-clause-err c = refused_slot c.args.number (λ d. is_waiting d.stage) c.self.invariant c.self.view_is (sym c.in-Some.ensures.value) c.in-Err.ensures.err
 
 pub invariant_of-self-in-Err : goal.invariant_of-self-in-Err
-invariant_of-self-in-Err c = holds_unchanged c.args.number c.begin.new.self c.self.invariant (sym c.in-Some.ensures.value) (c.get_mut.follows.holds c.begin.new.self).0 c.in-Err.ensures.stays
+invariant_of-self-in-Err c = holds_unchanged c.args.number c.begin.new.self c.self.invariant (sym c.in-Some.ensures.value) (c.get_mut.follows.holds c.begin.new.self).0 c.in-Err.ensures.is_unchanged
 
-pub returns-in-Err-clause-stays : goal.returns-in-Err-clause-stays
-returns-in-Err-clause-stays c = state_unchanged c.args.number c.begin.new.self c.self.invariant (sym c.in-Some.ensures.value) (c.get_mut.follows.holds c.begin.new.self).0 c.in-Err.ensures.stays ∙ c.self.view_is
+pub returns-in-Err-clause-is_unchanged : goal.returns-in-Err-clause-is_unchanged
+returns-in-Err-clause-is_unchanged c = state_unchanged c.args.number c.begin.new.self c.self.invariant (sym c.in-Some.ensures.value) (c.get_mut.follows.holds c.begin.new.self).0 c.in-Err.ensures.is_unchanged ∙ c.self.view_is
 
 pub begin-requires-clause-whole : goal.begin-requires-clause-whole
 begin-requires-clause-whole c = c.self.invariant.whole
@@ -49,6 +49,6 @@ returns-clause-ok c =
       in_turn = b.in_turn;
       stage = stage_of_slot later;
       stage_is = b.stage;
-      answer = λ i. Begun n (place i) (b.told i);
+      answer = λ i. Begun n (place i) (b.logged i);
       after = state_moved n later c.self.invariant found (c.get_mut.follows.holds later).0 (call_moved n old later (c.self.inside.count + 1) b.batch b.invoked b.turn_is b.replied);
     })

@@ -1,7 +1,7 @@
 use Rattle.std.proofs.Common.{refl, sym, ap, subst, ◌∙◌, inl, arith}
 use Rattle.std.specs.Prelude.{is_none, ◌&&◌}
 use Rattle.call_machine.specs.Machine.{is_over}
-use Rattle.call_machine.specs.Kept.{SlotRests, call_kept, domain_of}
+use Rattle.call_machine.specs.Kept.{SlotRests, call_kept, head_domain}
 use Rattle.call_machine.proofs.Changed.{call_found, holds_set, holds_unchanged, refused_slot, refused_unknown, rests_found, state_moved, state_unchanged}
 use Rattle.call_machine.proofs.Counts.{has_room, more_replied}
 use Rattle.call_machine.proofs.machine.Machine.reply.Goals as goal
@@ -16,10 +16,10 @@ pub returns-in-Err-clause-err : goal.returns-in-Err-clause-err
 returns-in-Err-clause-err c = refused_slot c.args.number (λ d. is_none d.replied && is_over d.stage) c.self.invariant c.self.view_is (sym c.in-Some.ensures.value) c.in-Err.ensures.err
 
 pub invariant_of-self-in-Err : goal.invariant_of-self-in-Err
-invariant_of-self-in-Err c = holds_unchanged c.args.number c.reply.new.self c.self.invariant (sym c.in-Some.ensures.value) (c.get_mut.follows.holds c.reply.new.self).0 c.in-Err.ensures.stays
+invariant_of-self-in-Err c = holds_unchanged c.args.number c.reply.new.self c.self.invariant (sym c.in-Some.ensures.value) (c.get_mut.follows.holds c.reply.new.self).0 c.in-Err.ensures.is_unchanged
 
-pub returns-in-Err-clause-stays : goal.returns-in-Err-clause-stays
-returns-in-Err-clause-stays c = state_unchanged c.args.number c.reply.new.self c.self.invariant (sym c.in-Some.ensures.value) (c.get_mut.follows.holds c.reply.new.self).0 c.in-Err.ensures.stays ∙ c.self.view_is
+pub returns-in-Err-clause-is_unchanged : goal.returns-in-Err-clause-is_unchanged
+returns-in-Err-clause-is_unchanged c = state_unchanged c.args.number c.reply.new.self c.self.invariant (sym c.in-Some.ensures.value) (c.get_mut.follows.holds c.reply.new.self).0 c.in-Err.ensures.is_unchanged ∙ c.self.view_is
 
 pub reply-requires : goal.reply-requires
 reply-requires c = record { answered = (rests_found c.args.number c.self.invariant (sym c.in-Some.ensures.value)).answered }
@@ -31,7 +31,7 @@ invariant_of-self-2 c =
     let b = c.in-Ok.ensures.ok in
     let rests = rests_found c.args.number c.self.invariant found in
     holds_set c.args.number c.reply.new.self c.self.invariant found (c.get_mut.follows.holds c.reply.new.self).0
-    (subst (SlotRests (domain_of h) h.kept) (sym b.2) (record { made = rests.made; state = rests.state; answered = rests.answered }))
+    (subst (SlotRests (head_domain h) h.kept) (sym b.2) (record { made = rests.made; state = rests.state; answered = rests.answered }))
     (more_replied c.in-Some.slot.now c.reply.new.self _ b.0 b.2)
 
 pub returns-clause-ok : goal.returns-clause-ok

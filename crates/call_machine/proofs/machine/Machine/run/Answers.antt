@@ -5,7 +5,7 @@ use Rattle.entry_book.specs.Order.{Within}
 use Rattle.entry_book.proofs.Sets.{All-within, within_right}
 use Rattle.call_events.specs.Events.{IsFor}
 use Rattle.call_machine.specs.Machine.{Runs}
-use Rattle.call_machine.proofs.Runs.{event_leaves, runs_go_on}
+use Rattle.call_machine.proofs.Runs.{event_leaves, runs_extend}
 use Rattle.call_machine.proofs.machine.Machine.run.Goals as goal
 
 pub apply-answer-requires : goal.apply-answer-requires
@@ -31,14 +31,14 @@ loop-event-preserved c =
     let both : length ((seen ++ e ∷ []) ++ left) ≡ length (seen ++ e ∷ []) + length left = length-append (seen ++ e ∷ []) left in
     let ok : IsOk c.push.result = c.push.ensures.succeeds (omega arith) in
     let items : c.push.new.self.items ≡ c.loop-event.answers.items ++ c.apply-answer.result ∷ [] = c.push.ensures.items ∙ ap (λ b. if b then c.loop-event.answers.items ++ c.apply-answer.result ∷ [] else c.loop-event.answers.items) ok in
-    let told : vec_len c.push.new.self ≡ vec_len c.loop-event.answers + 1 = c.push.ensures.len ∙ ap (λ b. if b then vec_len c.loop-event.answers + 1 else vec_len c.loop-event.answers) ok in
+    let logged : vec_len c.push.new.self ≡ vec_len c.loop-event.answers + 1 = c.push.ensures.len ∙ ap (λ b. if b then vec_len c.loop-event.answers + 1 else vec_len c.loop-event.answers) ok in
     let left_is = event_leaves c.loop-event.self e c.apply-answer.result c.apply-answer.new.self c.apply-answer.ensures in
     record {
       can_next = tt;
       is_finite = tt;
-      ran = subst (λ l. Runs c.args.self.now (seen ++ e ∷ []) l c.apply-answer.new.self) (sym items) (runs_go_on seen c.loop-event.answers.items c.args.self.now c.loop-event.self c.apply-answer.new.self e c.apply-answer.result i.ran c.apply-answer.ensures);
+      ran = subst (λ l. Runs c.args.self.now (seen ++ e ∷ []) l c.apply-answer.new.self) (sym items) (runs_extend seen c.loop-event.answers.items c.args.self.now c.loop-event.self c.apply-answer.new.self e c.apply-answer.result i.ran c.apply-answer.ensures);
       front = front;
-      told = omega arith;
+      logged = omega arith;
       room = omega (arith, c.push.ensures.capacity);
       domain = left_is.domain ∙ i.domain;
     }

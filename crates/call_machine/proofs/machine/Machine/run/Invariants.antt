@@ -10,7 +10,7 @@ invariant-loop-event l = record {
   is_finite : (goal.iterator-loop-event).is_finite l.event-iterator;
   ran : Runs l.fn.self l.yielded l.answers.items l.self;
   front : l.yielded ++ into_iter_items l.event-iterator ≡ l.fn.events.items;
-  told : vec_len l.answers ≡ length l.yielded;
+  logged : vec_len l.answers ≡ length l.yielded;
   room : length l.fn.events.items ≤ vec_capacity l.answers;
   domain : l.self.domain ≡ l.fn.self.domain;
 }

@@ -11,4 +11,4 @@ returns-clause-ok c =
     slot_begun c.args.head.now old _ w c.begin.new.self c.args.turn c.status-2.result c.requires.whole c.requires.rests c.in-Open.is
     (open_status old.state w New c.in-Open.is c.in-New.ensures)
     (c.in-Ok.ensures.begun ∙ ap (λ v. record w { base = Some (base_in w.batch v) }) c.window.ensures.window)
-    c.let_go.ensures.stage c.let_go.ensures.answered c.let_go.ensures.kept refl refl refl refl c.status-2.ensures
+    c.discard.ensures.stage c.discard.ensures.answered c.discard.ensures.kept refl refl refl refl c.status-2.ensures

@@ -29,14 +29,14 @@ pub returns-in_default-clause-fault : goal.returns-in_default-clause-fault
 returns-in_default-clause-fault c =
     let given = c.option_word.ensures ∙ option_in-parse _ _ _ _ _ _ c.in_ok-regd_command.ensures c.in_ok-matches.ensures.matches c.program_of-program.ensures c.name.ensures in
     let domain = unwrap_or-text c.option_word.result _ _ _ _ c.unwrap_or-word.ensures refl given in
-    let told = c.option_word-2.ensures ∙ option_in-parse _ _ _ _ _ _ c.in_ok-regd_command.ensures c.in_ok-matches.ensures.matches c.program_of-program.ensures c.name-2.ensures in
-    let seed = unwrap_or-text c.option_word-2.result _ _ _ _ c.unwrap_or-text.ensures refl told in
+    let parsed = c.option_word-2.ensures ∙ option_in-parse _ _ _ _ _ _ c.in_ok-regd_command.ensures c.in_ok-matches.ensures.matches c.program_of-program.ensures c.name-2.ensures in
+    let seed = unwrap_or-text c.option_word-2.result _ _ _ _ c.unwrap_or-text.ensures refl parsed in
     IsFaultOf-seed (texts c.args.words.now) _ _ (line_faults-parse _ _ c.in_ok-regd_command.ensures c.in_ok-matches.ensures.kinds) domain c.in_ok-domain.ensures.table.1 seed c.in_default.ensures.none
 
 pub returns-clause-seed : goal.returns-clause-seed
 returns-clause-seed c =
-    let told = c.option_word-2.ensures ∙ option_in-parse _ _ _ _ _ _ c.in_ok-regd_command.ensures c.in_ok-matches.ensures.matches c.program_of-program.ensures c.name-2.ensures in
-    c.in-Some.ensures.seed ∙ unwrap_or-text c.option_word-2.result _ _ _ _ c.unwrap_or-text.ensures refl told
+    let parsed = c.option_word-2.ensures ∙ option_in-parse _ _ _ _ _ _ c.in_ok-regd_command.ensures c.in_ok-matches.ensures.matches c.program_of-program.ensures c.name-2.ensures in
+    c.in-Some.ensures.seed ∙ unwrap_or-text c.option_word-2.result _ _ _ _ c.unwrap_or-text.ensures refl parsed
 
 pub returns-clause-program : goal.returns-clause-program
 returns-clause-program c = program_in-parse _ _ _ _ c.in_ok-regd_command.ensures c.in_ok-matches.ensures.matches c.program_of-program.ensures
@@ -45,10 +45,10 @@ pub returns-in_err-server-clause-fault : goal.returns-in_err-server-clause-fault
 returns-in_err-server-clause-fault c =
     let given = c.option_word.ensures ∙ option_in-parse _ _ _ _ _ _ c.in_ok-regd_command.ensures c.in_ok-matches.ensures.matches c.program_of-program.ensures c.name.ensures in
     let domain = unwrap_or-text c.option_word.result _ _ _ _ c.unwrap_or-word.ensures refl given in
-    let told = c.option_word-2.ensures ∙ option_in-parse _ _ _ _ _ _ c.in_ok-regd_command.ensures c.in_ok-matches.ensures.matches c.program_of-program.ensures c.name-2.ensures in
-    let seed = unwrap_or-text c.option_word-2.result _ _ _ _ c.unwrap_or-text.ensures refl told in
+    let parsed = c.option_word-2.ensures ∙ option_in-parse _ _ _ _ _ _ c.in_ok-regd_command.ensures c.in_ok-matches.ensures.matches c.program_of-program.ensures c.name-2.ensures in
+    let seed = unwrap_or-text c.option_word-2.result _ _ _ _ c.unwrap_or-text.ensures refl parsed in
     passed_up c.from_residual-in_err-server.result _ _ c.from_residual-in_err-server.ensures.1
-    (IsFaultOf-server _ (texts c.args.words.now) _ _ _ _ _ c.in_ok-regd_command.ensures c.in_ok-matches.ensures.matches (line_faults-parse _ _ c.in_ok-regd_command.ensures c.in_ok-matches.ensures.kinds) c.program_of-program.ensures domain c.in_ok-domain.ensures.table.1 seed c.in-Some.ensures.told c.in_err-server.ensures.fault)
+    (IsFaultOf-server _ (texts c.args.words.now) _ _ _ _ _ c.in_ok-regd_command.ensures c.in_ok-matches.ensures.matches (line_faults-parse _ _ c.in_ok-regd_command.ensures c.in_ok-matches.ensures.kinds) c.program_of-program.ensures domain c.in_ok-domain.ensures.table.1 seed c.in-Some.ensures.parsed c.in_err-server.ensures.fault)
 
 pub returns-clause-server : goal.returns-clause-server
 returns-clause-server c = server-parse _ _ _ _ _ c.in_ok-regd_command.ensures c.in_ok-matches.ensures.matches c.in_ok-server.ensures.server

@@ -12,19 +12,19 @@ use Rattle.shared_registry.proofs.seat.Seat.look.Goals.{in-Ok, in-Err}
 pub invariant_of-self : goal.invariant_of-self
 invariant_of-self g c =
     let i = c.self.invariant in
-    (i.0, i.1, below_more _ _ _ (omega arith) i.2, c.find-found.ensures.reader, c.find-found.ensures.page)
+    (i.0, i.1, below_more _ _ _ (omega arith) i.2, c.find-found.ensures.reader, c.find-found.ensures.snapshot)
 
-pub returns-clause-stays : goal.returns-clause-stays
-returns-clause-stays g c =
+pub returns-clause-is_unchanged : goal.returns-clause-is_unchanged
+returns-clause-is_unchanged g c =
     let is = c.self.view_is in
     record {
-      along = record {
+      after_call = record {
         number = ap (λ s. s.number) is;
         calls = ap (λ s. s.calls + 1) is;
         fresh = subst (λ s. AllBelow (c.self.inside.calls + 1) s.own) is c.self.invariant.2;
         lawful = c.len-before.ensures.lawful;
         seen = rw (← is) (prefix_self c.self.inside.seen);
-        told = ap (λ s. s.told) is;
+        learnt = ap (λ s. s.learnt) is;
         own = refl;
       };
       same = ap (λ s. s.seen) is;
@@ -34,19 +34,19 @@ pub returns-clause-found : goal.returns-clause-found
 returns-clause-found g c =
     let run = c.self.inside in
     let looked = c.find-found.ensures in
-    let domain = g.J.Naming.domain in
-    let journal = c.find-found.new.page.journal in
-    let new : Seated = record { number = run.number; calls = run.calls + 1; seen = run.seen; told = run.told; own = calls_of run.number run.seen; found = journal } in
+    let domain = g.J.RegistryId.domain in
+    let journal = c.find-found.new.snapshot.journal in
+    let new : Seated = record { number = run.number; calls = run.calls + 1; seen = run.seen; learnt = run.learnt; own = calls_of run.number run.seen; found = journal } in
     elim c.match-found.branch [
       | in-Ok w ↦
-          let same : w.in-Ok.front ≡ journal = ok_of _ _ _ w.in-Ok.is looked.found in
-          let more : IsPrefix run.seen w.in-Ok.front = ok_of _ _ _ w.in-Ok.is looked.seen in
-          let told : IsPrefix run.told w.in-Ok.front = ok_of _ _ _ w.in-Ok.is looked.told in
+          let same : w.in-Ok.prefix ≡ journal = ok_of _ _ _ w.in-Ok.is looked.found in
+          let more : IsPrefix run.seen w.in-Ok.prefix = ok_of _ _ _ w.in-Ok.is looked.seen in
+          let learnt : IsPrefix run.learnt w.in-Ok.prefix = ok_of _ _ _ w.in-Ok.is looked.learnt in
           let count = ok_of _ _ _ w.in-Ok.is looked.count in
           let may : MaySee domain new = record {
             lawful = subst (IsLawfulJournal domain) same w.len-after.ensures.lawful;
             seen = subst (IsPrefix run.seen) same more;
-            told = subst (IsPrefix run.told) same told;
+            learnt = subst (IsPrefix run.learnt) same learnt;
             own = ap (calls_of run.number) (sym same) ∙ calls_same run.number _ _ more (sym (count ∙ c.self.invariant.1));
           } in
           ok_any _ c.match-found.result may

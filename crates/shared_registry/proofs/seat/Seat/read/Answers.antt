@@ -13,30 +13,30 @@ pub invariant_of-self-2 : goal.invariant_of-self-2
 invariant_of-self-2 g c =
     let i = c.self.invariant in
     let count = ok_of _ _ _ c.in-Ok.is c.find-found.ensures.count in
-    let more : IsPrefix c.self.inside.seen c.in-Ok.front = ok_of _ _ _ c.in-Ok.is c.find-found.ensures.seen in
+    let more : IsPrefix c.self.inside.seen c.in-Ok.prefix = ok_of _ _ _ c.in-Ok.is c.find-found.ensures.seen in
     let same = calls_same c.self.inside.number _ _ more (sym (count ∙ i.1)) in
-    (i.0, sym count, rw same i.2, c.find-found.ensures.reader, c.find-found.ensures.page)
+    (i.0, sym count, rw same i.2, c.find-found.ensures.reader, c.find-found.ensures.snapshot)
 
 pub returns-clause-own : goal.returns-clause-own
 returns-clause-own g c =
     let count = ok_of _ _ _ c.in-Ok.is c.find-found.ensures.count in
-    let more : IsPrefix c.self.inside.seen c.in-Ok.front = ok_of _ _ _ c.in-Ok.is c.find-found.ensures.seen in
+    let more : IsPrefix c.self.inside.seen c.in-Ok.prefix = ok_of _ _ _ c.in-Ok.is c.find-found.ensures.seen in
     calls_same c.self.inside.number _ _ more (sym (count ∙ c.self.invariant.1)) ∙ ap (λ s. s.own) c.self.view_is
 
 pub returns-clause-heard : goal.returns-clause-heard
 returns-clause-heard g c =
-    let told : IsPrefix c.self.inside.told c.in-Ok.front = ok_of _ _ _ c.in-Ok.is c.find-found.ensures.told in
-    let heard : IsPrefix c.args.self.now.told c.in-Ok.front = subst (λ l. IsPrefix l c.in-Ok.front) (ap (λ s. s.told) c.self.view_is) told in
+    let learnt : IsPrefix c.self.inside.learnt c.in-Ok.prefix = ok_of _ _ _ c.in-Ok.is c.find-found.ensures.learnt in
+    let heard : IsPrefix c.args.self.now.learnt c.in-Ok.prefix = subst (λ l. IsPrefix l c.in-Ok.prefix) (ap (λ s. s.learnt) c.self.view_is) learnt in
     ok_any _ c.match-ran.result heard
 
 pub returns-clause-read : goal.returns-clause-read
 returns-clause-read g c = elim c.match-ran.branch [
-  | in-Ok-ran w ↦ subst (λ r. IfOk r (IsRead g.J.Naming.domain c.in-Ok.front c.args.batch)) (sym w.result-is) (record {
-    page = c.find-found.new.page;
+  | in-Ok-ran w ↦ subst (λ r. IfOk r (IsRead g.J.RegistryId.domain c.in-Ok.prefix c.args.batch)) (sym w.result-is) (record {
+    snapshot = c.find-found.new.snapshot;
     made = subst (λ d. IsMadeFor d c.args.batch) c.requires.domain c.ops-made.ensures.made;
-    domain_is = c.find-found.ensures.page.domain_is;
-    stands = subst (λ l. IsJournal l (whole_head c.find-found.new.page.window l)) (sym (ok_of _ _ _ c.in-Ok.is c.find-found.ensures.found)) c.window-window.ensures.journal;
-    at_end = subst (λ b. IsAtEnd b c.find-found.new.page w.in-Ok-ran.work) c.in-Ok-begun.ensures.begun.batch_is w.in-Ok-ran.ensures;
+    domain_is = c.find-found.ensures.snapshot.domain_is;
+    is_journal_of = subst (λ l. IsJournal l (whole_head c.find-found.new.snapshot.window l)) (sym (ok_of _ _ _ c.in-Ok.is c.find-found.ensures.found)) c.window-window.ensures.journal;
+    at_end = subst (λ b. IsAtEnd b c.find-found.new.snapshot w.in-Ok-ran.work) c.in-Ok-begun.ensures.begun.batch_is w.in-Ok-ran.ensures;
   })
-  | in-Err-ran w ↦ subst (λ r. IfOk r (IsRead g.J.Naming.domain c.in-Ok.front c.args.batch)) (sym w.result-is) tt
+  | in-Err-ran w ↦ subst (λ r. IfOk r (IsRead g.J.RegistryId.domain c.in-Ok.prefix c.args.batch)) (sym w.result-is) tt
 ]

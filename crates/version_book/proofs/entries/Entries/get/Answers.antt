@@ -10,7 +10,7 @@ use Rattle.version_book.proofs.entries.Entries.get.Goals as goal
 pub returns : goal.returns
 returns c =
     let id = c.args.id.now in
-    c.lent.ensures
+    c.borrowed.ensures
     ∙ first_of (λ (entry : Entry). bytes_eq entry.id id) c.args.self.now (option_copied c.get.result)
     (ap (filter (λ (row : CommittedRow Entry). bytes_eq row.row.id id)) (sym c.self.view_is)
     ∙ (row_at entry_key id c.self.inside.rows c.get.ensures.order c.self.invariant.0 ∙ ap option_to_list (sym c.get.ensures.value)))

@@ -1,0 +1,13 @@
+-- What a command line requests.
+use Rattle.std.specs.Prelude.{List, ℕ, Option}
+use Rattle.command_line.specs.declared.program.Program.{Program}
+use Rattle.command_line.specs.declared.settings.ServerPlan.{ServerPlan}
+
+pub record ParsedCommand : Type 0 where
+  pub program : Program
+  -- the text of the server's own trust domain
+  pub domain : List ℕ
+  -- the seed of the ids that the server generates, 32 bytes
+  pub seed : List ℕ
+  -- for a server, its address, its number of workers and its number of connections
+  pub server : Option ServerPlan

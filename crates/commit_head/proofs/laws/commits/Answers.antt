@@ -1,5 +1,0 @@
-use Rattle.commit_head.proofs.OnBooks.{commit_on_books}
-use Rattle.commit_head.proofs.laws.commits.Goals as goal
-
-pub returns : goal.returns
-returns c = commit_on_books

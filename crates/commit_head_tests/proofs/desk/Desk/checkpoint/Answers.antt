@@ -1,5 +1,0 @@
-use Rattle.commit_head_tests.proofs.Waiting.{all_after_checkpoint}
-use Rattle.commit_head_tests.proofs.desk.Desk.checkpoint.Goals as goal
-
-pub invariant_of-self : goal.invariant_of-self
-invariant_of-self c = all_after_checkpoint c.self.inside.works.items c.self.inside.head c.checkpoint.new.self c.checkpoint.ensures.window c.checkpoint.ensures.kept c.self.invariant

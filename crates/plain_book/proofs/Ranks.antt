@@ -1,0 +1,152 @@
+-- The result of a binary search in sorted rows.
+use Rattle.std.proofs.Common.{◌≡◌, ℕ, zero, suc, ◌+◌, ◌<◌, ◌≤◌, Bool, true, false, List, [], ◌∷◌, ◌++◌, length, get_or, set, take, drop, Some, None, Result, Ok, Err, refl, sym, ap, subst, ◌∙◌, inl, inr, ⊎_elim, arith}
+use Rattle.std.specs.Prelude.{filter, bytes_eq}
+use Rattle.std.specs.List.{AllByRecursion, HoldsAt, insert}
+use Rattle.std.specs.List.Sorted.{IsBinarySearchResult, IsSearchInRange, IsNonDecreasingBy}
+use Rattle.std.specs.declared.cmp.Ordering.TheVariants.{Less, Equal, Greater}
+use Rattle.std.specs.Ordering.{is_lt, nat_cmp, ordering_index, ordering_reverse}
+use Rattle.std.specs.Cmp.Lexicographic.{slice_cmp, nat_list_cmp_total}
+use Rattle.std.specs.FinMap.{slice_cmp-IsAntisymmetric, nat_cmp-IsAntisymmetric}
+use Rattle.std.proofs.lemmas.Bool.{cases_Bool}
+use Rattle.std.proofs.lemmas.List.{set_split, take-append-drop}
+use Rattle.std.proofs.lemmas.List.Sorted.{searchable_from_sorted}
+use Rattle.entry_book.specs.Rows.{Bytes}
+use Rattle.entry_book.specs.Order.{Within, Ascending, first, is_before, with_row}
+use Rattle.entry_book.proofs.Items.{within_get}
+use Rattle.entry_book.proofs.Keys.{row_alone}
+use Rattle.entry_book.proofs.Sets.{All-within, before-irrefl, before-trans, from_within_append, from_within_filter, text_is}
+use Rattle.plain_book.specs.Ranks.{IsRank}
+
+-- ---- lists of which all elements, or none, pass a test
+
+pub none_pass : {X : Type 0} (p : X → Bool) (xs : List X) → AllByRecursion (λ x. p x ≡ false) xs → filter p xs ≡ []
+none_pass p [] h = refl
+none_pass p (x ∷ xs) h = rw h.0 (none_pass p xs h.1)
+
+pub all_pass : {X : Type 0} (p : X → Bool) (xs : List X) → AllByRecursion (λ x. p x ≡ true) xs → filter p xs ≡ xs
+all_pass p [] h = refl
+all_pass p (x ∷ xs) h = rw h.0 (ap (λ l. x ∷ l) (all_pass p xs h.1))
+
+pub none_within : {X : Type 0} (p : X → Bool) (xs : List X) → ((x : X) → Within xs x → p x ≡ true → ⊥) → filter p xs ≡ []
+none_within p [] h = refl
+none_within p (x ∷ xs) h =
+    let f : p x ≡ false = ⊎_elim (λ t. absurd (h x (inl refl) t)) (λ f. f) (cases_Bool (p x)) in
+    rw f (none_within p xs (λ y w t. h y (inr w) t))
+
+within_at : {X : Type 0} (xs : List X) (n : ℕ) (d : X) → n < length xs → Within xs (get_or xs n d)
+within_at [] n d h = absurd (omega arith)
+within_at (x ∷ xs) zero d h = inl refl
+within_at (x ∷ xs) (suc n) d h = inr (within_at xs n d (omega arith))
+
+pub not_before : (x y : Bytes) → is_before x y ≡ true → is_before y x ≡ false
+not_before x y h = ⊎_elim (λ t. absurd (before-irrefl x (before-trans x y x h t))) (λ f. f) (cases_Bool (is_before y x))
+
+not_itself : (x : Bytes) → is_before x x ≡ false
+not_itself x = ⊎_elim (λ t. absurd (before-irrefl x t)) (λ f. f) (cases_Bool (is_before x x))
+
+-- ---- the order of the results of comparisons
+
+less : (x y : Bytes) → slice_cmp nat_cmp x y ≡ Less → is_before x y ≡ true
+unfolding is_before
+less x y h = ap is_lt h
+
+greater : (x y : Bytes) → slice_cmp nat_cmp x y ≡ Greater → is_before y x ≡ true
+unfolding is_before
+greater x y h = ap is_lt (nat_list_cmp_total.antisymm y x ∙ ap ordering_reverse h)
+
+equal : (x y : Bytes) → slice_cmp nat_cmp x y ≡ Equal → x ≡ y
+equal x y h = slice_cmp-IsAntisymmetric nat_cmp-IsAntisymmetric x y h
+
+module _ {X : Type 0} (key : X → Bytes) where
+  -- no later row is before an earlier one
+  adjacent : (xs : List X) → Ascending key xs → (n : ℕ) (d : X) → suc n < length xs → is_before (key (get_or xs (suc n) d)) (key (get_or xs n d)) ≡ false
+  adjacent [] a n d h = absurd (omega arith)
+  adjacent (x ∷ []) a n d h = absurd (omega arith)
+  adjacent (x ∷ y ∷ xs) a zero d h = not_before (key x) (key y) a.0.0
+  adjacent (x ∷ y ∷ xs) a (suc n) d h = adjacent (y ∷ xs) a.1 n d (omega arith)
+
+  next : (n : ℕ) → n + 1 ≡ suc n
+  next n = omega arith
+
+  rises : (xs : List X) (k : Bytes) → Ascending key xs → IsNonDecreasingBy (λ y. ordering_index (slice_cmp nat_cmp (key y) k)) xs
+  unfolding is_before
+  rises xs k a = searchable_from_sorted nat_list_cmp_total key xs k (λ n d l h. rw (ap (λ m. is_lt (slice_cmp nat_cmp (key (get_or xs m d)) (key (get_or xs n d)))) (next n)) (adjacent xs a n d (omega arith)))
+
+  module _ (k : Bytes) where
+    -- the rows before an index are below the key; the rows from an index on are above it
+    abbrev LowBelow : List X → ℕ → Type 0
+    LowBelow xs n = (i : ℕ) (d : X) → i < n → is_before (key (get_or xs i d)) k ≡ true
+
+    abbrev HighFrom : List X → ℕ → Type 0
+    HighFrom xs n = (i : ℕ) (d : X) → n ≤ i → i < length xs → is_before k (key (get_or xs i d)) ≡ true
+
+    all_above : (xs : List X) → HighFrom xs 0 → AllByRecursion (λ x. is_before k (key x) ≡ true) xs
+    all_above [] h = tt
+    all_above (x ∷ xs) h = (h 0 x (omega arith) (omega arith), all_above xs (λ i d l m. h (suc i) d (omega arith) (omega arith)))
+
+    none_below : (xs : List X) → AllByRecursion (λ x. is_before k (key x) ≡ true) xs → AllByRecursion (λ x. is_before (key x) k ≡ false) xs
+    none_below [] h = tt
+    none_below (x ∷ xs) h = (not_before k (key x) h.0, none_below xs h.1)
+
+    gap : (xs : List X) (n : ℕ) → n ≤ length xs → LowBelow xs n → HighFrom xs n → (take n xs ≡ filter (λ x. is_before (key x) k) xs) × (drop n xs ≡ filter (λ x. is_before k (key x)) xs)
+    gap xs zero h low high =
+        let above = all_above xs high in
+        (sym (none_pass (λ x. is_before (key x) k) xs (none_below xs above)), sym (all_pass (λ x. is_before k (key x)) xs above))
+    gap [] (suc n) h low high = absurd (omega arith)
+    gap (x ∷ xs) (suc n) h low high =
+        let r = gap xs n (omega arith) (λ i d l. low (suc i) d (omega arith)) (λ i d l m. high (suc i) d (omega arith) (omega arith)) in
+        let b : is_before (key x) k ≡ true = low 0 x (omega arith) in
+        let f : is_before k (key x) ≡ false = not_before (key x) k b in
+        (rw b (ap (λ l. x ∷ l) r.0), rw f r.1)
+
+    there : (xs : List X) (n : ℕ) → Ascending key xs → n < length xs → HoldsAt (λ x. key x ≡ k) xs n → (take n xs ≡ filter (λ x. is_before (key x) k) xs) × (drop (suc n) xs ≡ filter (λ x. is_before k (key x)) xs)
+    there [] n a h e = absurd (omega arith)
+    there (x ∷ xs) zero a h e =
+        let q : key x ≡ k = e x in
+        let above : AllByRecursion (λ y. is_before k (key y) ≡ true) xs = subst (λ t. AllByRecursion (λ y. is_before t (key y) ≡ true) xs) q a.0 in
+        let f : is_before (key x) k ≡ false = subst (λ t. is_before t k ≡ false) (sym q) (not_itself k) in
+        let g : is_before k (key x) ≡ false = subst (λ t. is_before k t ≡ false) (sym q) (not_itself k) in
+        (rw f (sym (none_pass (λ x. is_before (key x) k) xs (none_below xs above))), rw g (sym (all_pass (λ x. is_before k (key x)) xs above)))
+    there (x ∷ xs) (suc n) a h e =
+        let r = there xs n a.1 (omega arith) (λ d. e d) in
+        let w : Within xs (get_or xs n x) = within_at xs n x (omega arith) in
+        let b : is_before (key x) k ≡ true = subst (λ t. is_before (key x) t ≡ true) (e x) (All-within (λ y. is_before (key x) (key y) ≡ true) xs (get_or xs n x) a.0 w) in
+        let f : is_before k (key x) ≡ false = not_before (key x) k b in
+        (rw b (ap (λ l. x ∷ l) r.0), rw f r.1)
+
+    -- the result of a binary search is the key's index
+    pub searched : (xs : List X) (r : Result ℕ ℕ) → Ascending key xs → IsSearchInRange r (length xs) → IsBinarySearchResult (λ y. slice_cmp nat_cmp (key y) k) xs r → IsRank key xs k r
+    searched xs (Ok n) a h p =
+        let e : HoldsAt (λ x. key x ≡ k) xs n = λ d. equal (key (get_or xs n d)) k (p d) in
+        let r = there xs n a h e in
+        (h, e, r.0, r.1)
+    searched xs (Err n) a h p =
+        let q = p (rises xs k a) in
+        let r = gap xs n h (λ i d l. less (key (get_or xs i d)) k (q.0 i d (omega arith) l)) (λ i d l m. greater (key (get_or xs i d)) k (q.1 i d l m)) in
+        (h, r.0, r.1)
+
+    -- ---- the row of the key
+
+    pub found : (xs : List X) (n : ℕ) (x : X) → Ascending key xs → x ≡ get_or xs n x → IsRank key xs k (Ok n) → Some x ≡ first (filter (λ y. bytes_eq (key y) k) xs)
+    found xs n x a e p =
+        let q : key x ≡ k = ap key e ∙ p.1 x in
+        sym (ap first (row_alone key k xs x a (within_get xs n x p.0 e) q))
+
+    pub missing : (xs : List X) (n : ℕ) → IsRank key xs k (Err n) → None ≡ first (filter (λ y. bytes_eq (key y) k) xs)
+    missing xs n p = sym (ap first (none_within (λ y. bytes_eq (key y) k) xs (λ y w t.
+        let e : key y ≡ k = text_is (key y) k t in
+        let v : Within (take n xs ++ drop n xs) y = subst (λ l. Within l y) (sym (take-append-drop n xs)) w in
+        ⊎_elim
+        (λ l. before-irrefl k (subst (λ t. is_before t k ≡ true) e (from_within_filter (λ x. is_before (key x) k) xs y (subst (λ l. Within l y) p.1 l)).1))
+        (λ r. before-irrefl k (subst (λ t. is_before k t ≡ true) e (from_within_filter (λ x. is_before k (key x)) xs y (subst (λ l. Within l y) p.2 r)).1))
+        (from_within_append (take n xs) (drop n xs) y v))))
+
+    -- ---- a row put at the index
+
+    pub put_at : (xs : List X) (n : ℕ) (x : X) → IsRank key xs k (Ok n) → set xs n x ≡ with_row key k (Some x) xs
+    unfolding with_row
+    put_at xs n x p = set_split xs n x p.0 ∙ (ap (λ l. l ++ x ∷ drop (suc n) xs) p.2 ∙ ap (λ l. filter (λ x. is_before (key x) k) xs ++ x ∷ l) p.3)
+
+    pub put_in : (xs : List X) (n : ℕ) (x : X) → IsRank key xs k (Err n) → insert xs n x ≡ with_row key k (Some x) xs
+    unfolding with_row
+    put_in xs n x p = ap (λ l. l ++ x ∷ drop n xs) p.1 ∙ ap (λ l. filter (λ x. is_before (key x) k) xs ++ x ∷ l) p.2

@@ -1,5 +1,0 @@
-use Rattle.shared_registry.proofs.Steps.{admits}
-use Rattle.shared_registry.proofs.desk.Core.seat.Goals as goal
-
-pub reader-requires : goal.reader-requires
-reader-requires g c = admits _ _

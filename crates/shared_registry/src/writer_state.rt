@@ -1,0 +1,188 @@
+//! Which state does the registry's writer lock guard?
+
+ghost use Rattle.std.specs.Prelude.{◌≡◌, [], IfOk, MatchResult};
+ghost use mathlib.Core.List.{IsPrefix};
+ghost use Rattle.batch_work.specs.Working.{status_of};
+ghost use Rattle.shared_registry.specs.OutcomesPrivate.{IsCommitOutcome};
+ghost use Rattle.shared_registry.specs.Seated.{DuringCall};
+ghost use Rattle.shared_registry.specs.Seats.{AllBelow};
+ghost use Rattle.shared_registry.specs.Works.{IsRead};
+
+use crate::commit::decide;
+use crate::history::{HistoryPrefix, History, RegistryId};
+use crate::published::{Published, opening};
+use crate::recent::{Recent, Replaced};
+use crate::rule::{Rule, View};
+use crate::seat::{NoEntry, Receipt, Seat};
+use batch_work::{Status, Work};
+use commit_head::{Commit, Head};
+use left_right::writer::Writer;
+use spiffe_name::TrustDomain;
+use std::alloc::{AllocError, Global};
+use std::marker::Model;
+use std::mem::replace;
+use std::sync::Wait;
+
+/// The writer of the published value.
+pub(crate) type WindowWriter<J> = Writer<Published, Published, View, Rule<J>>;
+
+/// No seat is given: there are 32 already, no reader is available, or a reference count can't grow.
+#[derive(Clone, Copy, Debug, PartialEq, Eq, Drop)]
+pub struct NoSeat;
+
+/// State guarded by the registry's writer lock: the head, the writer, the boards published last, the number of seats, and
+/// the whole journal. The model in contracts is the journal.
+pub(crate) struct WriterState<J: RegistryId> {
+    alloc: Global,
+    head: Head,
+    writer: Option<WindowWriter<J>>,
+    recent: Recent,
+    seats: usize,
+    start: HistoryPrefix<J>,
+    last: HistoryPrefix<J>,
+}
+
+impl<J: RegistryId> Model for WriterState<J> {
+    ghost use Rattle.std.specs.Prelude.{◌≡◌, List, [], IsSome, IfSome, drop};
+    ghost use Rattle.commit_head.specs.declared.item.Item.{Item};
+    ghost use Rattle.shared_registry.specs.WriterStates.{IsPublished, IsTied};
+
+    ghost Value = { List Item };
+
+    ghost view = { λ c. c.last };
+
+    ghost invariant = { λ c. IsTied J.domain c.last c.head × (c.start ≡ []) × IsSome c.writer × IfSome c.writer (λ w. IsPublished J.history J.domain c.last w.desk.shown.value × (drop w.behind w.log.items ≡ [])) };
+}
+
+impl<J: RegistryId> WriterState<J> {
+    ghost use Rattle.std.specs.Prelude.{◌≡◌, ◌≤◌, [], IfOk};
+
+    /// Makes the state of an empty book of the trust domain. The error is out of memory.
+    pub(crate) fn new(
+        alloc: Global,
+        domain: TrustDomain,
+        prefix: HistoryPrefix<J>,
+    ) -> Result<WriterState<J>, AllocError>
+        requires prefix { prefix ≡ [] }
+        requires domain { domain ≡ J.domain }
+        ensures { IfOk result (λ c. c ≡ []) }
+    {
+        let head = Head::new(alloc, domain)?;
+        let first = opening(alloc, &prefix, &head)?;
+        let second = first.again()?;
+        let recent = Recent::none(alloc)?;
+        let writer = WindowWriter::<J>::new(alloc, first, second, 32)?;
+        Ok(WriterState {
+            alloc,
+            head,
+            writer: Some(writer),
+            recent,
+            seats: 0,
+            start: prefix.again(),
+            last: prefix,
+        })
+    }
+
+    /// Returns the next seat, which has seen nothing.
+    pub(crate) fn seat(&mut self) -> Result<Seat<J>, NoSeat>
+        ensures same { self.new ≡ self.old }
+        ensures seat { IfOk result (λ s. (s.seen ≡ []) × (s.learnt ≡ []) × (s.own ≡ []) × (s.calls ≡ 0)) }
+    {
+        let Some(writer) = &self.writer else {
+            unreachable!()
+        };
+        let number = self.seats;
+        if number >= 32 {
+            return Err(NoSeat);
+        }
+        let Ok(snapshot) = writer.published().again() else {
+            return Err(NoSeat);
+        };
+        let Ok(reader) = writer.factory().reader() else {
+            return Err(NoSeat);
+        };
+        let seat = Seat::new(self.alloc, reader, number, &self.start, snapshot);
+        self.seats = number + 1;
+        Ok(seat)
+    }
+
+    /// Lets the seat see every item so far, and returns the receipt of that.
+    pub(crate) fn news(&mut self, seat: &mut Seat<J>) -> Result<Receipt<J>, NoEntry>
+        ensures same { self.new ≡ self.old }
+        ensures goes { DuringCall seat.old seat.new }
+        ensures own { seat.new.own ≡ seat.old.own }
+        ensures heard { IfOk result (λ _. IsPrefix seat.old.learnt seat.new.seen) }
+        ensures seen { MatchResult result (λ r. (r ≡ seat.new.seen) × (r ≡ self.old)) (λ _. seat.new.seen ≡ seat.old.seen) }
+    {
+        let Some(writer) = &self.writer else {
+            unreachable!()
+        };
+        if !seat.fits(writer.published()) {
+            return Err(NoEntry);
+        }
+        seat.see(self.last.again());
+        Ok(seat.receipt())
+    }
+
+    /// Lets the seat see all items so far, and commits a ready work as the seat's call, or returns why not. What a commit
+    /// has replaced is returned, to be dropped without the lock.
+    pub(crate) fn commit<R: Wait>(
+        &mut self,
+        rt: &R,
+        history: &History<J>,
+        seat: &mut Seat<J>,
+        work: &Work,
+    ) -> (Result<Commit, NoEntry>, Option<Replaced>)
+        requires call { AllBelow seat.old.calls seat.old.own }
+        requires ready { status_of work.now ≡ Status.Ready }
+        requires read { IsRead J.domain seat.old.seen work.now.batch work.now }
+        ensures goes { DuringCall seat.old seat.new }
+        ensures decided { IsCommitOutcome self.old self.new seat.old seat.new work.now result.0 }
+    {
+        let Some(writer) = self.writer.take() else {
+            unreachable!()
+        };
+        let (writer, decided, before) = decide(
+            rt,
+            self.alloc,
+            history,
+            &mut self.head,
+            &mut self.last,
+            writer,
+            seat,
+            work,
+        );
+        let replaced = self.recent.replace(writer.published(), before);
+        match replace(&mut self.writer, Some(writer)) {
+            None => {}
+            Some(_other) => unreachable!(),
+        }
+        (decided, replaced)
+    }
+
+    /// How many items are kept.
+    pub(crate) fn kept(&self) -> u64
+        ensures { result ≤ 4096 }
+    {
+        self.head.kept()
+    }
+
+    /// Ends the writer.
+    pub(crate) fn close<R: Wait>(self, rt: &R) {
+        let WriterState {
+            alloc: _,
+            head: _,
+            writer,
+            recent: _,
+            seats: _,
+            start: _,
+            last: _,
+        } = self;
+        match writer {
+            Some(writer) => {
+                let _last = writer.take(rt);
+            }
+            None => {}
+        }
+    }
+}
