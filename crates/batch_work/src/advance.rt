@@ -15,9 +15,9 @@ use crate::advance::agents::{asked_next, drop_agent_next, set_agent_next};
 use crate::advance::authorised::{held_next, identity_next, own_next, trusted_turn};
 use crate::advance::bundles::{drop_next, set_bundle_next, users_next};
 use crate::advance::entries::{
-    unless_similar_next, bundle_next, create_next, delete_next, page_next, prune_next, update_next,
+    bundle_next, create_next, delete_next, page_next, prune_next, unless_similar_next, update_next,
 };
-use crate::phase::{WalkFor, Next, Phase};
+use crate::phase::{Next, Phase, WalkFor};
 use crate::rows::first_of;
 use entry_book::{Op, OpReply, Sequence, Shared};
 use spiffe_name::SpiffeId;

@@ -10,7 +10,7 @@ use crate::stage::{Begun, Stage};
 use crate::take::settled;
 use crate::versions::{Versions, earlier_in};
 use crate::window::Window;
-use entry_book::{Batch, ReplyOutcome, Refusal, both};
+use entry_book::{Batch, Refusal, ReplyOutcome, both};
 use std::alloc::AllocError;
 use version_book::Version;
 

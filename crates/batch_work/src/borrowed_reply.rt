@@ -3,7 +3,7 @@
 ghost use Rattle.std.specs.Prelude.{◌≡◌, IfOk};
 ghost use Rattle.std.specs.Option.{option_copied};
 
-use entry_book::{Agent, Bundle, Entry, OpReply, ReplyOutcome, Refusal, Reply, Sequence, Shared};
+use entry_book::{Agent, Bundle, Entry, OpReply, Refusal, Reply, ReplyOutcome, Sequence, Shared};
 use std::alloc::{AllocError, Global};
 use std::marker::Model;
 use uuid::Uuid;
@@ -163,7 +163,10 @@ fn copied<T: Clone>(row: &Option<Borrowed<'_, T>>) -> Result<Option<T>, AllocErr
 }
 
 /// Returns the same replies with copies of the rows. The error is out of memory.
-fn kept_replies(alloc: Global, replies: &[BorrowedOpReply<'_>]) -> Result<Sequence<OpReply>, AllocError>
+fn kept_replies(
+    alloc: Global,
+    replies: &[BorrowedOpReply<'_>],
+) -> Result<Sequence<OpReply>, AllocError>
     ensures { IfOk result (λ kept. kept ≡ replies.now) }
 {
     let mut kept = Sequence::empty(alloc);

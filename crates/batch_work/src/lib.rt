@@ -32,13 +32,13 @@
 
 mod advance;
 mod arrivals;
-mod read_only;
 mod begin;
+mod borrowed_reply;
 mod domains;
 pub mod laws;
-mod borrowed_reply;
 mod look;
 mod phase;
+mod read_only;
 mod rows;
 mod sorted;
 mod stage;
@@ -49,8 +49,8 @@ mod walk;
 mod window;
 mod work;
 
-pub use read_only::answer;
 pub use borrowed_reply::{BorrowedOpReply, BorrowedReply, BorrowedRows};
+pub use read_only::answer;
 pub use status::Status;
 pub use window::Window;
 pub use work::Work;

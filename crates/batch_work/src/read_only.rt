@@ -16,8 +16,10 @@ ghost use Rattle.batch_work.specs.Working.{MayBegin, base_in, reply_there};
 mod authorised;
 mod walk;
 
+use crate::borrowed_reply::{
+    BorrowedOpReply, BorrowedOutcome, BorrowedReply, BorrowedRows, borrowed,
+};
 use crate::read_only::authorised::{authorised_reply, trust_reply};
-use crate::borrowed_reply::{BorrowedOpReply, BorrowedOutcome, BorrowedReply, BorrowedRows, borrowed};
 use crate::versions::Versions;
 use crate::window::Window;
 use entry_book::{Batch, Op, OpRefusal, PageQuery, Refusal, Sequence};

@@ -9,7 +9,9 @@ ghost use Rattle.batch_work.specs.WorkInvariants.{IsStartOf, Looked, StageInvari
 use crate::phase::{Next, Phase};
 use crate::stage::{Begun, Course, Found, Stage};
 use crate::versions::version_gone;
-use entry_book::{Batch, KeptBatch, OpRefusal, OpReply, ReplyOutcome, Refusal, Reply, Sequence, Shared};
+use entry_book::{
+    Batch, KeptBatch, OpRefusal, OpReply, Refusal, Reply, ReplyOutcome, Sequence, Shared,
+};
 use std::alloc::{AllocError, Global};
 use version_book::{Changes, Mark};
 

@@ -76,7 +76,9 @@ fn add_op_replies(alloc: Global, text: &mut String, replies: &[OpReply]) -> Resu
 
 fn add_outcome(alloc: Global, text: &mut String, outcome: &ReplyOutcome) -> Result<(), Fail> {
     match outcome {
-        ReplyOutcome::Committed(replies) | ReplyOutcome::Answered(replies) | ReplyOutcome::Repeated(replies) => {
+        ReplyOutcome::Committed(replies)
+        | ReplyOutcome::Answered(replies)
+        | ReplyOutcome::Repeated(replies) => {
             add_op_replies(alloc, text, replies.get().as_slice())
         }
         ReplyOutcome::Refused(_) => Ok(()),

@@ -45,7 +45,12 @@ fn continues(alloc: Global, window: &mut Window, text: &str) -> Result<(), Fail>
 }
 
 /// Does the same for a batch this many times.
-fn continues_often(alloc: Global, window: &mut Window, times: &str, text: &str) -> Result<(), Fail> {
+fn continues_often(
+    alloc: Global,
+    window: &mut Window,
+    times: &str,
+    text: &str,
+) -> Result<(), Fail> {
     for _ in 0..times.parse::<u64>()? {
         continues(alloc, window, text)?;
     }

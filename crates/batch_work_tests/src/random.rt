@@ -151,7 +151,16 @@ fn round(
 ) -> Result<(), Fail> {
     let text = batch_text(alloc, state, newest_number(window))?;
     let work = ended(alloc, window, text.as_str())?;
-    let compared = compare(rt, alloc, window, book, history, &work, text.as_str(), as_text);
+    let compared = compare(
+        rt,
+        alloc,
+        window,
+        book,
+        history,
+        &work,
+        text.as_str(),
+        as_text,
+    );
     drop(work);
     compared
 }

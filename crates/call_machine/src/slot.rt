@@ -11,7 +11,7 @@ use batch_work::{Status, Work};
 use call_answers::{CallAnswer, Decision, KnownCall};
 use call_events::EventRefusal;
 use commit_head::{Commit, Head, Prepared};
-use entry_book::{Batch, ReplyOutcome, Refusal, Reply};
+use entry_book::{Batch, Refusal, Reply, ReplyOutcome};
 use std::alloc::{AllocError, Global};
 use std::mem::replace;
 use version_book::Mark;

@@ -108,7 +108,14 @@ pub fn answer(
 ) -> Result<String, Fail> {
     let before = machine_text(alloc, machine, last)?;
     let answer = machine.apply(event(alloc, as_text)?)?;
-    let text = checked_text(rt, alloc, machine, as_text, &answer, (last, before.as_str()));
+    let text = checked_text(
+        rt,
+        alloc,
+        machine,
+        as_text,
+        &answer,
+        (last, before.as_str()),
+    );
     drop(answer);
     text
 }

@@ -4,7 +4,7 @@ use batch_work::Status;
 use call_answers::{CallAnswer, Decision, Done, KnownCall};
 use call_events::RefusedEvent;
 use std::alloc::Global;
-use test_batches::{Failed, mark_words, kind_at_place, reply_text};
+use test_batches::{Failed, kind_at_place, mark_words, reply_text};
 use version_book::Mark;
 
 fn conflict_text(alloc: Global, place: u64) -> Result<String, Failed> {

@@ -11,13 +11,13 @@
 #![tactic(auto)]
 
 #[cfg(test)]
-mod test_head;
-#[cfg(test)]
 mod playing;
 #[cfg(test)]
 mod random;
 #[cfg(test)]
 mod telling;
+#[cfg(test)]
+mod test_head;
 #[cfg(test)]
 mod wanted;
 #[cfg(test)]

@@ -1,7 +1,7 @@
-//! Tables of histories on a desk, with the expected answers.
+//! Tables of histories on a test head, with the expected answers.
 
-use crate::test_head::TestHead;
 use crate::telling::{commit_text, item_text};
+use crate::test_head::TestHead;
 use crate::wanted::is_text;
 use commit_head::Commit;
 use std::alloc::{AllocError, Global};
@@ -46,7 +46,12 @@ fn continues(alloc: Global, test_head: &mut TestHead, text: &str) -> Result<(), 
 }
 
 /// Does the same for a batch this many times.
-fn continues_often(alloc: Global, test_head: &mut TestHead, times: u64, text: &str) -> Result<(), Fail> {
+fn continues_often(
+    alloc: Global,
+    test_head: &mut TestHead,
+    times: u64,
+    text: &str,
+) -> Result<(), Fail> {
     for _ in 0..times {
         continues(alloc, test_head, text)?;
     }
@@ -129,7 +134,12 @@ fn runs(alloc: Global, test_head: &mut TestHead, line: &str) -> Result<(), Fail>
 }
 
 /// Plays a line of a table.
-fn plays_line(rt: &impl Abort, alloc: Global, test_head: &mut TestHead, line: &str) -> Result<(), Fail> {
+fn plays_line(
+    rt: &impl Abort,
+    alloc: Global,
+    test_head: &mut TestHead,
+    line: &str,
+) -> Result<(), Fail> {
     if let Some((question, expected)) = line.split_once(" => ") {
         let got = answer(alloc, test_head, question)?;
         is_text(rt, got.as_str(), expected, line);

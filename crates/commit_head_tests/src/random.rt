@@ -3,8 +3,8 @@
 
 ghost use Rattle.std.specs.Prelude.{◌≡◌};
 
-use crate::test_head::TestHead;
 use crate::playing::{begin, first_test_head};
+use crate::test_head::TestHead;
 use crate::wanted::{holds, is_number, is_text};
 use batch_work::Work;
 use commit_head::{Commit, Head, Item};
@@ -225,7 +225,7 @@ fn all_rounds(
     Ok(())
 }
 
-/// Rounds on a desk and on the plain book, which have the same place at the end.
+/// Rounds on a test head and on the plain book, which have the same place at the end.
 fn play_both(
     rt: &impl Abort,
     alloc: Global,
@@ -242,7 +242,11 @@ fn play_both(
     Ok(())
 }
 
-fn play_with_the_plain_book(rt: &impl Abort, alloc: Global, test_head: &mut TestHead) -> Result<(), Fail> {
+fn play_with_the_plain_book(
+    rt: &impl Abort,
+    alloc: Global,
+    test_head: &mut TestHead,
+) -> Result<(), Fail> {
     let mut book = plain_book(alloc)?;
     play_both(rt, alloc, test_head, &mut book)
 }

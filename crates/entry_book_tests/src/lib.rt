@@ -20,10 +20,10 @@ mod limits;
 #[cfg(test)]
 mod making;
 #[cfg(test)]
+mod ops_of_text;
+#[cfg(test)]
 mod pages;
 #[cfg(test)]
 mod rows;
-#[cfg(test)]
-mod ops_of_text;
 #[cfg(test)]
 mod wanted;

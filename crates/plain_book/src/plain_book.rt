@@ -5,7 +5,7 @@ ghost use Rattle.std.specs.Prelude.{◌≡◌};
 use crate::book::Book;
 use crate::older::{among_kept, push_older};
 use crate::verdict::{Verdict, verdict_on};
-use entry_book::{Batch, OpRefusal, ReplyOutcome, Refusal, Reply};
+use entry_book::{Batch, OpRefusal, Refusal, Reply, ReplyOutcome};
 use spiffe_name::TrustDomain;
 use std::alloc::{AllocError, Global};
 use std::marker::Model;

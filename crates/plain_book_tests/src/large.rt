@@ -2,7 +2,7 @@
 //! follow from how the entries were made.
 
 use crate::draws::nth;
-use crate::playing::{answers, first_book, plays_on, as_text};
+use crate::playing::{answers, as_text, first_book, plays_on};
 use crate::wanted::{is_number, is_text};
 use plain_book::PlainBook;
 use std::alloc::Global;

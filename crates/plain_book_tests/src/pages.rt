@@ -2,7 +2,7 @@
 //! search knows the entries by the words that created them.
 
 use crate::draws::drawn;
-use crate::playing::{first_book, plays_on, as_text};
+use crate::playing::{as_text, first_book, plays_on};
 use crate::wanted::{holds, is_text};
 use plain_book::PlainBook;
 use std::alloc::Global;

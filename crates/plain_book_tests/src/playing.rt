@@ -4,7 +4,7 @@ ghost use Rattle.std.specs.Prelude.{◌≡◌};
 
 use crate::making::batch;
 use crate::wanted::is_text;
-use entry_book::{Batch, Op, OpReply, ReplyOutcome, Reply};
+use entry_book::{Batch, Op, OpReply, Reply, ReplyOutcome};
 use plain_book::PlainBook;
 use std::alloc::Global;
 use std::process::Abort;
@@ -61,8 +61,9 @@ impl Answer {
     /// The replies to the operations; none if the batch is refused.
     pub fn replies(&self) -> &[OpReply] {
         match &self.reply.outcome {
-            ReplyOutcome::Committed(replies) | ReplyOutcome::Answered(replies) | ReplyOutcome::Repeated(replies) =>
-                replies.get().as_slice(),
+            ReplyOutcome::Committed(replies)
+            | ReplyOutcome::Answered(replies)
+            | ReplyOutcome::Repeated(replies) => replies.get().as_slice(),
             ReplyOutcome::Refused(_) => &[],
         }
     }

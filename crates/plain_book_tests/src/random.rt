@@ -8,7 +8,7 @@ use crate::requests::{
 use crate::rows::{BookRows, are_children_listed, are_of, is_lawful, rows_of};
 use crate::search::{bit, does_name, ends, has_cycle, is_alias, listed, number_of};
 use crate::wanted::holds;
-use entry_book::{Agent, Bundle, DropMode, Entry, NewEntry, Op, OpReply, ReplyOutcome, PageQuery};
+use entry_book::{Agent, Bundle, DropMode, Entry, NewEntry, Op, OpReply, PageQuery, ReplyOutcome};
 use plain_book::PlainBook;
 use std::alloc::Global;
 use std::process::Abort;
@@ -84,7 +84,12 @@ fn note_change(came: &mut String, op: &Op, reply: &OpReply) -> Result<(), Fail> 
 }
 
 /// Notes the outcome of a request, whose reply is also given as text.
-fn note_all(came: &mut String, request: &Request, answer: &Answer, as_text: &str) -> Result<(), Fail> {
+fn note_all(
+    came: &mut String,
+    request: &Request,
+    answer: &Answer,
+    as_text: &str,
+) -> Result<(), Fail> {
     if let Some((head, _)) = as_text.split_once(" at ") {
         note(came, head, true)?;
     }

@@ -166,13 +166,25 @@ pub fn random_request(
 fn keep_answer(past: &mut Past, request: Request, as_text: String) -> Result<(), Fail> {
     let Request { token, ops, .. } = request;
     if let Some(token) = token {
-        return add(&mut past.kept, Kept { token, ops, as_text });
+        return add(
+            &mut past.kept,
+            Kept {
+                token,
+                ops,
+                as_text,
+            },
+        );
     }
     Ok(())
 }
 
 /// Stores the rows after the request and its reply, if it was committed now.
-pub fn keep(past: &mut Past, request: Request, as_text: String, rows: BookRows) -> Result<(), Fail> {
+pub fn keep(
+    past: &mut Past,
+    request: Request,
+    as_text: String,
+    rows: BookRows,
+) -> Result<(), Fail> {
     if !as_text.as_str().starts_with("committed") {
         drop(rows);
         return Ok(());

@@ -1,4 +1,4 @@
--- The values of the lines of records are neat: `put` keeps the keys of an object in order, and no value nests deep.
+-- The values of the lines of records are without floats: `put` keeps the keys of an object in order, and no value nests deep.
 use Rattle.std.proofs.Common.{◌≡◌, ℕ, suc, true, List, [], ◌∷◌, map, Option, None, Some, refl}
 use Rattle.std.specs.Prelude.{codes}
 use Rattle.json.proofs.Printed.Utf8.{are_ascii, IsUtf8-are_ascii}

@@ -32,7 +32,7 @@ mod printing;
 pub use laws::{one_line_law, read_back_law, spelled_law};
 pub use line_reading::{read_event, read_record, read_request};
 pub use printing::{
-    AnsweredCall, CallOrder, CallRecord, CallReply, EventRefused, BorrowedCallReply, PrintJson,
+    AnsweredCall, BorrowedCallReply, CallOrder, CallRecord, CallReply, EventRefused, PrintJson,
     SeatRefusal, SeatRefused, print_line, print_list, print_number, print_text, printed_events_law,
     printed_law, printed_records_law, printed_seats_law,
 };

@@ -8,8 +8,8 @@
 
 pub(crate) mod batches;
 pub(crate) mod book_rows;
-pub(crate) mod events;
 pub(crate) mod borrowed_replies;
+pub(crate) mod events;
 pub(crate) mod marks;
 pub(crate) mod names;
 pub(crate) mod print_json;
@@ -20,8 +20,8 @@ pub(crate) mod seats;
 pub(crate) mod text;
 pub(crate) mod values;
 
-pub use events::{CallOrder, EventRefused};
 pub use borrowed_replies::BorrowedCallReply;
+pub use events::{CallOrder, EventRefused};
 pub use print_json::{PrintJson, print_line, print_list, print_number};
 pub use records::CallRecord;
 pub use replies::{AnsweredCall, CallReply};

@@ -8,7 +8,7 @@ use line_devices::{CountedDevice, Input, KEPT_BYTES, Line, Output};
 use std::alloc::{AllocError, Global};
 use std::process::Abort;
 use std::test::Fail;
-use test_devices::{FakeReader, Chunking, FakeWriter, Faults};
+use test_devices::{Chunking, FakeReader, FakeWriter, Faults};
 
 const TEXT: &[u8] = b"one\n\ntwo\r\nthree\nlast";
 
@@ -27,7 +27,12 @@ fn roomy_writer(
 }
 
 /// Returns true if the engine succeeds over these devices.
-fn ends_well(fake_reader: &mut FakeReader<'_>, fake_writer: &mut FakeWriter, line: &mut Line, most: u32) -> bool {
+fn ends_well(
+    fake_reader: &mut FakeReader<'_>,
+    fake_writer: &mut FakeWriter,
+    line: &mut Line,
+    most: u32,
+) -> bool {
     let mut input = Input::new(CountedDevice::new(fake_reader));
     let mut output = Output::new(CountedDevice::new(fake_writer));
     number_lines(&mut input, &mut output, line, u64::from(most)).is_ok()
@@ -80,7 +85,12 @@ fn is_numbered(rt: &impl Abort, alloc: Global, line: &mut Line, call: u64) -> Re
         "ends well",
         call,
     );
-    holds_at(rt, fake_writer.bytes.as_slice() == NUMBERED, "is numbered", call);
+    holds_at(
+        rt,
+        fake_writer.bytes.as_slice() == NUMBERED,
+        "is numbered",
+        call,
+    );
     Ok(())
 }
 
@@ -208,6 +218,11 @@ fn a_flush_is_a_call_of_the_device(rt: HostRuntime) -> Result<(), Fail> {
     drop(output);
     // a write and a flush for each
     holds_at(&rt, fake_writer.calls == 4, "calls", fake_writer.calls);
-    holds_at(&rt, fake_writer.flushes == 2, "flushes", fake_writer.flushes);
+    holds_at(
+        &rt,
+        fake_writer.flushes == 2,
+        "flushes",
+        fake_writer.flushes,
+    );
     Ok(())
 }

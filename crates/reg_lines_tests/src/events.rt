@@ -1,6 +1,6 @@
 //! Which events do lines represent?
 
-use crate::tables::{ReadAs, reads_table, reads_at, reads_in_a_row};
+use crate::tables::{ReadAs, reads_at, reads_in_a_row, reads_table};
 use std::test::Fail;
 
 /// Lines, and the event of each.

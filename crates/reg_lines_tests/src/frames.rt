@@ -1,6 +1,6 @@
 //! Which bytes are a line, and which lines are a valid JSON text?
 
-use crate::tables::{ReadAs, reads_line, reads_table, reads_at};
+use crate::tables::{ReadAs, reads_at, reads_line, reads_table};
 use std::test::Fail;
 
 /// A batch without operations, ten bytes, and spaces up to the limit and past it; each is the second line.

@@ -2,7 +2,9 @@
 
 use crate::lines::line_of;
 use crate::printed::add;
-use crate::tables::{ReadAs, reads_line, new_book, reply_of, reads_table, reads_at, reads_in_a_row};
+use crate::tables::{
+    ReadAs, new_book, reads_at, reads_in_a_row, reads_line, reads_table, reply_of,
+};
 use crate::wanted::is_text;
 use call_answers::{CallAnswer, KnownCall};
 use entry_book::Batch;

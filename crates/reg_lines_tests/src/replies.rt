@@ -1,6 +1,6 @@
 //! What is printed for each reply and each refusal?
 
-use crate::tables::{ReadAs, add_reply, new_book, reads_table, reads_at, reads_in_a_row};
+use crate::tables::{ReadAs, add_reply, new_book, reads_at, reads_in_a_row, reads_table};
 use crate::wanted::is_text;
 use entry_book::Batch;
 use std::alloc::Global;

@@ -1,7 +1,7 @@
 //! What is printed for the lines of a schedule?
 
 use crate::printed::add;
-use crate::tables::{ReadAs, reply_of, reads_table, reads_in_a_row};
+use crate::tables::{ReadAs, reads_in_a_row, reads_table, reply_of};
 use batch_work::Status;
 use call_answers::{CallAnswer, Done};
 use call_events::Event;

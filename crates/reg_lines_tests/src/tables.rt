@@ -281,7 +281,12 @@ pub(crate) fn reads_at(
 }
 
 /// Asserts the result of each line of the table, as the first line.
-pub(crate) fn reads_table(rt: &impl Abort, alloc: Global, asked: ReadAs, table: &str) -> Result<(), Fail> {
+pub(crate) fn reads_table(
+    rt: &impl Abort,
+    alloc: Global,
+    asked: ReadAs,
+    table: &str,
+) -> Result<(), Fail> {
     reads_at(rt, alloc, asked, 1, table)
 }
 

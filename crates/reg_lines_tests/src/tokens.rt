@@ -1,6 +1,6 @@
 //! What do the keys `after` and `token` of a line mean, and what do they require of its operations?
 
-use crate::tables::{ReadAs, reads_table, reads_in_a_row};
+use crate::tables::{ReadAs, reads_in_a_row, reads_table};
 use std::test::Fail;
 
 /// Lines, and the request of each.

@@ -4,7 +4,7 @@ use crate::printed::add;
 use batch_work::Status;
 use call_answers::{CallAnswer, Decision, Done};
 use call_events::EventRefusal;
-use entry_book::{DomainSet, Limit, OpRefusal, ReplyOutcome, Refusal, Reply, Shared};
+use entry_book::{DomainSet, Limit, OpRefusal, Refusal, Reply, ReplyOutcome, Shared};
 use line_reading::LineRefusal;
 use reg_lines::{AnsweredCall, CallOrder, CallReply, EventRefused, SeatRefusal, SeatRefused};
 use spiffe_name::{Failure, SpiffeId, TrustDomain};

@@ -3,8 +3,8 @@
 ghost use Rattle.std.specs.Prelude.{◌≡◌};
 ghost use Rattle.reg_programs.specs.Ends.{ended_of, ended_of_server, exit_status_of, exit_message_of, exit_message_of_line};
 
-use crate::serve_fault::ServeFault;
 use crate::exit_message::ExitMessage;
+use crate::serve_fault::ServeFault;
 use command_line::LineFault;
 use line_engines::{RunEnd, RunFault};
 

@@ -18,19 +18,19 @@
 mod accept_fault;
 mod acceptor;
 mod ended;
+mod exit_message;
 mod programs;
 mod queue;
 mod serve_fault;
 mod server;
 mod session_engine;
-mod exit_message;
 
 pub use command_line::Settings;
 pub use ended::{Ended, status};
+pub use exit_message::ExitMessage;
 pub use line_engines::{audit, plain, record_schedule, schedule};
 pub use programs::run_settings;
 pub use queue::{Queue, QueueState, queues_of};
 pub use serve_fault::ServeFault;
 pub use server::{Server, ServerContext, seats_of, serve, serve_connections};
 pub use session_engine::{session, sessions_law};
-pub use exit_message::ExitMessage;

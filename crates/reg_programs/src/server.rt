@@ -8,7 +8,7 @@ use crate::serve_fault::ServeFault;
 use crate::session_engine::session;
 use command_line::ServerPlan;
 use line_devices::{CountedDevice, Input, Output};
-use shared_registry::{RegistryId, NewHistory, Registry, Seat};
+use shared_registry::{NewHistory, Registry, RegistryId, Seat};
 use spiffe_name::TrustDomain;
 use std::alloc::Global;
 use std::marker::Brand;
@@ -185,7 +185,11 @@ pub fn serve_connections<
 }
 
 /// Runs one worker with its seat: it serves the connections of its queue, one after another.
-fn work<J: RegistryId, R: Wait>(context: &ServerContext<'_, J, R>, mut seat: Seat<J>, queue: &Queue) {
+fn work<J: RegistryId, R: Wait>(
+    context: &ServerContext<'_, J, R>,
+    mut seat: Seat<J>,
+    queue: &Queue,
+) {
     for _ in context.rt.forever() {
         let Some(connection) = queue.take(context.rt) else {
             break

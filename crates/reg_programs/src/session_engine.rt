@@ -15,7 +15,7 @@ use line_devices::{Input, Output, Sink, Source};
 use line_engines::{LineHandler, RunFault, run_lines};
 use line_reading::{Ids, LineRefusal, Request, read_request};
 use reg_lines::{AnsweredCall, BorrowedCallReply, SeatRefusal, SeatRefused, print_line};
-use shared_registry::{RegistryId, NoAnswer, OpenGate, Outcome, Registry, Seat};
+use shared_registry::{NoAnswer, OpenGate, Outcome, Registry, RegistryId, Seat};
 use spiffe_name::{Failure, TrustDomain};
 use std::alloc::{AllocError, Global};
 use std::marker::Model;
@@ -150,7 +150,11 @@ pub(crate) enum Taken {
 }
 
 /// Prints the seat's reply to a query, with borrowed rows. Returns false and prints nothing if memory runs out.
-fn print_found<J: RegistryId, K: Sink>(seat: &Seat<J>, batch: &Batch, output: &mut Output<K>) -> bool
+fn print_found<J: RegistryId, K: Sink>(
+    seat: &Seat<J>,
+    batch: &Batch,
+    output: &mut Output<K>,
+) -> bool
     requires found { MaySee J.domain seat.now }
     requires query { is_query batch.now.ops ≡ true }
     requires domain { batch.now.domain ≡ J.domain }

@@ -75,7 +75,12 @@ fn is_or_begins(rt: &impl Abort, got: &str, expected: &str) {
 }
 
 /// Asserts the settings of a command line, or what `regd` writes about it.
-fn has_exit_message(rt: &impl Abort, alloc: Global, line: &str, expected: &str) -> Result<(), Fail> {
+fn has_exit_message(
+    rt: &impl Abort,
+    alloc: Global,
+    line: &str,
+    expected: &str,
+) -> Result<(), Fail> {
     let words = words_of(alloc, line)?;
     let exit_message = exit_message(alloc, &words)?;
     is_or_begins(rt, exit_message.as_str(), expected);
@@ -284,25 +289,36 @@ fn line_has_its_message(
 ) -> Result<(), Fail> {
     let expected = line_of(alloc, code, &fault)?;
     let exit_message = exit_message_of(alloc, Ended::of(Err(fault)))?;
-    is_text(rt, exit_message.as_str(), expected.as_str(), "the fault of a line");
+    is_text(
+        rt,
+        exit_message.as_str(),
+        expected.as_str(),
+        "the fault of a line",
+    );
     Ok(())
 }
 
 fn run_has_its_message(rt: &impl Abort, alloc: Global, fault: RunFault) -> Result<(), Fail> {
     let expected = line_of(alloc, 1, &fault)?;
     let exit_message = exit_message_of(alloc, Ended::of(Ok(Err(fault))))?;
-    is_text(rt, exit_message.as_str(), expected.as_str(), "the fault of a run");
+    is_text(
+        rt,
+        exit_message.as_str(),
+        expected.as_str(),
+        "the fault of a run",
+    );
     Ok(())
 }
 
-fn server_has_its_message(
-    rt: &impl Abort,
-    alloc: Global,
-    fault: ServeFault,
-) -> Result<(), Fail> {
+fn server_has_its_message(rt: &impl Abort, alloc: Global, fault: ServeFault) -> Result<(), Fail> {
     let expected = line_of(alloc, 1, &fault)?;
     let exit_message = exit_message_of(alloc, Ended::of_server(Err(fault)))?;
-    is_text(rt, exit_message.as_str(), expected.as_str(), "the fault of a server");
+    is_text(
+        rt,
+        exit_message.as_str(),
+        expected.as_str(),
+        "the fault of a server",
+    );
     Ok(())
 }
 

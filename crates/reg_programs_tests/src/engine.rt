@@ -16,7 +16,7 @@ use std::alloc::Global;
 use std::process::Abort;
 use std::sync::Wait;
 use std::test::Fail;
-use test_devices::{FakeReader, Chunking, FakeWriter, Faults};
+use test_devices::{Chunking, FakeReader, FakeWriter, Faults};
 
 /// Asserts that the bytes are those of this text.
 pub fn is_written(rt: &impl Abort, got: &[u8], expected: &str) -> Result<(), Fail> {
@@ -98,7 +98,14 @@ pub fn run(
     fake_reader: &mut FakeReader<'_>,
     fake_writer: &mut FakeWriter,
 ) -> Result<Result<(), RunFault>, Fail> {
-    run_with(rt, alloc, engine, ("ex.org", FIRST_SEED), fake_reader, fake_writer)
+    run_with(
+        rt,
+        alloc,
+        engine,
+        ("ex.org", FIRST_SEED),
+        fake_reader,
+        fake_writer,
+    )
 }
 
 /// The replies of an engine to these bytes.
@@ -111,7 +118,14 @@ fn answers_of(
 ) -> Result<Vec<u8>, Fail> {
     let mut fake_reader = FakeReader::new(bytes, Chunking::All, Faults::NONE);
     let mut fake_writer = FakeWriter::new(alloc, Chunking::All, Faults::NONE);
-    match run_with(rt, alloc, engine, (domain, seed), &mut fake_reader, &mut fake_writer)? {
+    match run_with(
+        rt,
+        alloc,
+        engine,
+        (domain, seed),
+        &mut fake_reader,
+        &mut fake_writer,
+    )? {
         Ok(()) => Ok(fake_writer.bytes),
         Err(_) => Err(Fail::from("the run failed")),
     }

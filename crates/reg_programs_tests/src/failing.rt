@@ -7,7 +7,7 @@ use std::alloc::Global;
 use std::process::Abort;
 use std::sync::Wait;
 use std::test::Fail;
-use test_devices::{FakeReader, Chunking, FakeWriter, Faults};
+use test_devices::{Chunking, FakeReader, FakeWriter, Faults};
 
 /// Asserts that a run whose device was to fail at this call wrote a prefix of the text. If it made the call, it ended there, with this
 /// fault; otherwise it succeeded, and wrote everything.
@@ -79,7 +79,15 @@ fn fails_at_read(
     let ended = run(rt, alloc, engine, &mut fake_reader, &mut fake_writer)?;
     let written = fake_writer.bytes.as_slice();
     let expected = table.wanted.as_str();
-    ends_at_a_failure(rt, call, fake_reader.calls, ended, RunFault::Input, written, expected);
+    ends_at_a_failure(
+        rt,
+        call,
+        fake_reader.calls,
+        ended,
+        RunFault::Input,
+        written,
+        expected,
+    );
     if fake_reader.calls < call {
         return Ok(false);
     }

@@ -4,7 +4,7 @@ ghost use Rattle.std.specs.Prelude.{◌≡◌, ◌<◌, length, vec_len};
 
 use crate::staged::{Staged, TURNS, Watched, become_closed};
 use reg_programs::{Queue, ServeFault, ServerContext, queues_of, seats_of, serve_connections};
-use shared_registry::{RegistryId, NewHistory, Registry, Seat};
+use shared_registry::{NewHistory, Registry, RegistryId, Seat};
 use spiffe_name::TrustDomain;
 use std::alloc::Global;
 use std::io::{Read, Write};

@@ -156,7 +156,12 @@ const PAGE: &str = r#"{"ops":[{"op":"page","size":2,"at":1}]}
 "#;
 
 /// Asserts the reply to the page, after changes up to this place.
-fn last_is(rt: &(impl Abort + Wait), alloc: Global, place: usize, expected: &str) -> Result<(), Fail> {
+fn last_is(
+    rt: &(impl Abort + Wait),
+    alloc: Global,
+    place: usize,
+    expected: &str,
+) -> Result<(), Fail> {
     let asked = asked_at(alloc, place)?;
     let got = answers(rt, alloc, asked.as_bytes())?;
     let last = str::from_utf8(&got)?.lines().last();

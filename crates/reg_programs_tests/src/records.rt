@@ -209,7 +209,13 @@ fn each_failing_device_ends_a_recorded_schedule(rt: HostRuntime) -> Result<(), F
     };
     for chunking in [Chunking::All, Chunking::Line] {
         fail_each_read(&rt, rt.alloc(), Engine::Record, &table, chunking)?;
-        fail_each_write(&rt, rt.alloc(), Engine::Record, &table, (Chunking::All, chunking))?;
+        fail_each_write(
+            &rt,
+            rt.alloc(),
+            Engine::Record,
+            &table,
+            (Chunking::All, chunking),
+        )?;
     }
     Ok(())
 }

@@ -7,7 +7,7 @@ use std::alloc::Global;
 use std::process::Abort;
 use std::sync::Wait;
 use std::test::Fail;
-use test_devices::{FakeReader, Chunking, FakeWriter, Faults};
+use test_devices::{Chunking, FakeReader, FakeWriter, Faults};
 
 /// A run that has every operation, with an id that is drawn.
 const EVERY_OPERATION: &str = r#"
@@ -87,8 +87,20 @@ fn each_failing_write_ends_the_run(rt: HostRuntime) -> Result<(), Fail> {
     let short = Table::of(rt.alloc(), REFUSED_AND_ANSWERED)?;
     for from in Chunking::EACH {
         fail_each_write(&rt, rt.alloc(), Engine::Plain, &long, (from, Chunking::All))?;
-        fail_each_write(&rt, rt.alloc(), Engine::Plain, &long, (from, Chunking::Line))?;
-        fail_each_write(&rt, rt.alloc(), Engine::Plain, &short, (from, Chunking::Byte))?;
+        fail_each_write(
+            &rt,
+            rt.alloc(),
+            Engine::Plain,
+            &long,
+            (from, Chunking::Line),
+        )?;
+        fail_each_write(
+            &rt,
+            rt.alloc(),
+            Engine::Plain,
+            &short,
+            (from, Chunking::Byte),
+        )?;
     }
     Ok(())
 }

@@ -2,7 +2,7 @@
 
 ghost use Rattle.std.specs.Prelude.{◌<◌};
 
-use crate::hosting::{BehindASilentOne, NextToASilentOne, Callers, InTurn, Plan, host};
+use crate::hosting::{BehindASilentOne, Callers, InTurn, NextToASilentOne, Plan, host};
 use crate::wanted::{holds, is_text};
 use std::alloc::Global;
 use std::net::{Net, TcpListener, TcpStream};

@@ -8,13 +8,13 @@ use line_devices::{CountedDevice, Input, Output};
 use line_engines::RunFault;
 use line_reading::Ids;
 use reg_programs::session;
-use shared_registry::{RegistryId, NewHistory, Registry, Seat};
+use shared_registry::{NewHistory, Registry, RegistryId, Seat};
 use spiffe_name::TrustDomain;
 use std::alloc::Global;
 use std::marker::Brand;
 use std::sync::Wait;
 use std::test::Fail;
-use test_devices::{FakeReader, Chunking, FakeWriter};
+use test_devices::{Chunking, FakeReader, FakeWriter};
 
 /// Runs the session of this seat over these devices.
 fn session_of_seat<J: RegistryId, R: Wait>(
@@ -62,7 +62,16 @@ fn session_of<J: RegistryId, R: Wait>(
 {
     let registry = Registry::<J>::new(alloc, new_history, kept)?;
     let ran = match registry.seat(rt) {
-        Ok(seat) => Ok(session_of_seat(rt, alloc, &registry, seat, domain, seed, fake_reader, fake_writer)),
+        Ok(seat) => Ok(session_of_seat(
+            rt,
+            alloc,
+            &registry,
+            seat,
+            domain,
+            seed,
+            fake_reader,
+            fake_writer,
+        )),
         Err(_) => Err(Fail::from("no seat")),
     };
     registry.close(rt);
@@ -79,7 +88,16 @@ pub fn run_alone<R: Wait>(
     fake_writer: &mut FakeWriter,
 ) -> Result<Result<(), RunFault>, Fail> {
     let kept = domain.clone()?;
-    session_of::<Brand, _>(rt, alloc, NewHistory::new(), kept, &domain, seed, fake_reader, fake_writer)
+    session_of::<Brand, _>(
+        rt,
+        alloc,
+        NewHistory::new(),
+        kept,
+        &domain,
+        seed,
+        fake_reader,
+        fake_writer,
+    )
 }
 
 /// An agent, an entry under it, and the agent's authorised entries.
@@ -103,7 +121,13 @@ fn each_failing_read_ends_the_session(rt: HostRuntime) -> Result<(), Fail> {
 fn each_failing_write_ends_the_session(rt: HostRuntime) -> Result<(), Fail> {
     let table = Table::of(rt.alloc(), FIRST_LINES)?;
     for to in [Chunking::All, Chunking::Byte] {
-        fail_each_write(&rt, rt.alloc(), Engine::Session, &table, (Chunking::All, to))?;
+        fail_each_write(
+            &rt,
+            rt.alloc(),
+            Engine::Session,
+            &table,
+            (Chunking::All, to),
+        )?;
     }
     Ok(())
 }

@@ -49,7 +49,7 @@ pub below_snoc : (c : ℕ) (xs : List ℕ) → AllBelow (c + 1) xs → AllBelow 
 below_snoc c [] b = (omega arith, tt)
 below_snoc c (x ∷ xs) b = (b.0, below_snoc c xs b.1)
 
--- ---- a front whose last item is the seat's own
+-- ---- a prefix whose last item is the seat's own
 
 pub own_more : (s : ℕ) (prefix log : List Item) (e : Item) → prefix ≡ log ++ e ∷ [] → e.seat ≡ s → calls_of s prefix ≡ calls_of s log ++ e.call ∷ []
 own_more s prefix log e f is = ap (calls_of s) f ∙ calls_snoc s log e is

@@ -66,7 +66,7 @@ during_call_joined s t u a b = record {
   seen = prefix_trans s.seen t.seen u.seen a.seen b.seen;
 }
 
--- it has another page
+-- it has another snapshot
 pub during_call_turned : (s t u : Seated) (found : List Item) → DuringCall s t → u ≡ record t { found = found } → DuringCall s u
 during_call_turned s t u found g is = subst (DuringCall s) (sym is) (record { number = g.number; calls = g.calls; learnt = g.learnt; seen = g.seen })
 

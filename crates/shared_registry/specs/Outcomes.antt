@@ -38,7 +38,7 @@ pub record WasOvertaken (s t : Seated) (batch : Batch) (tries place : ℕ) : Typ
 -- ---- the outcomes of a batch of changes
 
 -- The item of the call is the last one seen. The reply is that it was committed, with the item's replies, at the item's number. The seat
--- has one more call of its own. Its page, on which it answers queries until it finds another one, shows all that it has seen.
+-- has one more call of its own. Its snapshot, on which it answers queries until it finds another one, shows all that it has seen.
 pub record IsAdded (s t : Seated) (batch : Batch) (reply : Reply) : Type 0 where
   pub log : List Item
   pub item : Item

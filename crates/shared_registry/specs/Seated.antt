@@ -7,7 +7,7 @@ use Rattle.commit_head.specs.Journals.{IsLawfulJournal}
 use Rattle.shared_registry.specs.Seats.{AllBelow, calls_of}
 
 -- A seat: its number and the number of its calls; the journal that it has seen, and the longest one that it has learnt of; the numbers of
--- its own committed calls; and the journal of its page.
+-- its own committed calls; and the journal of its snapshot.
 pub record Seated : Type 0 where
   pub number : ℕ
   pub calls : ℕ

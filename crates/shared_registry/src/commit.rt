@@ -12,11 +12,11 @@ ghost use Rattle.shared_registry.specs.Seats.{AllBelow};
 ghost use Rattle.shared_registry.specs.ShownPrivate.{IsCounted, IsOf, ShowsJournal};
 ghost use Rattle.shared_registry.specs.Works.{IsRead};
 
-use crate::writer_state::WindowWriter;
-use crate::history::{HistoryPrefix, History, RegistryId};
-use crate::published::{PublishedState, Published};
+use crate::history::{History, HistoryPrefix, RegistryId};
+use crate::published::{Published, PublishedState};
 use crate::rule::Sees;
 use crate::seat::{NoEntry, Seat};
+use crate::writer_state::WindowWriter;
 use batch_work::{Status, Work};
 use commit_head::{Commit, Head, Prepared};
 use entry_book::Shared;
@@ -56,7 +56,11 @@ fn append<J: RegistryId, R: Wait>(
 }
 
 /// Publishes the value. Retries until there is memory.
-fn publish<J: RegistryId, R: Wait>(rt: &R, writer: WindowWriter<J>, next: Published) -> WindowWriter<J>
+fn publish<J: RegistryId, R: Wait>(
+    rt: &R,
+    writer: WindowWriter<J>,
+    next: Published,
+) -> WindowWriter<J>
     requires clear { drop writer.behind writer.log.items ≡ [] }
     requires of_it { IsOf J.history J.domain next }
     requires more { IsPrefix writer.desk.shown.value.journal next.journal }
@@ -74,7 +78,7 @@ fn publish<J: RegistryId, R: Wait>(rt: &R, writer: WindowWriter<J>, next: Publis
     unreachable!()
 }
 
-/// Returns the board after a prepared commit: its version is in the window, and its seat has one more call. There are two
+/// Returns the published state after a prepared commit: its version is in the window, and its seat has one more call. There are two
 /// references to it, one for the readers and one for the seat. The only error is a failed allocation.
 fn public_states_with(
     alloc: Global,
@@ -109,12 +113,15 @@ fn snapshots<J: RegistryId>(
     ensures same { result.1 ≡ result.0 }
 {
     let (public_state, same) = public_states;
-    (Published::of(prefix, public_state), Published::of(prefix, same))
+    (
+        Published::of(prefix, public_state),
+        Published::of(prefix, same),
+    )
 }
 
 /// Lets the seat see all items so far, and commits the work as the seat's call, or returns why not. The commit takes effect
-/// when its item is added to the history; after that nothing is refused. After a commit the seat has the page that was
-/// published for it. The page that it had before is returned, to be dropped without the lock.
+/// when its item is added to the history; after that nothing is refused. After a commit the seat has the snapshot that was
+/// published for it. The snapshot that it had before is returned, to be dropped without the lock.
 pub(crate) fn decide<J: RegistryId, R: Wait>(
     rt: &R,
     alloc: Global,
@@ -151,7 +158,8 @@ pub(crate) fn decide<J: RegistryId, R: Wait>(
             return (writer, Ok(refusal), None);
         }
     };
-    let Ok(public_states) = public_states_with(alloc, published, &prepared, seat.number() as usize) else {
+    let Ok(public_states) = public_states_with(alloc, published, &prepared, seat.number() as usize)
+    else {
         seat.see(last.again());
         return (writer, Ok(Commit::NoMemory), None);
     };

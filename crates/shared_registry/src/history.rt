@@ -58,7 +58,7 @@ impl Plain<Item, Item, u64> for AppendItem {
 }
 
 /// Identifies a registry in the proofs, by its history and the trust domain of its book. Each call of a program picks them.
-/// Seats, receipts and registries of one naming belong together.
+/// Seats, receipts and registries of one registry belong together.
 pub trait RegistryId {
     ghost use Rattle.logbook.specs.Pages.{Book};
     ghost use Rattle.entry_book.specs.Rows.{Bytes};
@@ -94,7 +94,7 @@ impl NewHistory {
         }
     }
 
-    /// Returns the history's word under a naming, and the empty front.
+    /// Returns the history's word under an identity, and the empty prefix.
     pub(crate) fn named<J: RegistryId>(self) -> (History<J>, HistoryPrefix<J>)
         requires { self.seen.book ≡ J.history }
         ensures { result.1 ≡ [] }
@@ -185,7 +185,7 @@ impl<J: RegistryId> HistoryPrefix<J> {
         self.seen.again()
     }
 
-    /// Makes the front of a token with this number of items.
+    /// Makes the prefix of a token with this number of items.
     pub(crate) fn of(items: u64, seen: Seen<Item, u64, HistoryRule>) -> HistoryPrefix<J>
         requires { (seen.book ≡ J.history) × (items ≡ length seen.log) × IsLawfulJournal J.domain seen.log }
         ensures { result ≡ seen.log }
@@ -214,12 +214,22 @@ impl<J: RegistryId> HistoryPrefix<J> {
         ensures { MatchBool result (self.new ≡ self.old ++ item.now ∷ []) (self.new ≡ self.old) }
     {
         let mut seen = self.seen.again();
-        let mut offer: Offer<Item, u64, HistoryRule, NoTrade> = seen.plain::<NoTrade, Item, AppendItem>(item);
+        let mut offer: Offer<Item, u64, HistoryRule, NoTrade> = seen.plain::<
+            NoTrade,
+            Item,
+            AppendItem,
+        >(item);
         let mut pen = seen.no_pen();
         let items = self.items;
         let found = history
             .word
-            .compare_exchange::<AppendItem, NoTrade>(items, items + 1, &mut seen, &mut offer, &mut pen);
+            .compare_exchange::<AppendItem, NoTrade>(
+                items,
+                items + 1,
+                &mut seen,
+                &mut offer,
+                &mut pen,
+            );
         if found != items {
             return false;
         }

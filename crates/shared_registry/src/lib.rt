@@ -14,13 +14,13 @@
 //! - [`Receipt`]: what a seat had seen, for another seat to learn.
 //! - [`commits_law`]: after a commit a seat may answer queries without a look.
 //! - [`RegistryId`] and [`NewHistory`]: which registry it is, and its empty history. The types ensure that seats, receipts and
-//!   registries of one naming belong together.
+//!   registries of one registry belong together.
 //!
 //! The words of this crate:
 //!
-//! - journal: the list of all committed items; front: a prefix of it, by its length.
-//! - board: the window of the last books, and the number of commits of each seat; page: a published board with its front.
-//! - found: the journal of the page that a seat has; seen: the prefix that its answers were computed from; told: the
+//! - journal: the list of all committed items; prefix: a first part of it, by its length.
+//! - published state: the window of the last books, and the number of commits of each seat; snapshot: a published state with its prefix.
+//! - found: the journal of the snapshot that a seat has; seen: the prefix that its answers were computed from; learnt: the
 //!   longest prefix that it learnt of.
 //! - own: the numbers of the calls that a seat has committed.
 //!
@@ -30,7 +30,7 @@
 //!
 //! - `history`: the one history, and the prefixes of it that were seen; `published` and `rule`: the state that readers look
 //!   at, and the invariant that each step over it preserves; `run`: how a batch of changes runs on the published state;
-//!   `writer_state` and `commit`: the state under the lock, and the commit on it; `recent`: boards that are retained; `seat` and
+//!   `writer_state` and `commit`: the state under the lock, and the commit on it; `recent`: published states that are retained; `seat` and
 //!   `registry`: the calls of the two types; `reading`: how a seat looks at the published state; `outcome`; `gate`: the test
 //!   hook; `laws`: a theorem that follows from the contracts.
 //!
@@ -41,7 +41,6 @@
 #![tactic(auto)]
 
 mod commit;
-mod writer_state;
 mod gate;
 mod history;
 mod laws;
@@ -53,12 +52,13 @@ mod registry;
 mod rule;
 mod run;
 mod seat;
+mod writer_state;
 
-pub use writer_state::NoSeat;
 pub use gate::{Gate, OpenGate, Point};
-pub use history::{HistoryPrefix, History, RegistryId, NewHistory};
+pub use history::{History, HistoryPrefix, NewHistory, RegistryId};
 pub use laws::commits_law;
 pub use outcome::Outcome;
 pub use published::Published;
 pub use registry::Registry;
 pub use seat::{Answer, NoAnswer, NoEntry, Receipt, Seat};
+pub use writer_state::NoSeat;

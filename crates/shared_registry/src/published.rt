@@ -48,8 +48,11 @@ impl Published {
     ghost use Rattle.std.specs.Prelude.{◌≡◌, ◌≤◌, ◌^◌, length, IfOk, IfSome};
     ghost use Rattle.shared_registry.specs.ShownPrivate.{IsOf, ShowsJournal, whole_head};
 
-    /// Makes the published value of the front's journal, with the board that shows it.
-    pub(crate) fn of<J: RegistryId>(prefix: &HistoryPrefix<J>, public_state: Shared<PublishedState>) -> Published
+    /// Makes the published value of the prefix's journal, with the published state that shows it.
+    pub(crate) fn of<J: RegistryId>(
+        prefix: &HistoryPrefix<J>,
+        public_state: Shared<PublishedState>,
+    ) -> Published
         requires shows { ShowsJournal prefix.now public_state.window public_state.counts }
         ensures history { result.history ≡ J.history }
         ensures journal { result.journal ≡ prefix.now }
@@ -62,7 +65,7 @@ impl Published {
         }
     }
 
-    /// Returns the journal, as a front.
+    /// Returns the journal, as a prefix.
     pub(crate) fn prefix<J: RegistryId>(&self) -> HistoryPrefix<J>
         requires { IsOf J.history J.domain self.now }
         ensures { result ≡ self.now.journal }
@@ -87,7 +90,7 @@ impl Published {
         self.public_state.get().counts[seat]
     }
 
-    /// Returns the board, with its reference count incremented. The error is that the count can't grow.
+    /// Returns the published state, with its reference count incremented. The error is that the count can't grow.
     pub(crate) fn public_state(&self) -> Result<Shared<PublishedState>, AllocError> {
         self.public_state.clone()
     }

@@ -21,7 +21,7 @@ use std::mem::replace;
 /// A reader of the published value.
 pub(crate) type SeatReader<J> = Reader<Published, View, Rule<J>>;
 
-/// Replaces the page by the newer one, if a look has found one, and drops the one before.
+/// Replaces the snapshot by the newer one, if a look has found one, and drops the one before.
 fn turn<J: RegistryId>(
     snapshot: &mut Published,
     newer: Result<Option<Published>, AllocError>,

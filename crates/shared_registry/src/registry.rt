@@ -12,15 +12,15 @@ ghost use Rattle.shared_registry.specs.Seated.{AfterCall, CaughtUp, DuringCall, 
 ghost use Rattle.shared_registry.specs.Seats.{AllBelow, calls_of};
 ghost use Rattle.shared_registry.specs.Works.{IsRead};
 
-use crate::writer_state::{WriterState, NoSeat};
 use crate::gate::{Gate, Point};
-use crate::history::{History, RegistryId, NewHistory};
+use crate::history::{History, NewHistory, RegistryId};
 use crate::outcome::Outcome;
 use crate::run::discard;
 use crate::seat::{Answer, NoAnswer, NoEntry, Receipt, Seat};
+use crate::writer_state::{NoSeat, WriterState};
 use batch_work::{Status, Work};
 use commit_head::Commit;
-use entry_book::{Batch, OpReply, ReplyOutcome as BatchOutcome, Refusal, Reply, Sequence, Shared};
+use entry_book::{Batch, OpReply, Refusal, Reply, ReplyOutcome as BatchOutcome, Sequence, Shared};
 use spiffe_name::TrustDomain;
 use std::alloc::{AllocError, Global};
 use std::sync::{Mutex, MutexGuard, Wait};

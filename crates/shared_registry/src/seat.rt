@@ -12,7 +12,7 @@ ghost use Rattle.shared_registry.specs.ShownPrivate.{IsOf};
 use crate::gate::{Gate, Point};
 use crate::history::{HistoryPrefix, RegistryId};
 use crate::published::Published;
-use crate::reading::{SeatReader, continues, find, borrowed_answer};
+use crate::reading::{SeatReader, borrowed_answer, continues, find};
 use crate::run::{begun, ran};
 use batch_work::{BorrowedReply, Work};
 use commit_head::Item;
@@ -55,7 +55,7 @@ impl<J: RegistryId> Model for Receipt<J> {
 /// One caller of a registry: its number, the number of its calls, and what it has seen. The model in contracts has lists of
 /// items, which are tokens of the history (see [`HistoryPrefix`]); at run time the seat has their lengths.
 ///
-/// A seat keeps the page that it last found published, or that its own commit published since then. It replaces the page
+/// A seat keeps the snapshot that it last found published, or that its own commit published since then. It replaces the snapshot
 /// only by one with another number of items.
 #[derive(Drop)]
 pub struct Seat<J: RegistryId> {
@@ -189,7 +189,7 @@ impl<J: RegistryId> Seat<J> {
         self.count += 1;
     }
 
-    /// Replaces the page, and returns the one before.
+    /// Replaces the snapshot, and returns the one before.
     pub(crate) fn turn_to(&mut self, snapshot: Published) -> Published
         requires snapshot { IsOf J.history J.domain snapshot }
         ensures { self.new ≡ record self.old { found = snapshot.journal } }

@@ -9,7 +9,7 @@ ghost use Rattle.shared_registry.specs.Seats.{AllBelow};
 ghost use Rattle.shared_registry.specs.Works.{IsRead};
 
 use crate::commit::decide;
-use crate::history::{HistoryPrefix, History, RegistryId};
+use crate::history::{History, HistoryPrefix, RegistryId};
 use crate::published::{Published, opening};
 use crate::recent::{Recent, Replaced};
 use crate::rule::{Rule, View};
@@ -30,7 +30,7 @@ pub(crate) type WindowWriter<J> = Writer<Published, Published, View, Rule<J>>;
 #[derive(Clone, Copy, Debug, PartialEq, Eq, Drop)]
 pub struct NoSeat;
 
-/// State guarded by the registry's writer lock: the head, the writer, the boards published last, the number of seats, and
+/// State guarded by the registry's writer lock: the head, the writer, the published states published last, the number of seats, and
 /// the whole journal. The model in contracts is the journal.
 pub(crate) struct WriterState<J: RegistryId> {
     alloc: Global,

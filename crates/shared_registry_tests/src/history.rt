@@ -11,7 +11,7 @@ use crate::turnstile::Turnstile;
 use crate::wanted::{holds, is_number, is_text};
 use entry_book::{Batch, Reply};
 use plain_book::PlainBook;
-use shared_registry::{RegistryId, Point};
+use shared_registry::{Point, RegistryId};
 use std::alloc::Global;
 use std::env;
 use std::process::Abort;

@@ -7,7 +7,7 @@ use crate::history::explains;
 use crate::scripts::plays_script;
 use crate::site::Site;
 use crate::talks::Talk;
-use shared_registry::{RegistryId, NewHistory};
+use shared_registry::{NewHistory, RegistryId};
 use spiffe_name::TrustDomain;
 use std::alloc::Global;
 use std::marker::Brand;

@@ -12,7 +12,7 @@ use crate::site::Site;
 use crate::telling::seat_text;
 use crate::turnstile::Turnstile;
 use crate::wanted::is_text;
-use shared_registry::{RegistryId, OpenGate, Point, Seat};
+use shared_registry::{OpenGate, Point, RegistryId, Seat};
 use std::process::Abort;
 use std::sync::Wait;
 use std::thread::{Threads, join};

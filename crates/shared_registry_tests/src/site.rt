@@ -8,7 +8,7 @@ use crate::telling::{outcome_text, seat_text};
 use crate::turnstile::TURNS;
 use entry_book::Batch;
 use shared_registry::{
-    Answer, Gate, RegistryId, OpenGate, NewHistory, Outcome, Receipt, Registry, Seat, commits_law,
+    Answer, Gate, NewHistory, OpenGate, Outcome, Receipt, Registry, RegistryId, Seat, commits_law,
 };
 use spiffe_name::TrustDomain;
 use std::alloc::Global;

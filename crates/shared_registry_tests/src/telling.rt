@@ -1,7 +1,7 @@
 //! The outcomes of batches, and the state of a seat, as text; and parts of such texts.
 
 use crate::failed::Failed;
-use shared_registry::{RegistryId, Outcome, Seat};
+use shared_registry::{Outcome, RegistryId, Seat};
 use std::alloc::Global;
 use test_batches::{kind_at_place, reply_text};
 

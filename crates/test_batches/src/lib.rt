@@ -22,4 +22,6 @@ pub use draws::{batch_text, below};
 pub use failed::Failed;
 pub use making::{batch, number, number_behind, trust_domain, word, words};
 pub use marks::{add_mark, mark_words, marks_text};
-pub use telling::{accepted_text, of_number, outcome_text, kind_at_place, replies_text, reply_text};
+pub use telling::{
+    accepted_text, kind_at_place, of_number, outcome_text, replies_text, reply_text,
+};

@@ -2,7 +2,7 @@
 //! and its revision, followed by its domains.
 
 use crate::failed::Failed;
-use entry_book::{Agent, Bundle, Entry, OpRefusal, OpReply, ReplyOutcome, Refusal, Reply};
+use entry_book::{Agent, Bundle, Entry, OpRefusal, OpReply, Refusal, Reply, ReplyOutcome};
 use spiffe_name::SpiffeId;
 use std::alloc::Global;
 use uuid::Uuid;

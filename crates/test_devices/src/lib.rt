@@ -10,12 +10,12 @@
 //! `docs/GLOSSARY.md` explains the terms.
 #![tactic(auto)]
 
-mod fake_reader;
 mod chunking;
+mod fake_reader;
 mod fake_writer;
 mod faults;
 
-pub use fake_reader::FakeReader;
 pub use chunking::Chunking;
+pub use fake_reader::FakeReader;
 pub use fake_writer::FakeWriter;
 pub use faults::Faults;

@@ -15,4 +15,4 @@
 
 mod values;
 
-pub use values::{add, add_copy, add_some, pair_with, copy, had, one, unless, where_done};
+pub use values::{add, add_copy, add_some, copy, had, one, pair_with, unless, where_done};

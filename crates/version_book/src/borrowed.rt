@@ -78,7 +78,10 @@ impl<'a, T: Ord + 'a> Ord for Borrowed<'a, T> {
 }
 
 /// Clones the values, in order. The error is out of memory.
-pub fn owned<T: Clone + Drop>(alloc: Global, values: &[Borrowed<'_, T>]) -> Result<Vec<T>, AllocError>
+pub fn owned<T: Clone + Drop>(
+    alloc: Global,
+    values: &[Borrowed<'_, T>],
+) -> Result<Vec<T>, AllocError>
     requires clones { ClonesEqual T.is_clone }
     ensures { IfOk result (λ owned. owned.items ≡ values.now) }
 {

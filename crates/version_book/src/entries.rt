@@ -3,13 +3,13 @@
 ghost use Rattle.std.specs.Prelude.{◌≡◌, IfOk, IsTrue};
 ghost use Rattle.version_book.specs.Index.{HaveSameKeys, group_keys, user_keys, expiry_keys};
 
+use crate::borrowed::Borrowed;
 use crate::changes::RowChange;
-use crate::committed_row::{CommittedRow, is_same_row, borrowed, row_alone};
+use crate::committed_row::{CommittedRow, borrowed, is_same_row, row_alone};
 use crate::index::{
-    entries_between, borrowed_between, replace_keys, same_between, with_keys, without_keys,
+    borrowed_between, entries_between, replace_keys, same_between, with_keys, without_keys,
 };
 use crate::key::{ExpiryKey, GroupKey, KeyPart, UserKey};
-use crate::borrowed::Borrowed;
 use crate::mark::{IndexRange, Mark, MarkKind};
 use crate::page::page_of;
 use crate::parent::{ParentEnd, ParentStart};

@@ -11,8 +11,8 @@ ghost use Rattle.version_book.specs.CommittedRows.{of_row, row_of};
 ghost use Rattle.version_book.specs.Index.{AreThere, Covers, IsIndex, KeysIdentify, IsExactOrder};
 ghost use Rattle.version_book.specs.Stores.{IsAbsent, stamps};
 
-use crate::committed_row::CommittedRow;
 use crate::borrowed::{Borrowed, owned};
+use crate::committed_row::CommittedRow;
 use crate::row_shelf::put_row;
 use entry_book::Entry;
 use std::alloc::{AllocError, Global};

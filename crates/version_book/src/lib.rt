@@ -52,6 +52,7 @@
 //! `docs/GLOSSARY.md` explains the terms.
 #![tactic(auto)]
 
+mod borrowed;
 mod changes;
 mod committed_row;
 mod entries;
@@ -59,7 +60,6 @@ mod hits;
 mod index;
 mod key;
 pub mod laws;
-mod borrowed;
 mod mark;
 mod names;
 mod overlay;
@@ -71,8 +71,8 @@ mod rows_read;
 mod store;
 mod version;
 
-pub use changes::{Changes, RowChange, RowWrite, TokenWrite};
 pub use borrowed::{Borrowed, owned};
+pub use changes::{Changes, RowChange, RowWrite, TokenWrite};
 pub use mark::{Mark, MarkKind};
 pub use rows_read::RowsRead;
 pub use version::{RowCounts, Version};

@@ -9,8 +9,8 @@ ghost use Rattle.entry_book.specs.Pages.{comes_after, last_id, passes};
 ghost use Rattle.entry_book.specs.Rows.{Entry as EntryRow};
 ghost use Rattle.version_book.specs.CommittedRows.{row_of};
 
-use crate::committed_row::CommittedRow;
 use crate::borrowed::Borrowed;
+use crate::committed_row::CommittedRow;
 use entry_book::{Entry, PageQuery};
 use std::alloc::{AllocError, Global};
 use uuid::Uuid;

@@ -6,7 +6,7 @@ ghost use Rattle.version_book.specs.CommittedRows.{numbered};
 ghost use Rattle.version_book.specs.Stores.{shelf_after};
 
 use crate::changes::RowChange;
-use crate::committed_row::{CommittedRow, is_same_row, borrowed, row_alone};
+use crate::committed_row::{CommittedRow, borrowed, is_same_row, row_alone};
 use crate::mark::Mark;
 use crate::row::KeyedRow;
 use std::alloc::{AllocError, Global};

@@ -2,9 +2,9 @@
 
 ghost use Rattle.std.specs.Prelude.{◌≡◌};
 
+use crate::borrowed::Borrowed;
 use crate::changes::{RowWrite, TokenWrite};
 use crate::entries::Entries;
-use crate::borrowed::Borrowed;
 use crate::mark::Mark;
 use crate::row_shelf::RowShelf;
 use crate::rows_read::RowsRead;
@@ -137,19 +137,39 @@ impl Store {
         match write {
             RowWrite::Entry(change) => {
                 let entries = entries.after(alloc, change, commit);
-                Store::of(entries, agents.duplicate(), bundles.duplicate(), tokens.duplicate())
+                Store::of(
+                    entries,
+                    agents.duplicate(),
+                    bundles.duplicate(),
+                    tokens.duplicate(),
+                )
             }
             RowWrite::Agent(change) => {
                 let agents = agents.after(change, commit);
-                Store::of(entries.clone(), agents, bundles.duplicate(), tokens.duplicate())
+                Store::of(
+                    entries.clone(),
+                    agents,
+                    bundles.duplicate(),
+                    tokens.duplicate(),
+                )
             }
             RowWrite::Bundle(change) => {
                 let bundles = bundles.after(change, commit);
-                Store::of(entries.clone(), agents.duplicate(), bundles, tokens.duplicate())
+                Store::of(
+                    entries.clone(),
+                    agents.duplicate(),
+                    bundles,
+                    tokens.duplicate(),
+                )
             }
             RowWrite::Token(token) => {
                 let tokens = self.tokens_after(token, commit);
-                Store::of(entries.clone(), agents.duplicate(), bundles.duplicate(), tokens)
+                Store::of(
+                    entries.clone(),
+                    agents.duplicate(),
+                    bundles.duplicate(),
+                    tokens,
+                )
             }
         }
     }

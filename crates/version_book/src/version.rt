@@ -2,8 +2,8 @@
 
 ghost use Rattle.std.specs.Prelude.{◌≡◌};
 
-use crate::changes::Changes;
 use crate::borrowed::Borrowed;
+use crate::changes::Changes;
 use crate::mark::Mark;
 use crate::names::ServerNames;
 use crate::overlay::after_changes;
@@ -158,7 +158,10 @@ impl Version {
 
     /// Returns the entries of a parent, borrowed, in the order of their ids. It increments no reference count, neither of a row
     /// nor of the parent's ID. The error is out of memory.
-    pub fn children(&self, parent: &Shared<SpiffeId>) -> Result<Vec<Borrowed<'_, Entry>>, AllocError>
+    pub fn children(
+        &self,
+        parent: &Shared<SpiffeId>,
+    ) -> Result<Vec<Borrowed<'_, Entry>>, AllocError>
         ensures { IfOk result (λ found. found.items ≡ children_of parent.now (book_of self.now.rows)) }
     {
         self.body.get().store.children(self.alloc, parent)

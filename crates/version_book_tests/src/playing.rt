@@ -10,7 +10,7 @@ use std::alloc::{AllocError, Global};
 use std::process::Abort;
 use std::test::Fail;
 use test_batches::{Failed, batch, number, trust_domain, word, words};
-use test_support::{add_some, pair_with, one, where_done};
+use test_support::{add_some, one, pair_with, where_done};
 use test_works::{ended, next_of};
 use version_book::{Changes, Mark, RowCounts, Version};
 

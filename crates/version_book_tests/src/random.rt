@@ -1,7 +1,7 @@
 //! Random operations on few rows: every mark reads what plain lists have, and reports whether it is unchanged.
 
 use crate::draws::batch_text;
-use crate::listed::{Listed, own_mark, as_text};
+use crate::listed::{Listed, as_text, own_mark};
 use crate::marks::mark_of;
 use crate::playing::{Step, first_step, go_on, number_of};
 use crate::rows::{asked_text, read_text, read_up_to, through_text};

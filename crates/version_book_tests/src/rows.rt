@@ -7,7 +7,9 @@ use spiffe_name::{SelectorSet, SpiffeId};
 use std::alloc::Global;
 use test_batches::{Failed, of_number};
 use uuid::Uuid;
-use version_book::{Changes, Borrowed, Mark, MarkKind, RowWrite, RowsRead, TokenWrite, Version, owned};
+use version_book::{
+    Borrowed, Changes, Mark, MarkKind, RowWrite, RowsRead, TokenWrite, Version, owned,
+};
 
 /// The moments of random batches, in order, as marks.
 const MOMENTS: &str = "|expiring 1|expiring 2|expiring 3|expiring 4|";
@@ -151,7 +153,11 @@ pub fn read_text(alloc: Global, version: &Version, mark: &Mark) -> Result<String
 }
 
 /// Appends borrowed entries.
-fn add_borrowed(alloc: Global, text: &mut String, entries: Vec<Borrowed<'_, Entry>>) -> Result<(), Failed> {
+fn add_borrowed(
+    alloc: Global,
+    text: &mut String,
+    entries: Vec<Borrowed<'_, Entry>>,
+) -> Result<(), Failed> {
     let copies = owned(alloc, entries.as_slice());
     drop(entries);
     let copies = copies?;

@@ -15,7 +15,7 @@ use Rattle.version_shelf.proofs.Above.{by_order, AllAbove, below_of_above, above
 use Rattle.version_shelf.proofs.First.{from_of_above}
 use Rattle.version_shelf.proofs.Flat.{flatten-append, full_front, full_back, full_from_nodes, nodes_front, nodes_back, full_least}
 
--- ---- the last part of a list of pages
+-- ---- the last part of a list of nodes
 
 module _ {X : Type 0} (p : X → Bool) where
   ends_append : (xs : List X) (y : X) (ys : List X) → last_passes p (xs ++ y ∷ ys) ≡ last_passes p (y ∷ ys)
@@ -27,7 +27,7 @@ module _ {X : Type 0} (p : X → Bool) where
   ends_onto xs [] passes = cc
   ends_onto xs (y ∷ ys) passes = ends_append xs y ys ∙ passes
 
-  -- if the last part of the last page passes, so does the last part of all
+  -- if the last part of the last node passes, so does the last part of all
   pub ends_flatten : (nodes : List (List X)) → last_passes (last_passes p) nodes ≡ true → last_passes p (flatten nodes) ≡ true
   ends_flatten [] passes = passes
   ends_flatten (x ∷ []) passes = ap (last_passes p) (append-nil x) ∙ passes
@@ -37,7 +37,7 @@ module _ {X : Type 0} (p : X → Bool) where
   not_empty_ends xs [] some = absurd (omega arith)
   not_empty_ends xs (y ∷ ys) some = ends_append xs y ys
 
-  -- if it doesn't, neither does the last part of all; the pages are full, so they aren't empty
+  -- if it doesn't, neither does the last part of all; the nodes are full, so they aren't empty
   pub ends_flatten_not : (nodes : List (List X)) → AreFullNodes least_rows nodes → last_passes (last_passes p) nodes ≡ false → last_passes p (flatten nodes) ≡ false
   ends_flatten_not [] full passes = refl
   ends_flatten_not (x ∷ []) full passes = ap (last_passes p) (append-nil x) ∙ passes
@@ -151,7 +151,7 @@ module _ {K V : Type 0} {cmp : K → K → Ordering} (o : IsTotalOrder cmp) (key
       behind = leaves_behind above (λ some. cuts.fewest (omega arith)) at.behind (in_order_back cmp (flatten below) (rows ++ flatten above) order);
     }
 
-  -- ---- middles, cut at the key
+  -- ---- inner nodes, cut at the key
 
   module _ (inners below : List (List (List (K × V)))) (leaves : List (List (K × V))) (above : List (List (List (K × V)))) (cuts : Cuts least_leaves inners below leaves above) (at : CutsAt (last_passes (λ row. is_lt (cmp row.0 key))) below leaves above) (sorted : IsInOrder cmp (flatten (flatten inners))) (nodes : AreNodes least_rows (flatten inners)) where
     pub inners_joined : flatten (flatten inners) ≡ flatten (flatten below) ++ (flatten leaves ++ flatten (flatten above))
@@ -169,7 +169,7 @@ module _ {K V : Type 0} {cmp : K → K → Ordering} (o : IsTotalOrder cmp) (key
     pub leaves_order : IsInOrder cmp (flatten leaves)
     leaves_order = in_order_front cmp (flatten leaves) (flatten (flatten above)) (in_order_back cmp (flatten (flatten below)) (flatten leaves ++ flatten (flatten above)) inners_order)
 
-    -- if there are other middles, every leaf is full
+    -- if there are other inner nodes, every leaf is full
     pub leaves_full : 0 < length below + length above → AreFullNodes least_rows (flatten below ++ (leaves ++ flatten above))
     leaves_full more = full_from_nodes least_rows (flatten below ++ (leaves ++ flatten above)) some_nodes (omega (arith, cuts.fewest more, length-append (flatten below) (leaves ++ flatten above), length-append leaves (flatten above)))
 

@@ -50,7 +50,7 @@ module _ {X : Type 0} (least : ℕ) where
   cuts_none [] [] (a ∷ above) parts none few = absurd (omega arith)
   cuts_none (p ∷ nodes) below [] parts none few = absurd (omega (arith, ap length parts, ap length (append-nil below)))
 
--- a cut at the index of the key among all pages but the last
+-- a cut at the index of the key among all nodes but the last
 module _ {X : Type 0} (passes : X → Bool) (nodes others below : List (List X)) (position : ℕ) (node : List X) (above : List (List X)) where
   pub cuts_at : others ≡ take (length nodes - 1) nodes → IsSplitIndex (last_passes passes) others position → below ≡ take position nodes → length below ≡ position → nodes ≡ below ++ node ∷ above → CutsAt passes below node above
   cuts_at some is front size parts =

@@ -1,4 +1,4 @@
--- Lists of pages, and the parts in them.
+-- Lists of nodes, and the parts in them.
 use Rattle.std.proofs.Common.{◌≡◌, ◌+◌, ◌-◌, ◌*◌, ◌/◌, ◌<◌, ◌≤◌, ℕ, true, false, cond, nat_lt, List, [], ◌∷◌, ◌++◌, length, take, drop, refl, sym, ap, ◌∙◌, append-nil, append_assoc, length-append, length-take-le, length-drop, take-append-drop, Result, Ok, Err, arith}
 use Rattle.std.proofs.Math.Nat.{mul-suc}
 use Rattle.std.proofs.lemmas.Bool.{ltb-true, ltb-false}
@@ -12,11 +12,11 @@ flatten-append (p ∷ ps) qs = ap (λ l. p ++ l) (flatten-append ps qs) ∙ sym 
 pub flatten_one : {X : Type 0} (p : List X) → flatten (p ∷ []) ≡ p
 flatten_one p = append-nil p
 
--- pages below, a page, and pages above
+-- nodes below, a node, and nodes above
 pub flatten_around : {X : Type 0} (below : List (List X)) (p : List X) (above : List (List X)) → flatten (below ++ p ∷ above) ≡ flatten below ++ (p ++ flatten above)
 flatten_around below p above = flatten-append below (p ∷ above)
 
--- ---- full pages
+-- ---- full nodes
 
 pub full_append : {X : Type 0} (least : ℕ) (ps qs : List (List X)) → AreFullNodes least ps → AreFullNodes least qs → AreFullNodes least (ps ++ qs)
 full_append least [] qs front back = back
@@ -40,7 +40,7 @@ full_from_nodes least [] all more = tt
 full_from_nodes least (p ∷ []) all more = absurd (omega arith)
 full_from_nodes least (p ∷ q ∷ ps) all more = all
 
--- a suffix, and a prefix, of pages have the sizes of pages
+-- a suffix, and a prefix, of nodes have the sizes of nodes
 pub nodes_back : {X : Type 0} (least : ℕ) (ps qs : List (List X)) → AreNodes least (ps ++ qs) → AreNodes least qs
 nodes_back least [] qs all = all
 nodes_back least (p ∷ []) [] all = tt
@@ -53,12 +53,12 @@ nodes_front least (p ∷ []) [] all = all
 nodes_front least (p ∷ []) (q ∷ qs) all = all.0.1
 nodes_front least (p ∷ r ∷ ps) qs all = full_front least (p ∷ r ∷ ps) qs all
 
--- a lower bound for the number of parts in full pages
+-- a lower bound for the number of parts in full nodes
 pub full_least : {X : Type 0} (least : ℕ) (ps : List (List X)) → AreFullNodes least ps → least * length ps ≤ length (flatten ps)
 full_least least [] all = omega arith
 full_least least (p ∷ ps) all = rw (mul-suc least (length ps)) (omega (arith, full_least least ps all.1, length-append p (flatten ps), all.0.0))
 
--- ---- parts cut into pages
+-- ---- parts cut into nodes
 
 pub flatten-in_nodes : {X : Type 0} (least : ℕ) (parts : List X) → flatten (in_nodes least parts) ≡ parts
 flatten-in_nodes least parts = elim (nat_lt (least + least) (length parts)) as (λ b. flatten (cond b (take (length parts / 2) parts ∷ drop (length parts / 2) parts ∷ []) (parts ∷ [])) ≡ parts) [
@@ -67,7 +67,7 @@ flatten-in_nodes least parts = elim (nat_lt (least + least) (length parts)) as (
 ]
 
 module _ {X : Type 0} (least : ℕ) where
-  -- a list of at least the least number of parts, and at most three times as many, is cut into full pages
+  -- a list of at least the least number of parts, and at most three times as many, is cut into full nodes
   full-in_nodes : (parts : List X) → least ≤ length parts → length parts ≤ least + least + least → AreFullNodes least (in_nodes least parts)
   full-in_nodes parts enough most =
       let half : length parts / 2 ≤ length parts = omega arith in
@@ -82,7 +82,7 @@ module _ {X : Type 0} (least : ℕ) where
             ((enough, few), tt)
       ] refl
 
-  -- the pages below, those of the parts, and the pages above
+  -- the nodes below, those of the parts, and the nodes above
   pub flatten_rebuilt : (below : List (List X)) (parts : List X) (above : List (List X)) → flatten (below ++ (in_nodes least parts ++ above)) ≡ flatten below ++ (parts ++ flatten above)
   flatten_rebuilt below parts above = flatten-append below (in_nodes least parts ++ above) ∙ ap (λ l. flatten below ++ l) (flatten-append (in_nodes least parts) above ∙ ap (λ l. l ++ flatten above) (flatten-in_nodes least parts))
 

@@ -43,10 +43,10 @@ module _ {K V : Type 0} {cmp : K → K → Ordering} (o : IsTotalOrder cmp) (key
         ∙ ap (λ l. get cmp l key) leaf_cuts.joined
         ∙ get_around o key (flatten below) rows (flatten above) (leaves_around o key leaves below rows above leaf_cuts leaf_at order))
 
--- ---- the rows of the leaf change, and so do the leaves of its middle
+-- ---- the rows of the leaf change, and so do the leaves of its inner node
 
 module _ {X : Type 0} (inners inners_below : List (List (List X))) (leaves : List (List X)) (inners_above : List (List (List X))) where
-  -- if there are other middles, every leaf is full
+  -- if there are other inner nodes, every leaf is full
   pub others_full : Cuts least_leaves inners inners_below leaves inners_above → AreNodes least_rows (flatten inners) → 0 < length inners_below + length inners_above → AreFullNodes least_rows (flatten inners_below ++ (leaves ++ flatten inners_above))
   others_full cuts nodes more =
       let all = rw cuts.joined at nodes in
@@ -57,7 +57,7 @@ module _ {X : Type 0} (inners inners_below : List (List (List X))) (leaves : Lis
       let back = full_back least_rows (flatten inners_below) (leaves ++ flatten inners_above) all in
       nodes_from_full least_rows (flatten inners_below ++ (changed ++ flatten inners_above)) (full_append least_rows (flatten inners_below) (changed ++ flatten inners_above) (full_front least_rows (flatten inners_below) (leaves ++ flatten inners_above) all) (full_append least_rows changed (flatten inners_above) full (full_back least_rows leaves (flatten inners_above) back)))
 
--- after the leaves of one middle change, all leaves have the sizes of pages
+-- after the leaves of one inner node change, all leaves have the sizes of nodes
 pub leaves_changed : {X : Type 0} (inners inners_below : List (List (List X))) (leaves : List (List X)) (inners_above : List (List (List X))) (changed : List (List X)) → Cuts least_leaves inners inners_below leaves inners_above → AreNodes least_rows (flatten inners) → AreNodes least_rows changed → (0 < length inners_below + length inners_above → 1 < length changed) → AreNodes least_rows (flatten inners_below ++ (changed ++ flatten inners_above))
 leaves_changed inners [] leaves [] changed cuts nodes are more = rw (append-nil changed) are
 leaves_changed inners [] leaves (p ∷ above) changed cuts nodes are more = around_full inners [] leaves (p ∷ above) changed (others_full inners [] leaves (p ∷ above) cuts nodes (omega arith)) (full_from_nodes least_rows changed are (more (omega arith)))

@@ -1,4 +1,4 @@
--- The rows between two bounds, by the pages to which the bounds belong.
+-- The rows between two bounds, by the nodes to which the bounds belong.
 use Rattle.std.proofs.Common.{◌≡◌, ℕ, ◌<◌, ◌≤◌, ◌&&◌, List, [], ◌∷◌, ◌++◌, length, filter, drop, refl, sym, ap, subst, ◌∙◌, append-nil, append_assoc, length-append, inl, inr, arith}
 use Rattle.std.specs.declared.cmp.Ordering.{Ordering}
 use Rattle.std.specs.declared.cmp.Ordering.TheVariants.{Less}
@@ -31,7 +31,7 @@ module _ {K V : Type 0} {cmp : K → K → Ordering} (o : IsTotalOrder cmp) (lo 
   none_after : (rows : List (K × V)) → AllAbove cmp hi rows → rows_between cmp rows lo hi ≡ []
   none_after rows all = sym (between_is cmp lo hi rows) ∙ below_of_above o hi (rows_from cmp rows lo) (all_filter (λ y. cmp hi y ≡ Less) (λ row. is_ge (cmp row.0 lo)) rows all)
 
-  -- both bounds belong to one page
+  -- both bounds belong to one node
   between_one : (front node back : List (K × V)) → AllBelow cmp lo front → AllAbove cmp hi back → rows_between cmp (front ++ (node ++ back)) lo hi ≡ rows_between cmp node lo hi
   between_one front node back first last =
       let p = λ (row : K × V). is_ge (cmp row.0 lo) && is_lt (cmp row.0 hi) in
@@ -41,7 +41,7 @@ module _ {K V : Type 0} {cmp : K → K → Ordering} (o : IsTotalOrder cmp) (lo 
       ∙ ap (λ l. filter p node ++ l) (none_after back last)
       ∙ append-nil (filter p node)
 
-  -- the bounds belong to two pages, with others between them
+  -- the bounds belong to two nodes, with others between them
   between_two : (front first between last back rest : List (K × V)) → rest ≡ between ++ (last ++ back) → IsAround o lo front rest → IsAround o hi (first ++ between) back → rows_between cmp (front ++ (first ++ rest)) lo hi ≡ rows_from cmp first lo ++ (between ++ rows_below cmp last hi)
   between_two front first between last back rest parts low high =
       let below : AllBelow cmp hi first = all_front (λ y. cmp y hi ≡ Less) first between high.before in
@@ -54,7 +54,7 @@ module _ {K V : Type 0} {cmp : K → K → Ordering} (o : IsTotalOrder cmp) (lo 
       ∙ ap (λ l. rows_from cmp first lo ++ rows_below cmp l hi) parts
       ∙ ap (λ l. rows_from cmp first lo ++ l) (below_around o hi between last back (record { before = all_back (λ y. cmp y hi ≡ Less) first between high.before; behind = high.behind }))
 
--- ---- the pages from an index on
+-- ---- the nodes from an index on
 
 module _ {X : Type 0} (least : ℕ) (nodes below : List (List X)) (node : List X) (above : List (List X)) (cuts : Cuts least nodes below node above) (from : List (List X)) (is : from ≡ drop (length below) nodes) where
   pub front_and_rest : nodes ≡ below ++ from
@@ -75,7 +75,7 @@ module _ {X : Type 0} (least : ℕ) (nodes below : List (List X)) (node : List X
   pub rest_size : (most : ℕ) → length nodes ≤ most → length from ≤ most
   rest_size most few = omega (arith, ap length front_and_rest, length-append below from)
 
-  -- if the other bound belongs to a later page
+  -- if the other bound belongs to a later node
   module _ (ends_below : List (List X)) (last : List X) (ends_above : List (List X)) (ends_cuts : Cuts least from ends_below last ends_above) (first : List X) (between : List (List X)) (more : ends_below ≡ first ∷ between) where
     whole_rest : from ≡ ends_below ++ last ∷ ends_above
     whole_rest = elim ends_cuts.whole [
@@ -128,7 +128,7 @@ module _ {K V : Type 0} {cmp : K → K → Ordering} (o : IsTotalOrder cmp) (lo 
         ∙ ap (λ l. l ++ (flatten between ++ rows_below cmp last hi)) (sym starts_are)
         ∙ ap (λ l. x ++ (flatten between ++ l)) (sym ends_are))
 
--- ---- between two middles
+-- ---- between two inner nodes
 
 module _ {K V : Type 0} {cmp : K → K → Ordering} (o : IsTotalOrder cmp) (lo hi : K) (inners below : List (List (List (K × V)))) (leaves : List (List (K × V))) (above : List (List (List (K × V)))) (cuts : Cuts least_leaves inners below leaves above) (at : CutsAt (last_passes (λ row. is_lt (cmp row.0 lo))) below leaves above) (sorted : IsInOrder cmp (flatten (flatten inners))) (nodes : AreNodes least_rows (flatten inners)) (from : List (List (List (K × V)))) (is : from ≡ drop (length below) inners) where
   inners_parted : flatten inners ≡ flatten below ++ flatten from
@@ -174,7 +174,7 @@ module _ {K V : Type 0} {cmp : K → K → Ordering} (o : IsTotalOrder cmp) (lo 
           ap (λ l. rows_between cmp l lo hi) (ap flatten cuts.joined ∙ flatten-append (flatten below) (leaves ++ flatten above) ∙ ap (λ l. flatten (flatten below) ++ l) (flatten-append leaves (flatten above)))
           ∙ between_two o lo hi (flatten (flatten below)) (flatten leaves) (flatten (flatten between)) (flatten last) (flatten (flatten ends_above)) (flatten (flatten above)) parts low_inners (rw before at high_inners)
 
-      -- the leaves of the first and of the last middle, cut at the bounds
+      -- the leaves of the first and of the last inner node, cut at the bounds
       pub in_two_inners : (a c : List (K × V)) (b d : List (List (K × V))) → rows_from cmp (flatten leaves) lo ≡ a ++ flatten b → rows_below cmp (flatten last) hi ≡ flatten d ++ c → a ++ (flatten b ++ (flatten (flatten between) ++ (flatten d ++ c))) ≡ rows_between cmp (flatten (flatten inners)) lo hi
       in_two_inners a c b d starts_are ends_are = sym (
           in_two
@@ -182,7 +182,7 @@ module _ {K V : Type 0} {cmp : K → K → Ordering} (o : IsTotalOrder cmp) (lo 
           ∙ ap (λ l. (a ++ flatten b) ++ (flatten (flatten between) ++ l)) ends_are
           ∙ append_assoc a (flatten b) (flatten (flatten between) ++ (flatten d ++ c)))
 
--- ---- the leaves of one middle, cut at a bound
+-- ---- the leaves of one inner node, cut at a bound
 
 module _ {K V : Type 0} {cmp : K → K → Ordering} (o : IsTotalOrder cmp) (key : K) (leaves below : List (List (K × V))) (rows : List (K × V)) (above : List (List (K × V))) (cuts : Cuts least_rows leaves below rows above) (at : CutsAt (λ row. is_lt (cmp row.0 key)) below rows above) (sorted : IsInOrder cmp (flatten leaves)) where
   pub starts_at : (found : List (K × V)) → found ≡ rows_from cmp rows key → rows_from cmp (flatten leaves) key ≡ found ++ flatten above
@@ -191,7 +191,7 @@ module _ {K V : Type 0} {cmp : K → K → Ordering} (o : IsTotalOrder cmp) (key
   pub ends_there : (found : List (K × V)) → found ≡ rows_below cmp rows key → rows_below cmp (flatten leaves) key ≡ flatten below ++ found
   ends_there found are = ap (λ l. rows_below cmp l key) cuts.joined ∙ below_around o key (flatten below) rows (flatten above) (leaves_around o key leaves below rows above cuts at sorted) ∙ ap (λ l. flatten below ++ l) (sym are)
 
--- ---- the middles, cut at a bound
+-- ---- the inner nodes, cut at a bound
 
 module _ {K V : Type 0} {cmp : K → K → Ordering} (o : IsTotalOrder cmp) (key : K) (inners below : List (List (List (K × V)))) (leaves : List (List (K × V))) (above : List (List (List (K × V)))) (cuts : Cuts least_leaves inners below leaves above) (at : CutsAt (last_passes (λ row. is_lt (cmp row.0 key))) below leaves above) (sorted : IsInOrder cmp (flatten (flatten inners))) (nodes : AreNodes least_rows (flatten inners)) where
   pub inners_start_at : (a : List (K × V)) (b : List (List (K × V))) → rows_from cmp (flatten leaves) key ≡ a ++ flatten b → a ++ (flatten b ++ (flatten (flatten above) ++ [])) ≡ rows_from cmp (flatten (flatten inners)) key
@@ -211,14 +211,14 @@ module _ {K V : Type 0} {cmp : K → K → Ordering} (o : IsTotalOrder cmp) (key
           let more : 0 < length above = omega (arith, ap length e) in
           subst (λ x. AreFullNodes least_rows (flatten x)) (sym e) (full_back least_rows leaves (flatten above) (full_back least_rows (flatten below) (leaves ++ flatten above) (others_full inners below leaves above cuts nodes (omega arith))))
 
--- ---- all pages
+-- ---- all nodes
 
--- all pages after the first are full
+-- all nodes after the first are full
 pub later_full : {X : Type 0} (least : ℕ) (node : List X) (nodes : List (List X)) → AreNodes least (node ∷ nodes) → AreFullNodes least nodes
 later_full least node [] are = tt
 later_full least node (p ∷ ps) are = are.1
 
--- the leaves of full middles are full
+-- the leaves of full inner nodes are full
 pub full_leaves : {X : Type 0} (inners : List (List (List X))) → AreFullNodes least_leaves inners → AreNodes least_rows (flatten inners) → AreFullNodes least_rows (flatten inners)
 full_leaves [] all are = tt
 full_leaves (m ∷ ms) all are = full_from_nodes least_rows (m ++ flatten ms) are (omega (arith, all.0, length-append m (flatten ms)))
@@ -227,7 +227,7 @@ pub empty : {X : Type 0} (xs : List X) → length xs ≡ 0 → xs ≡ []
 empty [] none = refl
 empty (x ∷ xs) none = absurd (omega arith)
 
--- ---- a step of a walk to the next page
+-- ---- a step of a walk to the next node
 
 module _ {X : Type 0} (leaves : List (List X)) (inners : List (List (List X))) (middle taken : List (List X)) (rest : List (List (List X))) where
   pub full_inner : (last_leaves : List (List X)) → inners ≡ middle ∷ rest → taken ≡ middle → AreWalkNodes leaves inners last_leaves → AreWalkNodes taken rest last_leaves

@@ -1,50 +1,50 @@
--- How the rows of a shelf are stored in pages, the nodes of a B-tree with three levels. A leaf contains rows, a middle (an
--- inner node) contains leaves, and the root contains middles. For this crate's own contracts.
+-- How the rows of a shelf are stored in nodes of a B-tree with three levels. A leaf contains rows, an inner node (an
+-- inner node) contains leaves, and the root contains inner nodes. For this crate's own contracts.
 use Rattle.std.specs.Prelude.{◌≡◌, ◌⊎◌, ℕ, ◌+◌, ◌-◌, ◌/◌, ◌<◌, ◌≤◌, Bool, true, false, if◌then◌else◌, nat_lt, List, [], ◌∷◌, ◌++◌, length, take, drop, Option, Some, None}
 use Rattle.std.specs.declared.cmp.Ordering.{Ordering}
 use Rattle.std.specs.List.{AllByRecursion}
 use Rattle.version_shelf.specs.Shelf.{IsInOrder, most_rows}
 
--- the concatenation of the pages
+-- the concatenation of the nodes
 abbrev pub flatten : {X : Type 0} → List (List X) → List X
 flatten [] = []
 flatten (node ∷ nodes) = node ++ flatten nodes
 
--- the least number of rows in a leaf, and of leaves in a middle, if there are several on its level
+-- the least number of rows in a leaf, and of leaves in an inner node, if there are several on its level
 abbrev pub least_rows : ℕ
 least_rows = 16
 
 abbrev pub least_leaves : ℕ
 least_leaves = 32
 
--- the largest number of middles in a shelf
+-- the largest number of inner nodes in a shelf
 abbrev pub most_inners : ℕ
 most_inners = 512
 
--- the page has at least this number of parts, and at most twice as many
+-- the node has at least this number of parts, and at most twice as many
 abbrev pub IsFullNode : {X : Type 0} → ℕ → List X → Type 0
 IsFullNode least node = (least ≤ length node) × (length node ≤ least + least)
 
 abbrev pub AreFullNodes : {X : Type 0} → ℕ → List (List X) → Type 0
 AreFullNodes least nodes = AllByRecursion (IsFullNode least) nodes
 
--- several pages are all full; a single page has at most twice the least number of parts, and no minimum
+-- several nodes are all full; a single node has at most twice the least number of parts, and no minimum
 abbrev pub AreNodes : {X : Type 0} → ℕ → List (List X) → Type 0
 AreNodes least [] = Unit {0}
 AreNodes least (node ∷ []) = length node ≤ least + least
 AreNodes least (node ∷ other ∷ nodes) = AreFullNodes least (node ∷ other ∷ nodes)
 
--- the parts as one page, or as two halves if there are more than twice the least number
+-- the parts as one node, or as two halves if there are more than twice the least number
 abbrev pub in_nodes : {X : Type 0} → ℕ → List X → List (List X)
 in_nodes least parts = if nat_lt (least + least) (length parts) then take (length parts / 2) parts ∷ drop (length parts / 2) parts ∷ [] else parts ∷ []
 
--- the middles in the root of a shelf; none if it has no root
+-- the inner nodes in the root of a shelf; none if it has no root
 abbrev pub inners_of : {X : Type 0} → Option (List X) → List X
 inners_of None = []
 inners_of (Some inners) = inners
 
--- the invariant of a shelf with these middles and this number of rows: the rows are in order, as many as this number, and
--- at most `most_rows`; the leaves and middles have the sizes of pages, and there are at most `most_inners` middles
+-- the invariant of a shelf with these inner nodes and this number of rows: the rows are in order, as many as this number, and
+-- at most `most_rows`; the leaves and inner nodes have the sizes of nodes, and there are at most `most_inners` inner nodes
 pub record IsShelf {K V : Type 0} (cmp : K → K → Ordering) (inners : List (List (List (K × V)))) (count : ℕ) : Type 0 where
   pub order : IsInOrder cmp (flatten (flatten inners))
   pub counted : count ≡ length (flatten (flatten inners))
@@ -72,7 +72,7 @@ pub record IsSplitIndex {X : Type 0} (passes : X → Bool) (parts : List X) (pos
   pub before : 0 < position → last_passes passes (take position parts) ≡ true
   pub behind : first_passes passes (drop position parts) ≡ false
 
--- the pages are those below, the page with these parts, and those above, or there is no page and no part; the others are
+-- the nodes are those below, the node with these parts, and those above, or there is no node and no part; the others are
 -- full, and so is this one if there are others
 pub record Cuts {X : Type 0} (least : ℕ) (nodes below : List (List X)) (parts : List X) (above : List (List X)) : Type 0 where
   pub whole : (nodes ≡ below ++ parts ∷ above) ⊎ ((nodes ≡ []) × (below ≡ []))
@@ -84,13 +84,13 @@ pub record Cuts {X : Type 0} (least : ℕ) (nodes below : List (List X)) (parts 
   pub fits : length below + length above ≤ length nodes - 1
   pub all : length nodes ≤ length below + length above + 1
 
--- the last part of the pages below passes, if there are any; the last of these parts doesn't if there are pages above
+-- the last part of the nodes below passes, if there are any; the last of these parts doesn't if there are nodes above
 pub record CutsAt {X : Type 0} (passes : X → Bool) (below : List (List X)) (parts : List X) (above : List (List X)) : Type 0 where
   pub before : 0 < length below → last_passes (last_passes passes) below ≡ true
   pub behind : 0 < length above → last_passes passes parts ≡ false
 
--- the path from the root to a leaf: the middles cut at one, and the leaves of that middle cut at one; all leaves have the
--- sizes of pages, and there are at most `most_inners` middles
+-- the path from the root to a leaf: the inner nodes cut at one, and the leaves of that inner node cut at one; all leaves have the
+-- sizes of nodes, and there are at most `most_inners` inner nodes
 pub record IsPath {X : Type 0} (inners inners_below : List (List (List X))) (leaves : List (List X)) (inners_above : List (List (List X))) (below : List (List X)) (rows : List X) (above : List (List X)) : Type 0 where
   pub cut_middles : Cuts least_leaves inners inners_below leaves inners_above
   pub cut_leaves : Cuts least_rows leaves below rows above
@@ -103,6 +103,6 @@ pub record IsPath {X : Type 0} (inners inners_below : List (List (List X))) (lea
 abbrev pub walk_rows : {X : Type 0} → List X → List (List X) → List (List (List X)) → List (List X) → List X → List X
 walk_rows rest leaves inners last_leaves last = rest ++ (flatten leaves ++ (flatten (flatten inners) ++ (flatten last_leaves ++ last)))
 
--- the pages that a walk has yet to visit are full
+-- the nodes that a walk has yet to visit are full
 abbrev pub AreWalkNodes : {X : Type 0} → List (List X) → List (List (List X)) → List (List X) → Type 0
 AreWalkNodes leaves inners last_leaves = AreFullNodes least_rows leaves × AreFullNodes least_leaves inners × AreFullNodes least_rows (flatten inners) × AreFullNodes least_rows last_leaves

@@ -7,7 +7,7 @@ use crate::bound::Bound;
 use std::cmp::Ordering;
 use std::marker::Model;
 
-/// A counter of the work of calls: of comparisons of keys, or of rows and pages put into new pages. It never
+/// A counter of the work of calls: of comparisons of keys, or of rows and nodes put into new nodes. It never
 /// decreases; a contract sees the number.
 #[derive(Drop)]
 pub struct Count {

@@ -6,11 +6,11 @@
 //! an iterator over all rows, those from a key on, or those between two bounds. [`Bound`] is an end of a range: a key, or
 //! the position of a key that need not be constructed. [`Count`] counts the work of a call.
 //!
-//! A shelf is a B-tree of three fixed levels, whose nodes are called pages. The leaves contain the rows, the middles (inner
-//! nodes) contain the leaves, and the root contains the middles. A leaf has at most 32 rows, and at least 16 unless it is
-//! the only leaf. A middle has at most 64 leaves, and at least 32 unless it is the only middle. The root has at most 512
-//! middles. A change rebuilds the leaf and the middle of its key, and the root. A page with one part too many is split into
-//! two halves. A page with one part too few is merged with a neighbour, and the result is split if it is too large. This
+//! A shelf is a B-tree of three fixed levels, with nodes of three kinds. The leaves contain the rows, the inner nodes (inner
+//! nodes) contain the leaves, and the root contains the inner nodes. A leaf has at most 32 rows, and at least 16 unless it is
+//! the only leaf. An inner node has at most 64 leaves, and at least 32 unless it is the only inner node. The root has at most 512
+//! inner nodes. A change rebuilds the leaf and the inner node of its key, and the root. A node with one part too many is split into
+//! two halves. A node with one part too few is merged with a neighbour, and the result is split if it is too large. This
 //! preserves the type invariant, `IsShelf` of `specs/Nodes.antt`, under all changes in any order of keys.
 //!
 //! The maximum cost of each call, for a shelf of n rows:
@@ -23,17 +23,17 @@
 //! | `range_from` | as `get`; none in `next` | none | none |
 //! | `rows` | none | none | none |
 //! | `clone` | none | none | none; increments the root's reference count |
-//! | `with`, `with_counted` | as `get` | none | the row, and new pages with 1,024 parts in total |
-//! | `without`, `without_counted` | as `get` | none | new pages with 1,024 parts in total; as `clone` if no row has the key |
+//! | `with`, `with_counted` | as `get` | none | the row, and new nodes with 1,024 parts in total |
+//! | `without`, `without_counted` | as `get` | none | new nodes with 1,024 parts in total; as `clone` if no row has the key |
 //!
 //! The contract of `find` states at most 32 comparisons, those of `with_counted` and `without_counted` at most 1,024 parts,
 //! each by a [`Count`]. All comparisons of keys are made in `count::compared` and `count::is_below`, which calls
-//! `Bound::is_above` once. Parts (rows and pages) enter new pages in `node::put`, `node::append` and
+//! `Bound::is_above` once. Parts (rows and nodes) enter new nodes in `node::put`, `node::append` and
 //! `rebuilt::in_halves`, which count them.
 //!
-//! Shelves share rows and pages by reference counts. A row or a page taken over from an older shelf is the same object in
-//! memory. Putting it into a new page increments its count, and it is freed with the last shelf that contains it. Dropping a
-//! shelf decrements the root's count. A page that is freed decrements the counts of its parts. A clone of a shelf also shares
+//! Shelves share rows and nodes by reference counts. A row or a node taken over from an older shelf is the same object in
+//! memory. Putting it into a new node increments its count, and it is freed with the last shelf that contains it. Dropping a
+//! shelf decrements the root's count. A node that is freed decrements the counts of its parts. A clone of a shelf also shares
 //! its root.
 //!
 //! The only error is `AllocError`: out of memory, or a reference count at its maximum. Calls that neither allocate nor
@@ -43,15 +43,15 @@
 //! - `bound`: where a range begins or ends.
 //! - `range`: the public iterator over rows.
 //! - `count`: the counter of the work of a call.
-//! - `path`: where in a shelf a key belongs, and the middles after a change of its leaf.
-//! - `rebuilt`: a list of pages after the parts of one of them changed.
+//! - `path`: where in a shelf a key belongs, and the inner nodes after a change of its leaf.
+//! - `rebuilt`: a list of nodes after the parts of one of them changed.
 //! - `search`: where in an ordered list of parts a bound belongs.
-//! - `walk`: how an iterator moves from page to page.
+//! - `walk`: how an iterator moves from node to node.
 //! - `leaf`: the rows of one leaf.
 //! - `node`: a node that several shelves share.
-//! - `shared_row`: a row that several pages share.
+//! - `shared_row`: a row that several nodes share.
 //!
-//! Nothing outside this crate depends on the pages.
+//! Nothing outside this crate depends on the nodes.
 //!
 //! `docs/GLOSSARY.md` explains the terms.
 #![tactic(auto)]

@@ -9,7 +9,7 @@ use std::alloc::{AllocError, Global};
 use std::marker::Model;
 use std::sync::Arc;
 
-/// A node of the tree: a list of parts, which are rows or other pages. Cloning increments the page's reference count and
+/// A node of the tree: a list of parts, which are rows or other nodes. Cloning increments the node's reference count and
 /// copies no part. A contract sees the list of the parts.
 #[derive(Drop)]
 pub(crate) struct Node<T> {
@@ -25,14 +25,14 @@ impl<T> Model for Node<T> {
     ghost view = { λ node. (arc_value node.parts).items };
 }
 
-/// A leaf node: a page of rows.
+/// A leaf node: a node of rows.
 pub(crate) type Leaf<K, V> = Node<SharedRow<K, V>>;
 
-/// An inner node: a page of leaves.
+/// An inner node: a node of leaves.
 pub(crate) type InnerNode<K, V> = Node<Leaf<K, V>>;
 
 impl<T> Node<T> {
-    /// Makes a page of these parts, with a reference count of 1. The only error is out of memory.
+    /// Makes a node of these parts, with a reference count of 1. The only error is out of memory.
     pub(crate) fn of(alloc: Global, parts: Vec<T>) -> Result<Node<T>, AllocError>
     where
         T: Drop,

@@ -7,7 +7,7 @@ ghost use Rattle.version_shelf.specs.Nodes.{AreNodes, IsPath, flatten, least_lea
 
 use crate::count::Count;
 use crate::leaf::{Parts, part};
-use crate::node::{Leaf, InnerNode};
+use crate::node::{InnerNode, Leaf};
 use crate::rebuilt::rebuilt;
 use crate::search::{Cut, cut_at};
 use crate::shared_row::SharedRow;
@@ -17,7 +17,7 @@ const LEAST_ROWS: usize = 16;
 
 const LEAST_LEAVES: usize = 32;
 
-/// The path from the root to a key: the middles (inner nodes) of a shelf, the leaves of one middle, and the rows of one
+/// The path from the root to a key: the inner nodes (inner nodes) of a shelf, the leaves of one inner node, and the rows of one
 /// leaf. Each list is cut at the key.
 #[derive(Drop)]
 pub(crate) struct Path<'a, K, V> {
@@ -54,7 +54,7 @@ pub(crate) fn path_to<'a, K: Ord, V>(
     }
 }
 
-/// Returns the middles of a shelf in which these rows replace those of the leaf at the end of the path. The error is out
+/// Returns the inner nodes of a shelf in which these rows replace those of the leaf at the end of the path. The error is out
 /// of memory, or a reference count at its maximum.
 pub(crate) fn inners_with<K: Drop, V: Drop>(
     alloc: Global,

@@ -1,4 +1,4 @@
-//! How is a list of pages rebuilt after the parts of one of them changed?
+//! How is a list of nodes rebuilt after the parts of one of them changed?
 
 ghost use Rattle.std.specs.Prelude.{◌≡◌, ◌++◌, ◌+◌, ◌-◌, ◌/◌, ◌<◌, ◌≤◌, ◌^◌, OnOk, IfOk, length, take, drop};
 ghost use Rattle.version_shelf.specs.Shelf.{ClonesEqual};
@@ -8,8 +8,8 @@ use crate::count::Count;
 use crate::node::{Node, append, put};
 use std::alloc::{AllocError, Global};
 
-/// Returns the pages below, one or two pages of these parts, and the pages above. If the result has several pages, each
-/// has at least `least` parts; no page has more than twice as many. If these parts are fewer than `least`, they are merged
+/// Returns the nodes below, one or two nodes of these parts, and the nodes above. If the result has several nodes, each
+/// has at least `least` parts; no node has more than twice as many. If these parts are fewer than `least`, they are merged
 /// with those of a neighbour, if there is one. The error is out of memory, or a reference count at its maximum.
 pub(crate) fn rebuilt<T: Clone>(
     alloc: Global,
@@ -67,7 +67,7 @@ fn put_together<T: Clone>(
     Ok(all)
 }
 
-/// Returns the pages below, one or two pages of these parts, and the pages above.
+/// Returns the nodes below, one or two nodes of these parts, and the nodes above.
 fn joined<T: Clone>(
     alloc: Global,
     least: usize,
@@ -90,7 +90,7 @@ fn joined<T: Clone>(
     Ok(nodes)
 }
 
-/// Appends these parts as one page, or as two halves if there are more than `2 * least`.
+/// Appends these parts as one node, or as two halves if there are more than `2 * least`.
 fn put_nodes<T: Drop>(
     alloc: Global,
     least: usize,

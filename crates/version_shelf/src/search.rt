@@ -8,12 +8,12 @@ use crate::count::{Count, is_below};
 use crate::node::Node;
 use crate::shared_row::SharedRow;
 
-/// A part that can be compared with a bound: a row, or a page, which counts as its last row.
+/// A part that can be compared with a bound: a row, or a node, which counts as its last row.
 pub(crate) trait Sought<K: Ord> {
     // the part's last key is below the key
     ghost below: { K → Self → Bool };
 
-    // the least number of these parts in a page that has neighbours
+    // the least number of these parts in a node that has neighbours
     ghost least: { ℕ };
 
     fn is_below<B: Bound<K>>(&self, bound: &B, count: &mut Count) -> bool
@@ -103,8 +103,8 @@ fn all_but_last<T>(parts: &[T]) -> &[T]
     }
 }
 
-/// An ordered list of pages cut at a bound: the pages before it, the parts of the page where it belongs, and the pages
-/// after that one. If there is no page, all three are empty.
+/// An ordered list of nodes cut at a bound: the nodes before it, the parts of the node where it belongs, and the nodes
+/// after that one. If there is no node, all three are empty.
 #[derive(Drop)]
 pub(crate) struct Cut<'a, T> {
     pub(crate) below: &'a [Node<T>],
@@ -112,7 +112,7 @@ pub(crate) struct Cut<'a, T> {
     pub(crate) above: &'a [Node<T>],
 }
 
-/// Cuts the pages at the first one whose last key isn't below the bound, or at the last page.
+/// Cuts the nodes at the first one whose last key isn't below the bound, or at the last node.
 pub(crate) fn cut_at<'a, K: Ord, T: Sought<K>, B: Bound<K>>(
     nodes: &'a [Node<T>],
     bound: &B,
@@ -128,7 +128,7 @@ pub(crate) fn cut_at<'a, K: Ord, T: Sought<K>, B: Bound<K>>(
     cut_at_position(nodes, bound, position(all_but_last(nodes), bound, count))
 }
 
-/// As [`cut_at`], for a bound that most often belongs to the first page, which is compared first.
+/// As [`cut_at`], for a bound that most often belongs to the first node, which is compared first.
 pub(crate) fn cut_near<'a, K: Ord, T: Sought<K>, B: Bound<K>>(
     nodes: &'a [Node<T>],
     bound: &B,
@@ -141,7 +141,11 @@ pub(crate) fn cut_near<'a, K: Ord, T: Sought<K>, B: Bound<K>>(
     ensures key { CutsAt (T.below (B.position bound.now)) result.below.now result.at.now result.above.now }
     ensures counted { (count.old ≤ count.new) × (count.new ≤ count.old + 10) }
 {
-    cut_at_position(nodes, bound, position_near(all_but_last(nodes), bound, count))
+    cut_at_position(
+        nodes,
+        bound,
+        position_near(all_but_last(nodes), bound, count),
+    )
 }
 
 fn cut_at_position<'a, K: Ord, T: Sought<K>, B: Bound<K>>(

@@ -19,7 +19,7 @@ use std::marker::Model;
 const MOST_ROWS: usize = 262_144;
 
 /// A persistent (immutable) ordered map of at most 262,144 rows. A reader sees the same rows as long as it holds the
-/// shelf. A writer makes one or two leaves, one or two middles (inner nodes), and a root. It shares all other pages with
+/// shelf. A writer makes one or two leaves, one or two inner nodes (inner nodes), and a root. It shares all other nodes with
 /// the shelf that it changes.
 #[derive(Drop)]
 pub struct Shelf<K: Ord, V> {
@@ -130,7 +130,7 @@ impl<K: Ord + Clone, V: Clone> Shelf<K, V> {
     }
 
     /// Returns the shelf with this row, as `with` does and under the same conditions. Adds to the count the number of rows
-    /// and pages put into new pages, at most 1,024. The caller ensures that the count can grow by 1,024.
+    /// and nodes put into new nodes, at most 1,024. The caller ensures that the count can grow by 1,024.
     pub fn with_counted(
         &self,
         key: K,
@@ -169,7 +169,7 @@ impl<K: Ord + Clone, V: Clone> Shelf<K, V> {
     }
 
     /// Returns the shelf without the row that has the key, as `without` does and under the same conditions. Adds to the
-    /// count the number of rows and pages put into new pages, at most 1,024. The caller ensures that the count can grow by
+    /// count the number of rows and nodes put into new nodes, at most 1,024. The caller ensures that the count can grow by
     /// 1,024.
     pub fn without_counted(&self, key: &K, count: &mut Count) -> Result<Shelf<K, V>, AllocError>
         requires keys { ClonesEqual K.is_clone }
@@ -190,7 +190,11 @@ impl<K: Ord + Clone, V: Clone> Shelf<K, V> {
         Shelf::of(self.alloc, inners, self.len - 1)
     }
 
-    fn of(alloc: Global, inners: Vec<InnerNode<K, V>>, len: usize) -> Result<Shelf<K, V>, AllocError>
+    fn of(
+        alloc: Global,
+        inners: Vec<InnerNode<K, V>>,
+        len: usize,
+    ) -> Result<Shelf<K, V>, AllocError>
         requires order { IsInOrder K.cmp (flatten (flatten inners.items)) }
         requires rows { len ≡ length (flatten (flatten inners.items)) }
         requires most { len ≤ most_rows }

@@ -1,4 +1,4 @@
-//! How does an iterator move from page to page?
+//! How does an iterator move from node to node?
 
 ghost use Rattle.std.specs.Prelude.{◌≡◌, ◌++◌, ◌∷◌, ◌+◌, ◌<◌, ◌≤◌, ◌^◌, [], length};
 ghost use Rattle.version_shelf.specs.Shelf.{IsInOrder, rows_between, rows_from};
@@ -7,11 +7,11 @@ ghost use Rattle.version_shelf.specs.Nodes.{AreFullNodes, AreNodes, AreWalkNodes
 use crate::bound::Bound;
 use crate::count::Count;
 use crate::leaf::{between, split};
-use crate::node::{Leaf, InnerNode};
+use crate::node::{InnerNode, Leaf};
 use crate::search::{cut_at, cut_near};
 use crate::shared_row::SharedRow;
 
-/// The remainder of a walk: rows, the leaves after them, and the middles after these. Then the last leaves, from the middle
+/// The remainder of a walk: rows, the leaves after them, and the inner nodes after these. Then the last leaves, from the inner node
 /// of the upper bound, and the last rows, from the leaf of the upper bound.
 #[derive(Drop)]
 pub(crate) struct Walk<'a, K, V> {
@@ -43,7 +43,7 @@ pub(crate) fn refill<K, V>(walk: &mut Walk<'_, K, V>)
     }
 }
 
-/// Moves to the leaves of the next middle if `leaves` is empty; if it stays empty, no leaf remains.
+/// Moves to the leaves of the next inner node if `leaves` is empty; if it stays empty, no leaf remains.
 fn refill_leaves<K, V>(walk: &mut Walk<'_, K, V>)
     requires nodes { AreWalkNodes walk.old.leaves.now walk.old.inners.now walk.old.last_leaves.now }
     ensures nodes { AreWalkNodes walk.new.leaves.now walk.new.inners.now walk.new.last_leaves.now }
@@ -141,7 +141,7 @@ pub(crate) fn walk_all<K, V>(inners: &[InnerNode<K, V>]) -> Walk<'_, K, V>
     }
 }
 
-/// Returns the walk over the rows of these leaves, and then over those of these middles.
+/// Returns the walk over the rows of these leaves, and then over those of these inner nodes.
 fn walk_after<'a, K, V>(leaves: &'a [Leaf<K, V>], inners: &'a [InnerNode<K, V>]) -> Walk<'a, K, V>
     requires leaves { AreNodes least_rows (flatten (leaves.now ∷ inners.now)) }
     requires inners { AreFullNodes least_leaves inners.now }
@@ -166,7 +166,7 @@ fn walk_after<'a, K, V>(leaves: &'a [Leaf<K, V>], inners: &'a [InnerNode<K, V>])
     }
 }
 
-/// Returns the walk over the rows of one middle with `lo <= key < hi`. Makes at most 38 comparisons.
+/// Returns the walk over the rows of one inner node with `lo <= key < hi`. Makes at most 38 comparisons.
 fn walk_in_inner<'a, K: Ord, V, L: Bound<K>, H: Bound<K>>(
     leaves: &'a [Leaf<K, V>],
     lo: &L,

@@ -5,7 +5,7 @@ ghost use Rattle.entry_book.specs.Order.{first};
 ghost use Rattle.entry_book.specs.Writes.{wrote_agent};
 ghost use Rattle.batch_work.specs.Steps.{agent_gone, for_agent_next};
 
-use crate::phase::{WalkFor, Next, Phase};
+use crate::phase::{Next, Phase, WalkFor};
 use crate::rows::first_of;
 use entry_book::{Agent, OpRefusal, OpReply, both};
 use std::alloc::{AllocError, Global};

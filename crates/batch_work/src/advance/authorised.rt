@@ -7,7 +7,7 @@ ghost use Rattle.batch_work.specs.WalkStates.{first_walk, is_walk_over, walked};
 
 use crate::advance::answered;
 use crate::domains::domains_of;
-use crate::phase::{WalkFor, Next, Phase};
+use crate::phase::{Next, Phase, WalkFor};
 use crate::rows::held;
 use crate::walk::Walk;
 use entry_book::{Agent, Bundle, Entry, OpReply, Sequence, Shared};

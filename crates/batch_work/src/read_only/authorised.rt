@@ -11,9 +11,9 @@ ghost use Rattle.batch_work.specs.Questions.{answered, bundles_at, walk_begun};
 ghost use Rattle.batch_work.specs.WalkStates.{walked};
 ghost use Rattle.batch_work.specs.Windows.{book_in};
 
-use crate::read_only::walk::BorrowedWalk;
-use crate::domains::domains_of_borrowed;
 use crate::borrowed_reply::{BorrowedOpReply, BorrowedRows};
+use crate::domains::domains_of_borrowed;
+use crate::read_only::walk::BorrowedWalk;
 use crate::rows::holds;
 use entry_book::{Agent, Bundle, Entry, OpRefusal, Sequence, Shared};
 use spiffe_name::{SpiffeId, TrustDomain};

@@ -7,7 +7,7 @@ ghost use Rattle.reg_lines.specs.Values.{agent_data, bundle_data, entry_data, op
 
 use crate::invariants::Written;
 use crate::printing::replies::CallReply;
-use entry_book::{Agent, Bundle, Entry, OpRefusal, OpReply, ReplyOutcome, Refusal};
+use entry_book::{Agent, Bundle, Entry, OpRefusal, OpReply, Refusal, ReplyOutcome};
 
 impl Written for Entry {
     ghost is_written = { λ _. ⊤ };

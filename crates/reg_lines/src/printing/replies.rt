@@ -8,7 +8,7 @@ use crate::printing::print_json::{PrintJson, print_list, print_number};
 use crate::printing::refusal::put_op;
 use crate::printing::text::print_text;
 use call_answers::CallAnswer;
-use entry_book::{OpRefusal, OpReply, ReplyOutcome, Refusal, Reply};
+use entry_book::{OpRefusal, OpReply, Refusal, Reply, ReplyOutcome};
 use line_devices::{Output, Sink};
 use uuid::Uuid;
 

@@ -7,7 +7,7 @@ pub returns-then-len-least-clause-parts :
     goal.returns-then-len-least-clause-parts
 returns-then-len-least-clause-parts g c = rebuilt_flat (λ v. v.items) c.args.least c.args.below.now c.args.parts.items c.args.above.now _ refl c.joined.result c.joined.ensures.nodes
 
--- merged with the page below
+-- merged with the node below
 
 pub put_together-requires-clause-size : goal.put_together-requires-clause-size
 put_together-requires-clause-size g c =
@@ -35,7 +35,7 @@ returns-in-Some-clause-nodes g c =
     let size : length c.in_ok-parts.parts.items ≡ length c.in-Some.neighbour.now + length c.args.parts.items = omega (arith, ap length c.in_ok-parts.ensures.parts, length-append c.parts.result.now c.deref.result.now, ap length c.parts.ensures, ap length c.deref.ensures.value) in
     rebuilt_nodes (λ v. v.items) c.args.least c.in-Some.below.now c.in_ok-parts.parts.items c.args.above.now c.requires.some full.1 c.requires.above (omega arith) (λ some. omega arith) c.joined-in-Some.result c.joined-in-Some.ensures.nodes
 
--- merged with the page above
+-- merged with the node above
 
 pub returns-in-Some-split_first-clause-parts : goal.returns-in-Some-split_first-clause-parts
 returns-in-Some-split_first-clause-parts g c =

@@ -2,7 +2,7 @@ use Rattle.std.proofs.Common.{◌≡◌, ◌-◌, ◌++◌, ◌∷◌, length, t
 use Rattle.version_shelf.proofs.Cutting.{cuts_of, cuts_at}
 use Rattle.version_shelf.proofs.search.cut_at_position.Goals as goal
 
--- the pages before the index, the one at it, and the rest
+-- the nodes before the index, the one at it, and the rest
 parts : (g : _) (c : goal.After-parts g) → c.args.nodes.now ≡ c.split_at.result.0.now ++ c.in-Some.node.now ∷ c.in-Some.above.now
 parts g c = c.split_at.ensures.by_index.0 ∙ ap (λ l. c.split_at.result.0.now ++ l) c.in-Some.ensures.cases.0
 

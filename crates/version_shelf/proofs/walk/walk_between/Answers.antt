@@ -3,7 +3,7 @@ use Rattle.version_shelf.proofs.Around.{are_leaves_at, leaf_order, leaves_order}
 use Rattle.version_shelf.proofs.Walks.{rest_leaves, rest_rows_order, in_one_inner, in_two_inners, between_full, starts_at, ends_there}
 use Rattle.version_shelf.proofs.walk.walk_between.Goals as goal
 
--- if both bounds belong to one middle
+-- if both bounds belong to one inner node
 
 pub walk_in_inner-requires-clause-order : goal.walk_in_inner-requires-clause-order
 walk_in_inner-requires-clause-order g c =
