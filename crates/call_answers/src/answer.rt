@@ -1,4 +1,4 @@
-//! What does an event return?
+//! Which answer does an event get, and which does a call get?
 
 ghost use Rattle.std.specs.Prelude.{◌≡◌};
 
@@ -12,7 +12,8 @@ use version_book::Mark;
 pub enum CallAnswer {
     /// The reply of the plain book (the reference implementation).
     Replied(Reply),
-    /// A batch that was committed since the call began wrote what the call has read. This was found at this place.
+    /// The commit failed: a batch that was committed since the call began wrote what the call has read. The number is the place
+    /// (number of commits) at which this was found.
     Conflict(u64),
 }
 
@@ -43,11 +44,11 @@ pub enum Decision {
 pub enum Done {
     /// The call was invoked, and waits for its begin.
     Invoked(u64),
-    /// The call began at this place, and waits for this.
+    /// The call began at this place (number of commits), and then waits for this.
     Begun(u64, u64, Status),
-    /// The call read what this mark names, and waits for this.
+    /// The call read what this mark names, and then waits for this.
     Stepped(u64, Mark, Status),
-    /// The commit had this result, at this place.
+    /// The commit had this result. The last number is the place of the new book, or of the newest one if nothing was committed.
     Decided(u64, Decision, u64),
     /// The call's answer.
     Answered(u64, CallAnswer),

@@ -13,8 +13,8 @@ pub struct KnownCall<'a> {
     pub invoked: u64,
     /// The number of its begin if the call settled, or of its commit if that was committed or full. A conflict has none.
     pub decided: Option<u64>,
-    /// The number of its reply.
+    /// The number of its reply, if it has replied.
     pub replied: Option<u64>,
-    /// Its answer, whether the call has replied or not.
+    /// Its answer, whether the call has replied or not; `None` before it has one.
     pub answer: Option<&'a CallAnswer>,
 }

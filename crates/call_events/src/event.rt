@@ -2,7 +2,7 @@
 
 use entry_book::Batch;
 
-/// One event of the call with a number.
+/// One event of a call. The number is the call's.
 #[derive(Drop)]
 pub enum Event {
     /// Submits the call's batch.
