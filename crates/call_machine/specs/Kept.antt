@@ -144,8 +144,8 @@ journal_of h = batches_of h.kept
 abbrev pub state_of : Head → ℕ → List (ℕ × Slot) → MachineState
 state_of h count es = record { domain = head_domain h; journal = journal_of h; count = count; calls = calls_kept es }
 
--- the maximum number of accepted events of a call at this stage, without its reply: its invoke, its begin, a step for each read, its
--- commit
+-- the maximum number of accepted events of a call at this stage, without its reply: its invoke, its begin, a step for each read,
+-- its commit
 abbrev pub stage_events : CallStage → ℕ
 stage_events waiting = 1
 stage_events (running base made) = 2 + made

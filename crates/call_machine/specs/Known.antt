@@ -4,7 +4,8 @@ use Rattle.std.specs.Option.{option_copied}
 use Rattle.call_answers.specs.declared.call.KnownCall.{KnownCall}
 use Rattle.call_machine.specs.Calls.{CallStage, waiting, running, ready, answered, committed, conflict, Call, answer_of}
 
--- the number of the event that decided it: of its begin if it needed no commit, of its commit if it is committed or refused by a limit
+-- the number of the event that decided it: of its begin if it needed no commit, of its commit if it is committed or refused by a
+-- limit
 abbrev pub decided_of : CallStage → ℕ → Option ℕ
 decided_of waiting turn = None
 decided_of (running base made) turn = None

@@ -1,4 +1,5 @@
--- The order that a machine returns, and the theorems on it and on runs. Each theorem is a clause of a function of the module `laws`.
+-- The order that a machine returns, and the theorems on it and on runs. Each theorem is a clause of a function of the module
+-- `laws`.
 use Rattle.std.specs.Prelude.{◌≡◌, ◌↔◌, ◌⊎◌, ℕ, ◌+◌, ◌≤◌, Bool, true, false, ⊤, List, [], ◌∷◌, ◌++◌, filter, map, Option, Some, None, Err, is_some}
 use Rattle.std.specs.List.Sorted.{IsPermutation, IsNonDecreasingBy}
 use Rattle.entry_book.specs.declared.limit.Limit.{Limit}
@@ -59,8 +60,8 @@ HeadlineHolds = (own_domain : Bytes) (events : List Event) (answers : List Event
 
 -- ---- the accepted numbers that calls hold
 
--- Event n is the call's begin, and the reply is not a refusal by a limit. Or event n is the call's commit, decided as full by the limit
--- that the reply names, at the reply's place.
+-- Event n is the call's begin, and the reply is not a refusal by a limit. Or event n is the call's commit, decided as full by the
+-- limit that the reply names, at the reply's place.
 abbrev pub SettledAt : List Happened → ℕ → ℕ → Reply → Type 0
 SettledAt log n c r = ((base : ℕ) × (status : Status) × ((limit : Limit) → r.outcome ≡ Refused (TooMuch limit) → ⊥) × EventAt log n (Begin c) (Begun c base status)) ⊎ ((limit : Limit) × (r.outcome ≡ Refused (TooMuch limit)) × EventAt log n (Commit c) (Decided c (is.Full limit) r.place))
 
@@ -70,8 +71,8 @@ DecidedAt log n c (answered r) = SettledAt log n c r
 DecidedAt log n c (committed r) = EventAt log n (Commit c) (Decided c is.Committed r.place)
 DecidedAt log n c stage = ⊥
 
--- The call's numbers are exactly those of its events among the accepted ones: `invoked` for an invoke with its batch, `decided_of` for
--- the event that decided it, and `replied` for its reply. A reply event has the answer that the call holds.
+-- The call's numbers are exactly those of its events among the accepted ones: `invoked` for an invoke with its batch,
+-- `decided_of` for the event that decided it, and `replied` for its reply. A reply event has the answer that the call holds.
 pub record IsStamped (log : List Happened) (call : Call) : Type 0 where
   pub invoked : (n : ℕ) (batch : Batch) → ((n ≡ call.invoked) × (batch ≡ call.batch)) ↔ ((done : Done) × EventAt log n (Invoke call.number batch) done)
   pub decided : (n : ℕ) → (decided_of call.stage call.turn ≡ Some n) ↔ DecidedAt log n call.number call.stage
@@ -107,7 +108,8 @@ RefusedWhereDue = (s : MachineState) (event : Event) (answer : EventAnswer) (t :
 
 -- ---- the replies that calls hold
 
--- the plain book, run through these calls' batches, gives each the reply that the machine holds for it, returned to the caller or not
+-- the plain book, run through these calls' batches, gives each the reply that the machine holds for it, returned to the caller or
+-- not
 abbrev pub HoldReplies : List Call → List Book → List ℕ → Type 0
 HoldReplies calls books [] = ⊤
 HoldReplies calls books (c ∷ cs) = (call : Call) × (call_at c calls ≡ Some call) × (answer_of call.stage ≡ Some (Replied (reply_to call.batch books))) × HoldReplies calls (books_after call.batch books) cs

@@ -1,5 +1,6 @@
--- The guarantees about a schedule, in terms of what a client sees: the events, the answer to each of them, and the order that is returned
--- at the end. Nothing here depends on how a machine works: a reader needs only the plain book, and what a batch reads and writes.
+-- The guarantees about a schedule, in terms of what a client sees: the events, the answer to each of them, and the order that is
+-- returned at the end. Nothing here depends on how a machine works: a reader needs only the plain book, and what a batch reads
+-- and writes.
 use Rattle.std.specs.Prelude.{◌≡◌, ◌↔◌, ℕ, ◌+◌, ◌<◌, true, ⊤, ◌⊎◌, List, [], ◌∷◌, ◌++◌, length, take, slice_get, Some, Result, Ok, Err}
 use Rattle.std.specs.List.{AllByRecursion}
 use Rattle.entry_book.specs.declared.reply.Reply.{Reply}
@@ -86,13 +87,14 @@ pub record IsSerial (log : List Happened) (order : List ℕ) : Type 0 where
 
 -- ---- legal
 
--- Each reply of the call is this one. If its commit was decided as committed, this reply is that of a committed batch, at the same place.
+-- Each reply of the call is this one. If its commit was decided as committed, this reply is that of a committed batch, at the
+-- same place.
 pub record IsReplyOf (log : List Happened) (c : ℕ) (reply : Reply) : Type 0 where
   pub given : (out : Reply) → GaveOut log c out → out ≡ reply
   pub committed : (place : ℕ) → CommittedAsBook log c place → (place ≡ reply.place) × (is_committed reply.outcome ≡ true)
 
--- the plain book, run through these calls' batches, gives each of them the reply that it returned, with its place; of a committed call
--- that hasn't replied, the events show only the place, and `HoldReplies` in `Laws` says the rest
+-- the plain book, run through these calls' batches, gives each of them the reply that it returned, with its place; of a committed
+-- call that hasn't replied, the events show only the place, and `HoldReplies` in `Laws` says the rest
 abbrev pub RunsFrom : List Happened → List Book → List ℕ → Type 0
 RunsFrom log books [] = ⊤
 RunsFrom log books (c ∷ cs) = (batch : Batch) × HandedIn log c batch × IsReplyOf log c (reply_to batch books) × RunsFrom log (books_after batch books) cs
@@ -143,13 +145,13 @@ BatchesOf log [] (batch ∷ batches) = ⊥
 BatchesOf log (c ∷ cs) [] = ⊥
 BatchesOf log (c ∷ cs) (batch ∷ batches) = HandedIn log c batch × BatchesOf log cs batches
 
--- Of these committed batches, one that was committed after book `base` has a write that hits a mark of the footprint of `batch` on
--- `base`.
+-- Of these committed batches, one that was committed after book `base` has a write that hits a mark of the footprint of `batch`
+-- on `base`.
 abbrev pub IsDue : List Batch → Batch → ℕ → Type 0
 IsDue journal batch base = IsHitSince journal base (footprint_of batch (books_of (take base journal)))
 
--- After these accepted events, a conflict at this place is due for the call's commit. The journal has the batches of the calls committed
--- so far.
+-- After these accepted events, a conflict at this place is due for the call's commit. The journal has the batches of the calls
+-- committed so far.
 pub record IsDueConflict (log : List Happened) (c place : ℕ) : Type 0 where
   pub journal : List Batch
   pub journal_is : BatchesOf log (commits_in log) journal
@@ -177,9 +179,9 @@ ConflictsWereMet log = (n c place : ℕ) → EventAt log n (on.Reply c) (Answere
 abbrev pub OneBatch : List Happened → Type 0
 OneBatch log = (c : ℕ) (batch other : Batch) → HandedIn log c batch → HandedIn log c other → batch ≡ other
 
--- Each call has one batch. The order is serial, legal and strict. The answer to each begin has the number of batches committed before it.
--- Each conflict is due since the begin of its call, and that call is not listed. A call replies with a conflict only if its commit was
--- one.
+-- Each call has one batch. The order is serial, legal and strict. The answer to each begin has the number of batches committed
+-- before it. Each conflict is due since the begin of its call, and that call is not listed. A call replies with a conflict only
+-- if its commit was one.
 pub record Headline (log : List Happened) (order : List ℕ) : Type 0 where
   pub one_batch : OneBatch log
   pub serial : IsSerial log order

@@ -136,7 +136,7 @@ impl Machine {
         ensures err { IfErr result (λ r. (r.1 ≡ batch) × IsRefusalOr (refusal_of self.old (event.Invoke number batch)) r.0) }
         ensures is_unchanged { OnErr result (self.new ≡ self.old) }
     {
-        // The contract then knows that the batch was made for its trust domain.
+        // no effect at run time: it brings into the proof that the batch was made for its trust domain
         let _ = batch.ops();
         if self.calls.contains_key(&number) {
             return Err((EventRefusal::CallTaken, batch));
@@ -243,7 +243,7 @@ fn with_room(calls: &mut IndexMap<u64, Slot>, batch: &Batch) -> Result<Batch, Al
     batch.clone()
 }
 
-/// Returns the turns of the listed calls, with their numbers. The error is out of memory.
+/// Returns the turn of each listed call, the number of its deciding event, with the call's number. The error is out of memory.
 fn turns_of(alloc: Global, calls: &IndexMap<u64, Slot>) -> Result<Vec<(u64, u64)>, AllocError>
     ensures { IfOk result (λ turns. turns.items ≡ map turn_of_entry (filter is_listed_entry calls.now.entries)) }
 {
@@ -256,7 +256,7 @@ fn turns_of(alloc: Global, calls: &IndexMap<u64, Slot>) -> Result<Vec<(u64, u64)
     Ok(turns)
 }
 
-/// Returns their numbers, in this order. The error is out of memory.
+/// Returns the calls' numbers, in the order of this list. The error is out of memory.
 fn numbers_of(alloc: Global, turns: &[(u64, u64)]) -> Result<Vec<u64>, AllocError>
     ensures { IfOk result (λ numbers. numbers.items ≡ map number_of_turn turns.now) }
 {

@@ -25,7 +25,8 @@ pub(crate) enum SlotState {
     Over(CallAnswer),
 }
 
-/// A call: its batch, its state, and the accepted numbers of its invoke, of its begin or commit, and of its reply.
+/// A call: its batch, its state, and the accepted numbers of its invoke, of its begin or commit (`turn`, 0 before), and of its
+/// reply.
 #[derive(Drop)]
 pub(crate) struct Slot {
     batch: Batch,
@@ -251,7 +252,7 @@ fn discard(state: &mut SlotState)
     if !is_settled(state) {
         return;
     }
-    // a placeholder until the reply is there
+    // a placeholder, until the state with the reply takes its place
     let place = SlotState::Over(CallAnswer::Conflict(0));
     let SlotState::Open(work) = replace(state, place) else {
         unreachable!()

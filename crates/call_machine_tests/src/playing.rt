@@ -163,11 +163,11 @@ fn plays_lines(
     Ok(())
 }
 
-/// Plays a table on a new machine. A line with a question has ` => ` and the expected answer: an event and its answer; `ORDER` and the
-/// order of calls; `CALL` with a number, and the state of that call. For a refused event, checks what it returns to the caller, and that
-/// nothing changed. Other lines that aren't empty are actions, whose events must all be accepted: `RUN` makes a whole call of this
-/// number, from its invoke to its reply; `FILL` sets the given number of new bundles, by calls from this number on; `HAND-IN` invokes
-/// all calls up to this number.
+/// Plays a table on a new machine. A line with a question has ` => ` and the expected answer: an event and its answer; `ORDER`
+/// and the order of calls; `CALL` with a number, and the state of that call. For a refused event, checks what it returns to the
+/// caller, and that nothing changed. Other lines that aren't empty are actions, whose events must all be accepted: `RUN` makes a
+/// whole call of this number, from its invoke to its reply; `FILL` sets the given number of new bundles, by calls from this
+/// number on; `HAND-IN` invokes all calls up to this number.
 pub fn plays(rt: &impl Abort, alloc: Global, table: &str) -> Result<(), Fail> {
     let mut machine = first_machine(alloc)?;
     let played = plays_lines(rt, alloc, &mut machine, table);

@@ -97,8 +97,8 @@ fn checked_text(
     Ok(answer_text(alloc, answer)?)
 }
 
-/// The answer to the event of a text. If it is refused, asserts that the event is returned, and that the machine reports the same as
-/// before for the calls up to this number.
+/// The answer to the event of a text. If it is refused, asserts that the event is returned, and that the machine reports the same
+/// as before for the calls up to this number.
 pub fn answer(
     rt: &impl Abort,
     alloc: Global,

@@ -117,8 +117,8 @@ commit 3 => 3 conflict at 2
 ORDER => 1 2
 ";
 
-/// A call that is invoked after another one's answer reads what that one wrote. One that began before reads the book of its begin, to
-/// its end.
+/// A call that is invoked after another one's answer reads what that one wrote. One that began before reads the book of its
+/// begin, to its end.
 const STALE_READ: &str = "
 invoke 1 show 1; show 1 => 1 new
 begin 1 => 1 running at 0
