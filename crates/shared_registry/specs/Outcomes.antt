@@ -22,8 +22,8 @@ use Rattle.shared_registry.specs.Seated.{AfterCall, MaySee, Seated}
 abbrev pub IsOvertaken : List Batch → Batch → ℕ → ℕ → Type 0
 IsOvertaken journal batch base place = IsHitSince (take place journal) base (footprint_of batch (books_of (take base journal)))
 
--- The tries began at these places, the last one first, and none before `least`. Each met a conflict with a batch committed no later than
--- the begin of the next try. For the last try, the batch was committed no later than `place`.
+-- The tries began at these places, the last one first, and none before `least`. Each met a conflict with a batch committed no
+-- later than the begin of the next try. For the last try, the batch was committed no later than `place`.
 abbrev pub AreOvertaken : List Batch → Batch → ℕ → ℕ → List ℕ → Type 0
 AreOvertaken journal batch least place [] = ⊤
 AreOvertaken journal batch least place (base ∷ bases) = (least ≤ base) × IsOvertaken journal batch base place × AreOvertaken journal batch least base bases
@@ -37,8 +37,9 @@ pub record WasOvertaken (s t : Seated) (batch : Batch) (tries place : ℕ) : Typ
 
 -- ---- the outcomes of a batch of changes
 
--- The item of the call is the last one seen. The reply is that it was committed, with the item's replies, at the item's number. The seat
--- has one more call of its own. Its snapshot, on which it answers queries until it finds another one, shows all that it has seen.
+-- The item of the call is the last one seen. The reply is that it was committed, with the item's replies, at the item's number.
+-- The seat has one more call of its own. Its snapshot, on which it answers queries until it finds another one, shows all that it
+-- has seen.
 pub record IsAdded (s t : Seated) (batch : Batch) (reply : Reply) : Type 0 where
   pub log : List Item
   pub item : Item
@@ -50,8 +51,8 @@ pub record IsAdded (s t : Seated) (batch : Batch) (reply : Reply) : Type 0 where
   pub own : t.own ≡ s.own ++ t.calls ∷ []
   pub found : t.found ≡ t.seen
 
--- The reply is that of the plain book on the books of what was seen. It repeats the replies of an item that was seen, at that item's
--- number; the item has the batch's token, which there is, and its operations.
+-- The reply is that of the plain book on the books of what was seen. It repeats the replies of an item that was seen, at that
+-- item's number; the item has the batch's token, which there is, and its operations.
 pub record RepeatsItem (t : Seated) (batch : Batch) (reply : Reply) : Type 0 where
   pub reply_is : reply ≡ reply_to batch (books_of (batches_of t.seen))
   pub before : List Item

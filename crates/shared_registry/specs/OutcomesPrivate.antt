@@ -20,8 +20,8 @@ use Rattle.shared_registry.specs.Outcomes.{IsOvertaken, IsSubmitted, HasHeard}
 abbrev pub IsNotConflict : Outcome → Type 0
 IsNotConflict o = (n : ℕ) → o ≡ Conflict n → ⊥
 
--- The try began at or after what the seat had seen and learnt of, and met a conflict. The seat has then seen all that it had learnt of,
--- and has no more calls of its own.
+-- The try began at or after what the seat had seen and learnt of, and met a conflict. The seat has then seen all that it had
+-- learnt of, and has no more calls of its own.
 pub record IsOvertakenOnce (s t : Seated) (batch : Batch) (n : ℕ) : Type 0 where
   pub base : ℕ
   pub since_seen : length s.seen ≤ base

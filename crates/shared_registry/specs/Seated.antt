@@ -6,8 +6,8 @@ use Rattle.commit_head.specs.declared.item.Item.{Item}
 use Rattle.commit_head.specs.Journals.{IsLawfulJournal}
 use Rattle.shared_registry.specs.Seats.{AllBelow, calls_of}
 
--- A seat: its number and the number of its calls; the journal that it has seen, and the longest one that it has learnt of; the numbers of
--- its own committed calls; and the journal of its snapshot.
+-- A seat: its number and the number of its calls; the journal that it has seen, and the longest one that it has learnt of; the
+-- numbers of its own committed calls; and the journal of its snapshot.
 pub record Seated : Type 0 where
   pub number : ℕ
   pub calls : ℕ
@@ -16,8 +16,8 @@ pub record Seated : Type 0 where
   pub own : List ℕ
   pub found : List Item
 
--- A call that takes a call number: the number is above those of the seat's own calls so far. What is seen is then a lawful journal that
--- begins with what was seen before. Its items of this seat are the seat's own calls. `learnt` stays the same.
+-- A call that takes a call number: the number is above those of the seat's own calls so far. What is seen is then a lawful
+-- journal that begins with what was seen before. Its items of this seat are the seat's own calls. `learnt` stays the same.
 pub record AfterCall (domain : Bytes) (s t : Seated) : Type 0 where
   pub number : t.number ≡ s.number
   pub calls : t.calls ≡ s.calls + 1
@@ -37,8 +37,8 @@ pub record SawNothingNew (domain : Bytes) (s t : Seated) : Type 0 where
   pub after_call : AfterCall domain s t
   pub same : t.seen ≡ s.seen
 
--- The seat may see what it found: a lawful journal that begins with all that the seat has seen and learnt of. The items of this seat in
--- it are the seat's own calls.
+-- The seat may see what it found: a lawful journal that begins with all that the seat has seen and learnt of. The items of this
+-- seat in it are the seat's own calls.
 pub record MaySee (domain : Bytes) (s : Seated) : Type 0 where
   pub lawful : IsLawfulJournal domain s.found
   pub seen : IsPrefix s.seen s.found

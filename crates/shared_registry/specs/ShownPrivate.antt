@@ -21,8 +21,8 @@ pub record IsCounted (counts : List ℕ) (journal : List Item) : Type 0 where
 abbrev pub whole_head : Window → List Item → Head
 whole_head window items = record { window = window; kept = items; room = 0 }
 
--- The window is that of a head whose whole journal is these items. No two items have the same seat and call. The counts are the numbers
--- of the seats' calls.
+-- The window is that of a head whose whole journal is these items. No two items have the same seat and call. The counts are the
+-- numbers of the seats' calls.
 pub record ShowsJournal (items : List Item) (window : Window) (counts : List ℕ) : Type 0 where
   pub journal : IsJournal items (whole_head window items)
   pub once : EachCallOnce items
@@ -33,11 +33,12 @@ pub record IsOf (history : WordBook) (domain : Bytes) (shown : Shown) : Type 0 w
   pub history_is : shown.history ≡ history
   pub domain_is : shown.window.newest.domain ≡ domain
 
--- The published value is of this history and trust domain. Its journal begins with what each pass of a reader or of the writer has seen.
--- No invariant of a seat uses what its pass has seen: the lists of a seat are tokens of the history.
+-- The published value is of this history and trust domain. Its journal begins with what each pass of a reader or of the writer
+-- has seen. No invariant of a seat uses what its pass has seen: the lists of a seat are tokens of the history.
 abbrev pub RuleInvariant : WordBook → Bytes → Shown → List (List Item) → Type 0
 RuleInvariant history domain x views = IsOf history domain x × ((k : ℕ) (v : List Item) → get_elem? views k ≡ some v → IsPrefix v x.journal)
 
--- after the step, the pass has seen the published journal, which begins with what it had seen and is of this history and trust domain
+-- after the step, the pass has seen the published journal, which begins with what it had seen and is of this history and trust
+-- domain
 abbrev pub Saw : WordBook → Bytes → List Item → Shown → List Item → Type 0
 Saw history domain v y w = IsOf history domain y × IsPrefix v y.journal × (w ≡ y.journal)

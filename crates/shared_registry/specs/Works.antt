@@ -24,7 +24,8 @@ pub record IsAtEnd (batch : Batch) (snapshot : Shown) (w : Work) : Type 0 where
   pub begun : IsBegun batch snapshot w
   pub over : status_of w ≡ Running → ⊥
 
--- The work began on a window of the last books of this journal, and has no read left to make. Its batch was made for the trust domain.
+-- The work began on a window of the last books of this journal, and has no read left to make. Its batch was made for the trust
+-- domain.
 pub record IsRead (domain : Bytes) (items : List Item) (batch : Batch) (w : Work) : Type 0 where
   pub snapshot : Shown
   pub made : IsMadeFor domain batch

@@ -23,7 +23,7 @@ use entry_book::Shared;
 use std::alloc::{AllocError, Global};
 use std::sync::Wait;
 
-// With this number of stored items, a commit makes a checkpoint first.
+// The maximum number of stored items: with this number, a commit makes a checkpoint first.
 const MOST_KEPT: u64 = 4096;
 
 /// Makes a checkpoint if 4,096 items are stored, so that there is room for one more.
@@ -37,7 +37,7 @@ fn checkpoint_if_full(head: &mut Head)
     }
 }
 
-/// Appends the value to the writer's log. Retries until there is memory.
+/// Appends the value to the writer's log of values to publish. Retries until there is memory, and holds the lock meanwhile.
 fn append<J: RegistryId, R: Wait>(
     rt: &R,
     mut writer: WindowWriter<J>,
@@ -55,7 +55,7 @@ fn append<J: RegistryId, R: Wait>(
     unreachable!()
 }
 
-/// Publishes the value. Retries until there is memory.
+/// Publishes the value that was appended. Retries until there is memory, and holds the lock meanwhile.
 fn publish<J: RegistryId, R: Wait>(
     rt: &R,
     writer: WindowWriter<J>,
@@ -78,8 +78,8 @@ fn publish<J: RegistryId, R: Wait>(
     unreachable!()
 }
 
-/// Returns the published state after a prepared commit: its version is in the window, and its seat has one more call. There are two
-/// references to it, one for the readers and one for the seat. The only error is a failed allocation.
+/// Returns the published state after a prepared commit: its version is in the window, and its seat has one more call. There are
+/// two references to it, one for the readers and one for the seat. The only error is a failed allocation.
 fn public_states_with(
     alloc: Global,
     published: &Published,

@@ -30,7 +30,7 @@ impl Rule<Item, u64> for HistoryRule {
     ghost moves = { λ ask before after answer. Unit {0} };
 }
 
-/// A step gains its caller nothing.
+/// What a caller gains by a step: nothing.
 pub struct NoTrade;
 
 impl Gain<Item, u64> for NoTrade {
@@ -57,8 +57,8 @@ impl Plain<Item, Item, u64> for AppendItem {
     ghost state = { λ item. None };
 }
 
-/// Identifies a registry in the proofs, by its history and the trust domain of its book. Each call of a program picks them.
-/// Seats, receipts and registries of one registry belong together.
+/// Identifies a registry in the proofs, by its history and the trust domain of its book. A program picks both when it makes a
+/// registry. Seats, receipts and registries of one registry belong together.
 pub trait RegistryId {
     ghost use Rattle.logbook.specs.Pages.{Book};
     ghost use Rattle.entry_book.specs.Rows.{Bytes};
@@ -76,7 +76,7 @@ impl RegistryId for Brand {
     ghost domain = { [] };
 }
 
-/// An empty history that has no naming yet.
+/// An empty history that belongs to no registry yet.
 pub struct NewHistory {
     word: Word<Item, u64, HistoryRule>,
     seen: Seen<Item, u64, HistoryRule>,
@@ -94,7 +94,7 @@ impl NewHistory {
         }
     }
 
-    /// Returns the history's word under an identity, and the empty prefix.
+    /// Returns the history's word as that of the registry `J`, and the empty prefix.
     pub(crate) fn named<J: RegistryId>(self) -> (History<J>, HistoryPrefix<J>)
         requires { self.seen.book ≡ J.history }
         ensures { result.1 ≡ [] }
@@ -163,7 +163,7 @@ impl<J: RegistryId> HistoryPrefix<J> {
         }
     }
 
-    /// Returns the longer of two fronts, of which the other is a prefix.
+    /// Returns the longer of two prefixes. The other one is a prefix of it.
     pub(crate) fn longer(&self, other: &HistoryPrefix<J>) -> HistoryPrefix<J>
         ensures one { (result ≡ self.now) ⊎ (result ≡ other.now) }
         ensures this { IsPrefix self.now result }

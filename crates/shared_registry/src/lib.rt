@@ -15,24 +15,27 @@
 //! - [`commits_law`]: after a commit a seat may answer queries without a look.
 //! - [`RegistryId`] and [`NewHistory`]: which registry it is, and its empty history. The types ensure that seats, receipts and
 //!   registries of one registry belong together.
+//! - [`Published`], [`History`] and [`HistoryPrefix`] occur in contracts: what the writer publishes, the word that counts the
+//!   history's items, and a prefix of the history.
 //!
 //! The words of this crate:
 //!
 //! - journal: the list of all committed items; prefix: a first part of it, by its length.
-//! - published state: the window of the last books, and the number of commits of each seat; snapshot: a published state with its prefix.
+//! - published state: the window of the last books, and the number of commits of each seat; published value ([`Published`]): a
+//!   published state with the prefix that it shows; snapshot: the published value that a seat has.
 //! - found: the journal of the snapshot that a seat has; seen: the prefix that its answers were computed from; learnt: the
 //!   longest prefix that it learnt of.
 //! - own: the numbers of the calls that a seat has committed.
 //!
-//! The definitions are in `specs/`. `Outcomes` defines the outcome of a batch of changes, `Shown` the published state,
-//! `Seated` and `Seats` a seat, and `Rules` the history's word. The others are for this crate's own contracts: `WriterStates` defines
-//! the state under the lock, `Works` a work in execution, and the files that end in `Private` the invariants.
+//! The definitions are in `specs/`. `Outcomes` defines the outcome of a batch of changes, `Shown` the published value, `Seated`
+//! and `Seats` a seat, and `Rules` the history's word. The others are for this crate's own contracts: `WriterStates` defines the
+//! state under the lock, `Works` a work in execution, and the files that end in `Private` the invariants.
 //!
-//! - `history`: the one history, and the prefixes of it that were seen; `published` and `rule`: the state that readers look
-//!   at, and the invariant that each step over it preserves; `run`: how a batch of changes runs on the published state;
-//!   `writer_state` and `commit`: the state under the lock, and the commit on it; `recent`: published states that are retained; `seat` and
-//!   `registry`: the calls of the two types; `reading`: how a seat looks at the published state; `outcome`; `gate`: the test
-//!   hook; `laws`: a theorem that follows from the contracts.
+//! - `history`: the one history, and the prefixes of it that were seen; `published` and `rule`: the state that readers look at,
+//!   and the invariant that each step over it preserves; `run`: how a batch of changes runs on the published state;
+//!   `writer_state` and `commit`: the state under the lock, and the commit on it; `recent`: published states that are retained;
+//!   `seat` and `registry`: the calls of the two types; `reading`: how a seat looks at the published state; `outcome`; `gate`:
+//!   the test hook; `laws`: a theorem that follows from the contracts.
 //!
 //! A statement such as `let _place = seat.place();` has no effect at run time. It brings the contract of the call, mostly
 //! an invariant of its value, into the proof, which fails without it.

@@ -15,16 +15,16 @@ use logbook::Seen;
 use std::alloc::{AllocError, Global};
 use std::marker::Model;
 
-/// The window on which works begin, and the number of commits of each seat.
+/// The published state: the window on which works begin, and the number of commits of each seat.
 #[derive(Drop)]
 pub(crate) struct PublishedState {
     pub(crate) window: Window,
     pub(crate) counts: [u64; 32],
 }
 
-/// The state that the writer publishes and each reader sees: the journal, a window of its last books, and the number of its
-/// items of each seat. The model in contracts is its history, its journal and its window. A copy increments one reference
-/// count, and is all that a reader makes while it is inside.
+/// The published value, which the writer publishes and each reader sees: the journal, as a prefix of the history, with the
+/// published state that shows it. The model in contracts is its history, its journal and its window. A copy increments one
+/// reference count, and is all that a reader makes while it is inside.
 #[derive(Drop)]
 pub struct Published {
     items: u64,
@@ -106,7 +106,7 @@ impl Published {
         counts
     }
 
-    /// Returns a copy. The error is that a reference count can't grow.
+    /// Returns a copy, which increments one reference count. The error is that this can't grow.
     pub(crate) fn again(&self) -> Result<Published, AllocError>
         ensures { IfOk result (λ p. p ≡ self.now) }
     {

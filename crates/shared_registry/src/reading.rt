@@ -40,7 +40,7 @@ fn turn<J: RegistryId>(
     }
 }
 
-/// Looks once at the published state, and keeps it if it has another number of items.
+/// Looks once at the published state, and keeps a copy if it has another number of items.
 fn look<J: RegistryId>(
     reader: SeatReader<J>,
     snapshot: &mut Published,

@@ -5,19 +5,19 @@ use entry_book::Shared;
 use std::alloc::{AllocError, Global};
 use std::collections::VecDeque;
 
-/// How many published states are retained.
+/// The maximum number of published states that are retained.
 const MOST: usize = 64;
 
-/// The published states of the last commits. Dropping the last reference to a published state frees its window, and each version that no other window
-/// has. While a published state is retained here, no reader does that work, but the thread that makes the commit which takes its place, without
+/// The published states of the last commits. Dropping the last reference to one frees its window, and each version that no other
+/// window has. While a state is retained here, no reader has to do that. The thread whose commit takes its place does it, without
 /// the lock.
 #[derive(Drop)]
 pub(crate) struct Recent {
     public_states: VecDeque<Shared<PublishedState>>,
 }
 
-/// What a commit has replaced, to be dropped without the lock: the snapshot that the seat had before it, and the oldest of the retained
-/// published states, if there were as many as are retained.
+/// What a commit has replaced, to be dropped without the lock: the snapshot that the seat had before it, and the oldest of the
+/// retained published states, if the list was full.
 #[derive(Drop)]
 pub(crate) struct Replaced {
     snapshot: Published,
@@ -25,15 +25,15 @@ pub(crate) struct Replaced {
 }
 
 impl Recent {
-    /// Returns no published states, and room for all that are retained. The only error is a failed allocation.
+    /// Makes an empty list, with room for as many states as it retains. The only error is a failed allocation.
     pub(crate) fn none(alloc: Global) -> Result<Recent, AllocError> {
         Ok(Recent {
             public_states: VecDeque::with_capacity(alloc, MOST)?,
         })
     }
 
-    /// After a commit, which has replaced this snapshot of its seat, retains the published state of what is published. Without a commit it does
-    /// nothing.
+    /// After a commit, retains the published state, and returns what the commit has replaced; `before` is the snapshot that its
+    /// seat had. Without a commit `before` is `None`, and nothing is done.
     pub(crate) fn replace(
         &mut self,
         published: &Published,
@@ -51,8 +51,8 @@ impl Recent {
         }
     }
 
-    /// Retains the published state of what is published, in place of the oldest one, which is returned. If its reference count can't grow, it
-    /// is not retained.
+    /// Retains the published state. If the list is full, it takes the place of the oldest one, which is returned. If its
+    /// reference count can't grow, it isn't retained.
     fn keep(&mut self, published: &Published) -> Option<Shared<PublishedState>> {
         let Ok(public_state) = published.public_state() else {
             return None;

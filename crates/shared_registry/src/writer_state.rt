@@ -26,12 +26,12 @@ use std::sync::Wait;
 /// The writer of the published value.
 pub(crate) type WindowWriter<J> = Writer<Published, Published, View, Rule<J>>;
 
-/// No seat is given: there are 32 already, no reader is available, or a reference count can't grow.
+/// Why a caller got no seat: there are 32 already, no reader is available, or a reference count can't grow.
 #[derive(Clone, Copy, Debug, PartialEq, Eq, Drop)]
 pub struct NoSeat;
 
-/// State guarded by the registry's writer lock: the head, the writer, the published states published last, the number of seats, and
-/// the whole journal. The model in contracts is the journal.
+/// State guarded by the registry's writer lock: the head, the writer, the published states of the last commits, the number of
+/// seats, and the whole journal. The model in contracts is the journal.
 pub(crate) struct WriterState<J: RegistryId> {
     alloc: Global,
     head: Head,
@@ -160,7 +160,7 @@ impl<J: RegistryId> WriterState<J> {
         (decided, replaced)
     }
 
-    /// How many items are kept.
+    /// Returns the number of stored items of the journal, at most 4,096.
     pub(crate) fn kept(&self) -> u64
         ensures { result ≤ 4096 }
     {

@@ -51,9 +51,9 @@ fn check_text(rt: &impl Abort, line: &str, as_text: &str) {
     }
 }
 
-/// Checks the place of a reply, which is the place that the seat has then seen, or that of the first commit for a repeated batch. The
-/// seat has seen at least what it had seen or was informed of before, and more after a conflict. Returns the least place that the next
-/// call must see: the seat is informed of the place of a letter.
+/// Checks the place of a reply, which is the place that the seat has then seen, or that of the first commit for a repeated batch.
+/// The seat has seen at least what it had seen or was informed of before, and more after a conflict. Returns the least place that
+/// the next call must see: the seat is informed of the place of a letter.
 fn check_place(rt: &impl Abort, as_text: &str, least: u64, seen: u64) -> Result<u64, Failed> {
     let place = place_of(as_text)?;
     let kind = kind_of(as_text);

@@ -61,8 +61,8 @@ fn plain_text(alloc: Global, book: &mut PlainBook, text: &str) -> Result<String,
     text_by(alloc, reply?)
 }
 
-/// Asserts that the plain book gives the same reply as the call got; the book is at the call's place, or one before it. The plain book
-/// has no conflicts.
+/// Asserts that the plain book gives the same reply as the call got; the book is at the call's place, or one before it. The plain
+/// book has no conflicts.
 fn check_call(
     rt: &impl Abort,
     alloc: Global,
@@ -142,8 +142,8 @@ fn check_counts(rt: &(impl Abort + Print), counts: &str, expected: &str) -> Resu
     Ok(())
 }
 
-/// Asserts that exactly one batch was committed at each place up to this one. For tokens and random batches, also asserts that the plain
-/// book that runs this list gives the same replies.
+/// Asserts that exactly one batch was committed at each place up to this one. For tokens and random batches, also asserts that
+/// the plain book that runs this list gives the same replies.
 fn check_list(
     rt: &impl Abort,
     alloc: Global,
@@ -159,8 +159,8 @@ fn check_list(
     }
 }
 
-/// Runs a talk of eight threads, and asserts that one list of committed batches explains it, and the number of calls with each kind of
-/// reply. All first batches begin before one of them goes on.
+/// Runs a talk of eight threads, and asserts that one list of committed batches explains it, and the number of calls with each
+/// kind of reply. All first batches begin before one of them goes on.
 pub fn explains<J: RegistryId + Send + Sync, R: Threads + Wait + Clock + Abort + Print + Sync>(
     site: &Site<J, R>,
     talk: Talk,

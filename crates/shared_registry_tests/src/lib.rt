@@ -7,9 +7,9 @@
 //! - `together`: eight threads that commit concurrently, and receipts that go round them.
 //! - `history`: many random batches by eight threads: one list of committed batches explains all replies.
 //!
-//! `plays` runs each test on a registry of its own, at a `site`. Tests of one or two threads are `scripts`, and those of eight are
-//! `talks`, whose calls and replies `calls` collects. `telling` writes outcomes and seats as text, `wanted` has assertions, and `failed`
-//! says why a test can't continue.
+//! `plays` runs each test on a registry of its own, at a `site`. Tests of one or two threads are `scripts`, and those of eight
+//! are `talks`, whose calls and replies `calls` collects. `telling` writes outcomes and seats as text, `wanted` has assertions,
+//! and `failed` says why a test can't continue.
 //!
 //! `docs/GLOSSARY.md` explains the terms.
 #![tactic(auto)]

@@ -1,11 +1,11 @@
 //! Scripts of several seats of one thread, or of two threads if a batch is held.
 //!
-//! `NEW` takes a seat, and `GONE` drops all of them; `LEFT` gives whether another seat is left, and `KEPT` the number of stored items.
-//! A line that begins with a number is run by the seat of that number. The text after ` => ` is the expected answer.
+//! `NEW` takes a seat, and `GONE` drops all of them; `LEFT` gives whether another seat is left, and `KEPT` the number of stored
+//! items. A line that begins with a number is run by the seat of that number. The text after ` => ` is the expected answer.
 //!
-//! A script may hold a batch of the last seat, `HOLD after its begin: delete 1` or `HOLD under the lock: delete 1`. Another thread runs
-//! each of the following lines after that batch has reached the point again, and then lets the batch continue. After `DONE => ` come the
-//! number of times that the batch reached the point, and the reply to it.
+//! A script may hold a batch of the last seat, `HOLD after its begin: delete 1` or `HOLD under the lock: delete 1`. Another
+//! thread runs each of the following lines after that batch has reached the point again, and then lets the batch continue. After
+//! `DONE => ` come the number of times that the batch reached the point, and the reply to it.
 
 use crate::failed::Failed;
 use crate::site::Site;

@@ -18,9 +18,9 @@ NEW => number 0; place 0; calls 0
 KEPT => 2
 ";
 
-/// Seats that existed before a commit see it, in each way in which they can be informed: seat 0 queries; seat 1 obtains a receipt and
-/// sends it on; seat 2 learns that receipt, which changes what it sees only at its next query; seat 3 learns it, and obtains one too.
-/// Two more seats are taken after the commit: seat 5 queries, and seat 6 obtains a receipt.
+/// Seats that existed before a commit see it, in each way in which they can be informed: seat 0 queries; seat 1 obtains a receipt
+/// and sends it on; seat 2 learns that receipt, which changes what it sees only at its next query; seat 3 learns it, and obtains
+/// one too. Two more seats are taken after the commit: seat 5 queries, and seat 6 obtains a receipt.
 const NEW_SEATS: &str = "\
 NEW
 NEW

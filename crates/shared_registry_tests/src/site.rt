@@ -212,7 +212,8 @@ impl<'a, J: RegistryId, R: Wait + Clock> Site<'a, J, R> {
         self.does(seat, gate, batch, tries)
     }
 
-    /// The reply to a query, without looking for news, after committing the changes that follow it, as in `show 1 AFTER delete 2`.
+    /// The reply to a query, without looking for news, after committing the changes that follow it, as in
+    /// `show 1 AFTER delete 2`.
     fn asks_after(&self, seat: &mut Seat<J>, text: &str) -> Result<String, Failed> {
         let (query, changes) = text.split_once(" AFTER ").unwrap_or((text, ""));
         let (query, changes) = (batch(self.alloc, query)?, batch(self.alloc, changes)?);
@@ -283,9 +284,10 @@ impl<'a, J: RegistryId, R: Wait + Clock> Site<'a, J, R> {
         Ok(kind_at_place(self.alloc, "taken", place)?)
     }
 
-    /// The answer to a seat, with the mailbox of a number, that runs a line. `SEND 2` sends a receipt to mailbox 2, `TAKE` waits for a
-    /// letter and learns its receipt, `SEAT` describes the seat, `TIMES 3` runs the following batch that often, and `FOUND show 1 AFTER
-    /// delete 2` commits the changes and queries without looking for news. Any other line runs a batch, whose changes pass the gate.
+    /// The answer to a seat, with the mailbox of a number, that runs a line. `SEND 2` sends a receipt to mailbox 2, `TAKE` waits
+    /// for a letter and learns its receipt, `SEAT` describes the seat, `TIMES 3` runs the following batch that often, and
+    /// `FOUND show 1 AFTER delete 2` commits the changes and queries without looking for news. Any other line runs a batch, whose
+    /// changes pass the gate.
     pub fn answer<G: Gate>(
         &self,
         seat: &mut Seat<J>,

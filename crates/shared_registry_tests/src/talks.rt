@@ -15,8 +15,8 @@ pub enum Talk {
     Creates,
     /// All submit the same batch with a token, with more tries than needed.
     Token,
-    /// The threads form a ring. In each round, each of them creates an entry, sends a receipt to the next one, learns the one that it
-    /// gets, and queries all entries that its sender knew of.
+    /// The threads form a ring. In each round, each of them creates an entry, sends a receipt to the next one, learns the one
+    /// that it gets, and queries all entries that its sender knew of.
     Ring,
     /// Each runs this many random batches.
     Draws(u64),
@@ -69,8 +69,8 @@ fn before(thread: u64, count: u64) -> u64 {
     thread.wrapping_add(THREADS).wrapping_sub(count) % THREADS
 }
 
-/// Queries the entries of which the letter of a round informs, all the way round the ring: the one that its sender created in that
-/// round, the one that the thread before it created in the round before, and so on.
+/// Queries the entries of which the letter of a round informs, all the way round the ring: the one that its sender created in
+/// that round, the one that the thread before it created in the round before, and so on.
 fn add_shows(alloc: Global, lines: &mut String, thread: u64, round: u64) -> Result<(), Failed> {
     for back in 0..THREADS {
         if back <= round {

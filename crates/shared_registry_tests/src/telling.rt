@@ -5,8 +5,8 @@ use shared_registry::{Outcome, RegistryId, Seat};
 use std::alloc::Global;
 use test_batches::{kind_at_place, reply_text};
 
-/// The outcome of a batch of changes, or `conflict`, each with its place. If memory ran out or the seat was not admitted, the test can't
-/// continue.
+/// The outcome of a batch of changes, or `conflict`, each with its place. If memory ran out or the seat was not admitted, the
+/// test can't continue.
 pub fn outcome_text(alloc: Global, outcome: &Outcome) -> Result<String, Failed> {
     match outcome {
         Outcome::Committed(reply) | Outcome::Repeated(reply) | Outcome::Refused(reply) => {

@@ -9,8 +9,8 @@ use std::time::{Clock, Duration};
 /// How often a thread checks before it gives up, at intervals of a millisecond.
 pub const TURNS: u64 = 10_000;
 
-/// Holds the batches of the seats from one number on, at one point: each waits there until as many as have come were let on. Once a
-/// given number has come, all are let on.
+/// Holds the batches of the seats from one number on, at one point. The k-th batch that comes waits there until k were let on.
+/// Once a given number has come, all are let on.
 #[derive(Drop)]
 pub struct Turnstile<'a, R: Clock> {
     rt: &'a R,
