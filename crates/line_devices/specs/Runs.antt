@@ -4,8 +4,8 @@ use Rattle.std.specs.Io.KnownBytes.{Appends, Consumes}
 use Rattle.line_devices.specs.Lines.{has_lf, stored_part, lines_of, IsLine}
 use Rattle.line_devices.specs.Stream.{AppendsPrefix}
 
--- From the first state, the lines may get this text as replies, and lead to the last state. The step says for one line which reply it
--- may get in a state, and what the next state is.
+-- From the first state, the lines may get this text as replies, and lead to the last state. The step says for one line which
+-- reply it may get in a state, and what the next state is.
 abbrev pub IsRun : {State : Type 0} → (State → List ℕ → State → List ℕ → Type 0) → State → List (List ℕ) → State → List ℕ → Type 0
 IsRun step first [] last text = (last ≡ first) × (text ≡ [])
 IsRun {State} step first (line ∷ lines) last text = (next : State) × (reply : List ℕ) × (rest : List ℕ) × step first line next reply × (text ≡ reply ++ rest) × IsRun step next lines last rest

@@ -5,7 +5,7 @@ use crate::read_buffer::ReadBuffer;
 use crate::source::{Source, SourceFailed};
 use std::marker::Model;
 
-/// The lines of a source.
+/// The lines of a source. It reads ahead, in blocks of at most 8,192 bytes, and takes no memory.
 #[derive(Drop)]
 pub struct Input<S: Source> {
     source: S,

@@ -11,8 +11,9 @@
 //!   code.
 //! - [`lines_law`] is the theorem about the lines of bytes; [`KEPT_BYTES`] and [`most_lines`] are the limits.
 //!
-//! The definitions are in `specs/`: `Lines` defines lines, `Stream` what a sink has and what is buffered, and `Runs` lines
-//! that are answered one after another. `StreamPrivate` is for this crate's own contracts.
+//! The definitions are in `specs/`: `Lines` defines lines, `Stream` what a sink has and what is buffered, and `Runs` lines that
+//! are answered one after another. `CountedDevice` defines what the device of that name counts. `StreamPrivate` is for this
+//! crate's own contracts.
 //!
 //! - `source`, `sink`: what a device must implement; `counted`: how a reader or a writer of std does so.
 //! - `input`, `read_buffer`, `line`: bytes come in line by line; `lines`: what lines are; `limits`: how much of them is

@@ -24,7 +24,7 @@ fn send_all<S: Sink>(sink: &mut S, bytes: &[u8]) -> Result<(), SinkFailed>
     Ok(())
 }
 
-/// Bytes for a sink, which are buffered until the buffer is full, or until `flush`.
+/// Bytes for a sink, which are buffered until the buffer of 65,536 bytes is full, or until `flush`. It takes no memory.
 ///
 /// After a call of the sink has failed, nothing more is written.
 #[derive(Drop)]

@@ -12,7 +12,7 @@ pub trait Sink {
     // The bytes that it has: known for memory, unknown for a device.
     ghost written: { Self → Option (List ℕ) };
 
-    // How many calls have failed.
+    // The number of calls that have failed.
     ghost failures: { Self → ℕ };
 
     // Whether it has passed on everything that was written: false after a write, until a flush has succeeded.

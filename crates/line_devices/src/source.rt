@@ -13,7 +13,7 @@ pub trait Source {
     // The bytes that are left: known for memory, unknown for a device.
     ghost left: { Self → Option (List ℕ) };
 
-    // How many calls have failed.
+    // The number of calls that have failed.
     ghost failures: { Self → ℕ };
 
     // A bound on the number of calls that can still succeed.
