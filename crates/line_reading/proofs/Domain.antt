@@ -51,7 +51,8 @@ batch_in-domain domain ids listed =
 
 -- ---- a request
 
--- the same if the second reader's values have it only for values of the first with a property, and the first reader's values have that
+-- the same if the second reader's values have it only for values of the first with a property, and the first reader's values have
+-- that
 pub both_ok : {A B : Type 0} (Q : A → Type 0) (P : B → Type 0) (r : Result A Fault) (f : A → Result B Fault) → IfOk r Q → ((x : A) → Q x → IfOk (f x) P) → IfOk (r >>= f) P
 both_ok Q P (Ok x) f q h = h x q
 both_ok Q P (Err e) f q h = tt

@@ -1,5 +1,5 @@
--- Which batch an object parses to. An object that holds a batch has the batch's own keys. The reader of a line with further keys reads
--- those next; the operations come last.
+-- Which batch an object parses to. An object that holds a batch has the batch's own keys. The reader of a line with further keys
+-- reads those next; the operations come last.
 use Rattle.std.specs.Prelude.{ℕ, List, [], ◌∷◌, Option, Some, None, Result, Ok, Err, option_and_then, unwrap_or}
 use Rattle.serde_json.specs.Data.{Data, Items, Members}
 use Rattle.serde_json.specs.Find.{get, as_array}
@@ -19,7 +19,8 @@ use Rattle.line_reading.specs.Operations.{ops_in}
 
 -- ---- a batch's own keys
 
--- The values at these keys: the operations, not read yet; the smallest place at which the batch may run; and its token, if it has one.
+-- The values at these keys: the operations, not read yet; the smallest place at which the batch may run; and its token, if it has
+-- one.
 pub record Listed : Type 0 where
   pub items : Items
   pub after : ℕ

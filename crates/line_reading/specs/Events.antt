@@ -62,7 +62,7 @@ event_in domain ids d ms = do
 
 -- ---- a line
 
--- The event that a line parses to in a trust domain, and the ids that are left. The line has its LF, if there is one. A fault comes
--- without ids.
+-- The event that a line parses to in a trust domain, and the ids that are left. The line has its LF, if there is one. A fault
+-- comes without ids.
 unfoldable pub spelled_event : List ℕ → ChaCha → List ℕ → Result (Event × ChaCha) Fault
 spelled_event domain ids line = of_line (event_in domain ids) line

@@ -1,4 +1,5 @@
--- Which operation an object parses to, or the first fault found in it. The lines of each reader are in the order of the format's checks.
+-- Which operation an object parses to, or the first fault found in it. The lines of each reader are in the order of the format's
+-- checks.
 use Rattle.std.specs.Prelude.{ℕ, ◌+◌, List, [], ◌∷◌, Option, Some, None, Result, Ok, Err, bytes_eq, codes, unwrap_or, if◌then◌else◌}
 use Rattle.serde_json.specs.Data.{Data, Items, no_items, item, Members}
 use Rattle.serde_json.specs.Find.{as_object}
@@ -194,8 +195,8 @@ abbrev pub at_op : {A : Type 0} → ℕ → Result A Fault → Result A Fault
 at_op index (Ok x) = Ok x
 at_op index (Err fault) = Err (record { code = fault.code; field = fault.field; op = Some index })
 
--- the operations of a list, of which the first has this index, and the ids that are left; each operation draws from the ids that the one
--- before it left
+-- the operations of a list, of which the first has this index, and the ids that are left; each operation draws from the ids that
+-- the one before it left
 abbrev pub ops_in : ℕ → MissingId → ChaCha → Items → Result (List Op × ChaCha) Fault
 ops_in index missing ids no_items = Ok ([], ids)
 ops_in index missing ids (item d ds) = do

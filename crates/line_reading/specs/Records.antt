@@ -1,4 +1,5 @@
--- Which record of a call a line parses to, or the first fault found. The lines of each reader are in the order of the format's checks.
+-- Which record of a call a line parses to, or the first fault found. The lines of each reader are in the order of the format's
+-- checks.
 use Rattle.std.specs.Prelude.{ℕ, List, [], ◌∷◌, replicate, Option, Result, Ok}
 use Rattle.serde_json.specs.Data.{Data, Members}
 use Rattle.serde_json.specs.Find.{get, as_object}
@@ -17,8 +18,8 @@ use Rattle.line_reading.specs.Requests.{of_line}
 
 -- ---- a record
 
--- A call: its batch, its number, the numbers of its invoke and its reply among the accepted events, and its reply. `replied` is None if
--- the call hasn't replied; the line then has null.
+-- A call: its batch, its number, the numbers of its invoke and its reply among the accepted events, and its reply. `replied` is
+-- None if the call hasn't replied; the line then has null.
 pub record AuditRecord : Type 0 where
   pub batch : Batch
   pub call : ℕ

@@ -58,7 +58,7 @@ of_line reader line = do
   ms ← object_in (as_object d)
   reader d ms
 
--- The request that a line parses to in a trust domain, and the ids that are left. The line has its LF, if there is one. A fault comes
--- without ids.
+-- The request that a line parses to in a trust domain, and the ids that are left. The line has its LF, if there is one. A fault
+-- comes without ids.
 unfoldable pub spelled : List ℕ → ChaCha → List ℕ → Result (Request × ChaCha) Fault
 spelled domain ids line = of_line (request_in domain ids) line

@@ -8,9 +8,10 @@
 //! - [`Ids`] gives ids to entries without one; [`ids_law`] says which words of its stream they are made of.
 //! - [`kept_law`] says that the bytes kept of a line parse to what the whole line parses to.
 //!
-//! The definitions are in `specs/`. `Requests`, `Events` and `Records` define what a line parses to. `Batches` and
-//! `Operations` define what an object with a batch parses to, and `Fields` the values at the keys. `Codes` has the codes
-//! and keys, `Ids` the ids. `FieldsPrivate` is for this crate's own contracts.
+//! The definitions are in `specs/`. `Requests`, `Events` and `Records` define what a line parses to. `Batches` and `Operations`
+//! define what an object with a batch parses to, and `Fields` the values at the keys. `Codes` has the codes and keys, `Ids` the
+//! ids. `RecordViews` says which audit record a [`Record`] represents, and `Kept` has the theorem on the bytes that are kept of a
+//! line. `FieldsPrivate` is for this crate's own contracts.
 //!
 //! - `fault`: what can be wrong with a line; `refusal`: the same with the line's number.
 //! - `request`: a line, and a request's keys next to those of its batch; `tries`: how often a batch may be tried.

@@ -95,6 +95,7 @@ fn named_op(
     undrawn_in(alloc, name, object, members)
 }
 
+/// Reads the operation of an object.
 #[tactic(auto, unfolding(crate::specs::Operations::op_in))]
 fn op_in(
     alloc: Global,

@@ -22,7 +22,8 @@ use serde_json::{Map, Value};
 use spiffe_name::{Failure, TrustDomain};
 use std::alloc::Global;
 
-/// The maximum number of bytes before a line's LF: one less than are kept of a line, so that what is kept shows whether it is too long.
+/// The maximum number of bytes before a line's LF. It is one less than the number of bytes that are kept of a line, so that these
+/// show whether the line is too long.
 const LINE_LIMIT: usize = KEPT_BYTES - 1;
 
 /// The content of a request line.
