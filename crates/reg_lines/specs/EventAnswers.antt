@@ -1,5 +1,5 @@
--- The lines that answer events, and the one that reports the order: compact text, with the keys of each object in ascending order of
--- their bytes.
+-- The lines that answer events, and the one that reports the order: compact text, with the keys of each object in ascending order
+-- of their bytes.
 use Rattle.std.specs.Prelude.{ℕ, List, ◌++◌, codes, decimal}
 use Rattle.entry_book.specs.declared.limit.Limit.{Limit}
 use Rattle.entry_book.specs.Codes.{limit_code}

@@ -1,5 +1,5 @@
--- The line of a call's record: its batch, the numbers of its invoke and its reply, and the reply. Compact text, with the keys of each
--- object in ascending order of their bytes.
+-- The line of a call's record: its batch, the numbers of its invoke and its reply, and the reply. Compact text, with the keys of
+-- each object in ascending order of their bytes.
 use Rattle.std.specs.Prelude.{ℕ, List, [], ◌++◌, Option, None, Some, codes, decimal}
 use Rattle.entry_book.specs.Batches.{Batch}
 use Rattle.entry_book.specs.declared.agent.Agent.{Agent}
@@ -150,8 +150,8 @@ batch_json batch =
     ++ given_member (codes ",\"token\":") uuid_json batch.token
     ++ codes "}"
 
--- the record of a call: its batch, its number, the numbers of its invoke and its reply among the accepted events, null if it hasn't
--- replied, and its reply
+-- the record of a call: its batch, its number, the numbers of its invoke and its reply among the accepted events, null if it
+-- hasn't replied, and its reply
 unfoldable pub record_json : Batch → ℕ → ℕ → Option ℕ → Reply → List ℕ
 record_json batch call invoked replied reply =
     codes "{\"batch\":" ++ batch_json batch

@@ -1,5 +1,5 @@
--- The JSON values of the printed lines, and the theorem that each line is the compact text of its value. `put` keeps the keys of an
--- object in ascending order of their bytes.
+-- The JSON values of the printed lines, and the theorem that each line is the compact text of its value. `put` keeps the keys of
+-- an object in ascending order of their bytes.
 use Rattle.std.specs.Prelude.{◌≡◌, ℕ, false, List, map, codes, Option, None, Some}
 use Rattle.serde_json.specs.Data.{Data, null, object, array, string, number, unsigned, Members, put, no_members}
 use Rattle.serde_json.specs.View.{items_of}

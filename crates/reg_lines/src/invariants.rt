@@ -1,5 +1,5 @@
-//! What are the type invariants of a record's parts? For the prover: these functions have no effect, and their contracts bring the
-//! invariants into a proof.
+//! What are the type invariants of a record's parts? For the prover: these functions have no effect, and their contracts bring
+//! the invariants into a proof.
 //!
 //! - `names`: texts, UUIDs and selectors; `batches`: batches and operations; `replies`: replies and rows.
 

@@ -19,6 +19,11 @@
 //!   of each record.
 //! - [`one_line_law`] says that no printed line contains a line feed.
 //!
+//! The definitions are in `specs/`. `Json`, `Replies`, `Refusals`, `EventAnswers`, `SeatLines` and `RecordLines` define the text
+//! of each printed value. `Values`, `EventValues`, `SeatValues` and `RecordValues` define the JSON values of these texts, and
+//! have the theorems that a text is that of its value. `ReadBack`, `Spelled` and `OneLine` have the other theorems, and
+//! `CallRecords` says what a record has of its call. `JsonPrivate` is for this crate's own contracts.
+//!
 //! - `printing`: which bytes print a value; `laws`: what is printed parses back, and each line is one line;
 //!   `invariants`: the type invariants of a record's parts, for the prover.
 //!

@@ -14,7 +14,8 @@ const TEXT: &[u8] = b"one\n\ntwo\r\nthree\nlast";
 
 const NUMBERED: &[u8] = b"1:one\n2:\n3:two\r\n4:three\n5:last";
 
-/// A writer with room for this many bytes, so that it never allocates: its user couldn't distinguish that failure from one of the device.
+/// A writer with room for this many bytes, so that it never allocates: its user couldn't distinguish that failure from one of the
+/// device.
 fn roomy_writer(
     alloc: Global,
     room: usize,

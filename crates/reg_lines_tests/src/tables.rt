@@ -263,7 +263,8 @@ pub(crate) fn reads_with(
     comes_first(rt, alloc, asked, (ids, 1), &line, case)
 }
 
-/// Asserts the result of each line of the table, as the line of this number and the first call, with the ids of the all-zero seed.
+/// Asserts the result of each line of the table, as the line of this number and the first call, with the ids of the all-zero
+/// seed.
 pub(crate) fn reads_at(
     rt: &impl Abort,
     alloc: Global,

@@ -70,7 +70,8 @@ fn the_least_place_and_the_token_are_read_in_their_turn(rt: HostRuntime) -> Resu
     reads_table(&rt, rt.alloc(), ReadAs::Request, TABLE)
 }
 
-/// Lines that are read one after another with the ids of the all-zero seed, and the request of each: the one with a token draws no id.
+/// Lines that are read one after another with the ids of the all-zero seed, and the request of each: the one with a token draws
+/// no id.
 const IN_A_ROW: &str = r#"
 {"ops":[{"op":"create","parent":"spiffe://ex.org/a","identity":"spiffe://ex.org/b","selectors":["u:1"]}],"token":"00000000-0000-0000-0000-000000000009"} => {"code":"L5","field":"id","line":1,"op":0}
 {"ops":[{"op":"create","id":"00000000-0000-0000-0000-000000000001","parent":"spiffe://ex.org/a","identity":"spiffe://ex.org/b","selectors":["u:1"]}],"token":"00000000-0000-0000-0000-000000000009"} => 1 token "00000000-0000-0000-0000-000000000009"; create "00000000-0000-0000-0000-000000000001" "spiffe://ex.org/a" "spiffe://ex.org/b" ["u:1"] "" [] 0
