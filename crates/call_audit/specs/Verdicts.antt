@@ -40,8 +40,8 @@ pub record IsYes (domain : List ℕ) (lines : List (List ℕ)) (calls : ℕ) : T
 abbrev pub YesIsHistory : Type 0
 YesIsHistory = (domain : List ℕ) (lines : List (List ℕ)) (calls : ℕ) → verdict_of_lines domain lines ≡ Yes calls → IsYes domain lines calls
 
--- What a no says: the lines before this one parse to records that are a history, and after these the line has this cause, the first
--- that applies.
+-- What a no says: the lines before this one parse to records that are a history, and after these the line has this cause, the
+-- first that applies.
 pub record IsNo (domain : List ℕ) (lines : List (List ℕ)) (n : ℕ) (cause : Cause) : Type 0 where
   pub front : List (List ℕ)
   pub line : List ℕ

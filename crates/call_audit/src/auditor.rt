@@ -12,8 +12,8 @@ use spiffe_name::{Failure, TrustDomain};
 use std::alloc::{AllocError, Global};
 use std::marker::Model;
 
-/// Checks the records of a run, line after line, and runs their batches on a plain book. The model in contracts is the
-/// record of the book, the numbers of the calls, and the largest number of an invoke.
+/// Checks the records of a run, line after line, and runs their batches on a plain book. It stores no record. The model in
+/// contracts is the book's state, the numbers of the calls, and the largest number of an invoke.
 #[derive(Drop)]
 pub struct Auditor {
     alloc: Global,
@@ -54,14 +54,14 @@ impl Auditor {
     }
 
     /// Checks the next line, given with its LF if it has one. Returns `None` if it is a valid record after those before it, and
-    /// otherwise the first cause that applies. The error is out of memory. After a cause or an error the audit is over: nothing is
-    /// guaranteed about further lines.
+    /// otherwise the first cause that applies. The error is out of memory. After a cause or an error the audit is over: nothing
+    /// is guaranteed about further lines.
     pub fn audit(&mut self, line: &[u8]) -> Result<Option<Cause>, AllocError>
         ensures domain { self.new.book.domain ≡ self.old.book.domain }
         ensures judged { (records : List AuditRecord) → RepresentsRecords self.old records
             → IfOk result (Judges self.old.book.domain records line.now (RepresentsRecords self.new)) }
     {
-        // in a refusal its number isn't used
+        // the line's number, here always 1, is only part of a refusal, and isn't used
         match read_record(self.alloc, self.book.domain(), line, 1) {
             Ok(claimed) => self.audit_record(&claimed),
             Err(refusal) => Ok(Some(spelling_cause(&refusal.failure)?)),
@@ -86,7 +86,7 @@ impl Auditor {
     ghost use Rattle.call_audit.specs.AuditsPrivate.{JudgesRecord};
     ghost use Rattle.call_audit.specs.Represents.{RepresentsRecords};
 
-    /// The same for a record.
+    /// Checks the next record, as `audit` checks its line.
     fn audit_record(&mut self, claimed: &Record) -> Result<Option<Cause>, AllocError>
         requires domain { claimed.now.batch.domain ≡ self.old.book.domain }
         ensures domain { self.new.book.domain ≡ self.old.book.domain }

@@ -20,8 +20,8 @@ pub fn audited_law()
 {}
 
 /// The verdict of a history is never no: its records have no fault, and the verdict of lines that parse to them is yes. The same
-/// holds for the lines of the records of calls whose replies the plain book gives in an order that respects real time, if each line
-/// is short enough to be read.
+/// holds for the lines of the records of calls whose replies the plain book gives in an order that respects real time, if each
+/// line is short enough to be read.
 pub fn confirmed_law()
     ensures faultless { HistoryIsFaultless }
     ensures yes { HistoryIsYes }

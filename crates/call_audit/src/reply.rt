@@ -12,8 +12,8 @@ use reg_lines::{CallReply, PrintJson};
 use serde_json::{Map, Value};
 use std::alloc::{AllocError, Global};
 
-/// Returns true if this is the value of the line of a call's reply. It is never true if the value has a
-/// floating-point number. The error is out of memory.
+/// Returns true if the given value is that of the line which prints this reply to the call. It is never true if the value has
+/// a floating-point number. The error is out of memory.
 pub(crate) fn is_reply(
     alloc: Global,
     given: &Value,
@@ -30,7 +30,7 @@ pub(crate) fn is_reply(
     Ok(given.as_bytes() == expected.as_slice())
 }
 
-/// Returns the text of a call's reply. The error is out of memory.
+/// Returns the JSON text that is printed for a call's reply. The error is out of memory.
 fn reply_text(alloc: Global, call: u64, reply: &Reply) -> Result<Vec<u8>, AllocError>
     ensures { IfOk result (λ text. text.items ≡ reply_json call reply.now) }
 {
