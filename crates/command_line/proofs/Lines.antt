@@ -1,4 +1,4 @@
--- Written-out command lines, computed.
+-- Concrete command lines, computed.
 use Rattle.std.proofs.Common.{codes, false, refl, ◌≡◌, ◌==◌, ℕ, [], ◌∷◌, Some}
 use Rattle.std.proofs.lemmas.Bool.{ne_eqb}
 use Rattle.clap.specs.Words.{Text}

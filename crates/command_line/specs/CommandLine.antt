@@ -199,10 +199,10 @@ pub record AsksWell (words : List Text) : Type 0 where
   pub domain : domain_refusal (unwrap_or (domain_word words) []) ≡ None
   pub seed : ParsesNoSeed (seed_text words) → ⊥
 
--- The words have this fault: the parser refuses them; or it accepts them, and their domain (the empty text if there is none) isn't a
--- trust domain; or it is one, and the text of the seed isn't a seed; or it is one, and the words request a server without a valid
--- address, or with one but with a number out of its range. Any words may fail for lack of memory. These faults don't include words
--- that aren't text.
+-- The words have this fault: the parser refuses them; or it accepts them, and their domain (the empty text if there is none)
+-- isn't a trust domain; or it is one, and the text of the seed isn't a seed; or it is one, and the words request a server without
+-- a valid address, or with one but with a number out of its range. Any words may fail for lack of memory. These faults don't
+-- include words that aren't text.
 abbrev pub IsFaultOf : List Text → LineFault → Type 0
 IsFaultOf words (Refused error) = IsAmong (kind_of error) (line_faults words)
 IsFaultOf words (Domain refusal) =

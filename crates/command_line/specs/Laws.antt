@@ -1,4 +1,4 @@
--- Theorems about written-out command lines.
+-- Theorems about concrete command lines.
 use Rattle.std.specs.Prelude.{codes, ◌≡◌, ◌≢◌, ◌++◌, ℕ, [], ◌∷◌, List, Some}
 use Rattle.clap.specs.Words.{Text}
 use Rattle.clap.specs.declared.error.ErrorKind.TheVariants.{DisplayHelp, MissingSubcommand}

@@ -4,8 +4,9 @@
 //! - [`LineFault`]: why a command line is invalid.
 //! - [`a_line_gives_its_domain`]: which words give which domain.
 //!
-//! The definitions are in `specs/`: `CommandLine` and `ParsedCommand` define what words request, and which faults they have.
-//! `CommandLinePrivate` is for this crate's own contracts.
+//! The definitions are in `specs/`: `CommandLine` and `ParsedCommands` define what words request, and which faults they have;
+//! `Conversions` which fault an error of a lower layer is. `Laws` has the theorems. `CommandLinePrivate` is for this crate's own
+//! contracts.
 //!
 //! `docs/GLOSSARY.md` explains the terms.
 #![tactic(auto)]

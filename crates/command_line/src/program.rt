@@ -1,13 +1,13 @@
 //! Which programs does `regd` have?
 
-/// What a command line requests of `regd`.
+/// A program of `regd`, which a command line requests.
 #[derive(Clone, Copy, Debug, PartialEq, Eq, Drop)]
 pub enum Program {
     /// Answers request lines on a plain book.
     Plain,
     /// Answers event lines with a machine of calls.
     Schedule,
-    /// Applies event lines to a machine of calls, and records the calls.
+    /// Applies event lines to a machine of calls, and records the calls: `schedule --record`.
     Record,
     /// Audits records of calls.
     Audit,
@@ -19,7 +19,7 @@ impl Program {
     ghost use Rattle.std.specs.Prelude.{◌≡◌};
     ghost use Rattle.command_line.specs.CommandLine.{program_name};
 
-    /// Returns the word for it on a command line.
+    /// Returns the word for it on a command line. `Record` has that of `Schedule`.
     pub fn name(self) -> &'static str
         ensures { result.now ≡ program_name self }
     {

@@ -218,7 +218,7 @@ fn connections_option<'a>(alloc: Global) -> Arg<'a>
         .help("How many connections are served before it ends, 1 to 65535")
 }
 
-/// The program `serve` with the option for its address.
+/// Describes the program `serve`, so far with its domain and its address.
 fn listen_command<'a>(alloc: Global) -> Result<Command<'a>, AllocError>
     ensures app { IfOk result (λ command. app_of command ≡ listen_command) }
     ensures local { IfOk result (λ command. (out-Command command).has_globals ≡ false) }
@@ -241,7 +241,7 @@ fn serve_command<'a>(alloc: Global) -> Result<Command<'a>, AllocError>
         .arg(seed_option(alloc))
 }
 
-/// The program with those of its programs that have a book.
+/// Describes `regd`, so far with the programs `plain` and `schedule`.
 fn book_commands<'a>(alloc: Global) -> Result<Command<'a>, AllocError>
     ensures { IfOk result (λ command. app_of command ≡ book_commands) }
 {
@@ -253,7 +253,7 @@ fn book_commands<'a>(alloc: Global) -> Result<Command<'a>, AllocError>
         .subcommand(schedule_command(alloc)?)
 }
 
-/// The program as it is described to the command-line parser.
+/// Describes `regd` to the command-line parser, with all its programs and their options.
 fn regd_command<'a>(alloc: Global) -> Result<Command<'a>, AllocError>
     ensures { IfOk result (λ command. app_of command ≡ regd_command) }
 {
