@@ -13,8 +13,8 @@ use Rattle.line_engines.specs.Driver.{RunsOver}
 use Rattle.line_engines.specs.declared.fault.RunFault.{RunFault}
 use Rattle.line_reading.specs.declared.fault.Fault.{Fault}
 
--- The state of a run: the list of all books, the ids that are left to draw, and the numbers of calls that were run and of lines that
--- were read.
+-- The state of a run: the list of all books, the ids that are left to draw, and the numbers of calls that were run and of lines
+-- that were read.
 pub record Running : Type 0 where
   pub books : List Book
   pub ids : ChaCha
@@ -38,8 +38,8 @@ abbrev pub as_line : List ℕ → List ℕ
 as_line text = text ++ codes "\n"
 
 -- The reply that a line may get in a run, and the state after it. A line that represents a batch draws the ids of its creates,
--- whatever the book replies; a refused line draws none. If memory runs out, the reply says so. The line then changes nothing, except
--- that a batch may have drawn its ids and taken a call number.
+-- whatever the book replies; a refused line draws none. If memory runs out, the reply says so. The line then changes nothing,
+-- except that a batch may have drawn its ids and taken a call number.
 pub data Answers (domain : List ℕ) (now : Running) (line : List ℕ) (next : Running) (reply : List ℕ) : Type 0 where
   refused : (fault : Fault) → spelled domain now.ids line ≡ Err fault → next ≡ plain_skips now → reply ≡ as_line (fault_json (now.lines + 1) fault) → Answers domain now line next reply
   replied : (request : Request) (ids : ChaCha) → spelled domain now.ids line ≡ Ok (request, ids) → next ≡ called now (books_after request.batch now.books) ids → reply ≡ as_line (reply_json (now.calls + 1) (reply_to request.batch now.books)) → Answers domain now line next reply

@@ -31,8 +31,8 @@ audit_start = record { records = []; over = None }
 abbrev pub is_audit_over : Audited → Bool
 is_audit_over now = is_some now.over
 
--- A record is accepted, or it has a fault, or memory runs out for it; no line gets a reply of its own. After the audit is over, nothing
--- changes.
+-- A record is accepted, or it has a fault, or memory runs out for it; no line gets a reply of its own. After the audit is over,
+-- nothing changes.
 pub data AnswersRecord (domain : List ℕ) (now : Audited) (line : List ℕ) (next : Audited) (reply : List ℕ) : Type 0 where
   taken : now.over ≡ None → (r : AuditRecord) → judged domain now.records line ≡ Ok r → next ≡ record { records = now.records ++ r ∷ []; over = None } → reply ≡ [] → AnswersRecord domain now line next reply
   denied : now.over ≡ None → (cause : Cause) → judged domain now.records line ≡ Err cause → next ≡ record { records = now.records; over = Some (Denied (length now.records + 1) cause) } → reply ≡ [] → AnswersRecord domain now line next reply
@@ -70,8 +70,8 @@ LeavesBehind (No line cause) bytes left = LeavesLines line bytes left
 abbrev pub HasNoFault : List ℕ → List ℕ → Option (List ℕ) → Type 0
 HasNoFault domain bytes left = (count : ℕ) × TakesLines count bytes left × (verdict_of_lines domain (first_lines count bytes) ≡ Yes count)
 
--- The result of a run of the engine over an input and an output: it is a run of lines, and if it succeeded, the verdict on the lines was
--- written. No line after the first fault was read, even if a read failed.
+-- The result of a run of the engine over an input and an output: it is a run of lines, and if it succeeded, the verdict on the
+-- lines was written. No line after the first fault was read, even if a read failed.
 pub record RunsAudit (domain : List ℕ) (input rest : InputState) (output out : OutputState) (result : Result RunEnd RunFault) : Type 0 where
   pub run : RunsOver (StepsUntilEnd is_audit_over (AnswersRecord domain)) ClosesWithVerdict ⊤ audit_start input rest output out result
   pub reported : IfOk result (λ outcome. IfSome input.left (λ bytes. WritesVerdict (verdict_of_lines domain (first_lines most_lines bytes)) outcome output.written out.written))

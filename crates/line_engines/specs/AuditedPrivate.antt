@@ -22,6 +22,7 @@ run_end_of None = outcome.Done
 run_end_of (Some (Denied line cause)) = outcome.Denied
 run_end_of (Some NoMemory) = outcome.Done
 
+-- the state that the engine `audit` stores
 pub record AuditKept : Type 0 where
   pub auditor : AuditState
   pub lines : ℕ

@@ -13,8 +13,8 @@ use Rattle.line_engines.specs.Schedules.{Scheduled}
 abbrev pub call_of : Recorded → RecordedCall
 call_of r = record { batch = r.batch; call = r.call; invoked = r.invoked; replied = r.replied; reply = r.reply }
 
--- The verdict on the last text of a schedule, in its trust domain, is yes, with as many calls as there are records, if each of these
--- fits into a line.
+-- The verdict on the last text of a schedule, in its trust domain, is yes, with as many calls as there are records, if each of
+-- these fits into a line.
 abbrev pub RecordsAreAudited : Type 0
 RecordsAreAudited = (domain : List ℕ) (last : Scheduled) (order : List ℕ) (recorded : List Recorded) (end : List ℕ) → WritesRecords domain last order recorded end → AllByRecursion (λ r. FitsInLine (text_of_call (call_of r))) recorded
     → verdict_of_lines domain (lines_of end) ≡ Yes (length recorded)

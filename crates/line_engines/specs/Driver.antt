@@ -11,8 +11,8 @@ use Rattle.line_engines.specs.declared.fault.RunFault.TheVariants as fault
 abbrev pub StepsUntilEnd : {State : Type 0} → (State → Bool) → (State → List ℕ → State → List ℕ → Type 0) → State → List ℕ → State → List ℕ → Type 0
 StepsUntilEnd ends answers now line next reply = MatchBool (ends now) ((next ≡ now) × (reply ≡ [])) (answers now line next reply)
 
--- Every line of which these bytes are kept may get a reply, which was put. The new value represents the state after it, and the run
--- goes on unless it has ended.
+-- Every line of which these bytes are kept may get a reply, which was put. The new value represents the state after it, and the
+-- run goes on unless it has ended.
 abbrev pub AnswersKept : {State : Type 0} → (State → List ℕ → State → List ℕ → Type 0) → (State → Bool) → (State → Type 0) → State → List ℕ → OutputState → OutputState → Bool → Type 0
 AnswersKept {State} answers ends represents now bytes old new continues = (next : State) × (reply : List ℕ) × StepsKept answers now bytes next reply × Puts old new reply × represents next × (ends next ≡ not continues)
 
@@ -40,8 +40,8 @@ AppendsClosed step closes first lines old new = (text : List ℕ) × IsClosedRun
 abbrev pub AppendsClosedPrefix : {State : Type 0} → (State → List ℕ → State → List ℕ → Type 0) → (State → List ℕ → Type 0) → State → List (List ℕ) → Option (List ℕ) → Option (List ℕ) → Type 0
 AppendsClosedPrefix step closes first lines old new = (text : List ℕ) × IsClosedRun step closes first lines text × AppendsPrefix old new text
 
--- The result of a run over an input and an output. The states of the input before and after it are `input` and `rest`, those of the
--- output `output` and `out`.
+-- The result of a run over an input and an output. The states of the input before and after it are `input` and `rest`, those of
+-- the output `output` and `out`.
 pub record RunsOver {State : Type 0} {T : Type 0} (step : State → List ℕ → State → List ℕ → Type 0) (closes : State → List ℕ → Type 0) (may_lack_memory : Type 0) (first : State) (input rest : InputState) (output out : OutputState) (result : Result T RunFault) : Type 0 where
   -- on success, each line got its reply, in order, followed by the last text
   pub text : OnOk result (IfSome input.left (λ bytes. AppendsClosed step closes first (first_lines most_lines bytes) output.written out.written))

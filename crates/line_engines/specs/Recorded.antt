@@ -1,4 +1,4 @@
--- What the engine `record` writes: nothing line by line, and at the end the records of the machine's calls.
+-- What the engine `record_schedule` writes: nothing line by line, and at the end the records of the machine's calls.
 use Rattle.std.specs.Prelude.{◌≡◌, ◌↔◌, ◌+◌, ◌<◌, ◌≤◌, ℕ, true, false, ⊤, List, [], ◌∷◌, Option, None, Some, Result, Ok, Err, IfOk, IfSome}
 use Rattle.std.specs.Io.KnownBytes.{Appends}
 use Rattle.std.specs.List.{AllByRecursion, flat_map}
@@ -32,8 +32,8 @@ use Rattle.line_engines.specs.declared.fault.RunFault.{RunFault}
 
 -- ---- a record, and properties of a list of records that mention no machine
 
--- The record of a call: its batch and its number; the numbers of its invoke and, if it has replied, of its reply among the accepted
--- events; and its reply, whether the call has replied or not.
+-- The record of a call: its batch and its number; the numbers of its invoke and, if it has replied, of its reply among the
+-- accepted events; and its reply, whether the call has replied or not.
 pub record Recorded : Type 0 where
   pub batch : Batch
   pub call : ℕ
@@ -72,8 +72,8 @@ IsWritten r = IsWrittenBatch r.batch × IsWrittenCall r.call r.invoked r.replied
 
 -- ---- records of a machine's calls
 
--- The stamps are numbers of accepted events: that of the invoke of the batch, and, exactly if there is one, that of the event that
--- returned this reply.
+-- The stamps are numbers of accepted events: that of the invoke of the batch, and, exactly if there is one, that of the event
+-- that returned this reply.
 pub record HasStamps (log : List Happened) (r : Recorded) : Type 0 where
   pub invoked : (done : Done) × EventAt log r.invoked (Invoke r.call r.batch) done
   pub replied : (n : ℕ) → (r.replied ≡ Some n) ↔ EventAt log n (on.Reply r.call) (Answered r.call (Replied r.reply))
@@ -111,9 +111,10 @@ pub data RecordsLine (domain : List ℕ) (now : Recording) (line : List ℕ) (ne
   was_taken : TakesEvent domain now.scheduled line next.scheduled → next.lost ≡ now.lost → reply ≡ [] → RecordsLine domain now line next reply
   was_lost : LosesLine domain now.scheduled line next.scheduled → next.lost ≡ now.lost + 1 → reply ≡ [] → RecordsLine domain now line next reply
 
--- The last text is the records of the machine's calls, a line each, in an order for which the headline (main theorem) holds with the
--- events and their answers. The stamps of the records are those of the events. Each call replied after its invoke, or was committed.
--- The plain book gives them their replies in this order, which is strict by the stamps alone. The batches are of the trust domain.
+-- The last text is the records of the machine's calls, a line each, in an order for which the headline (main theorem) holds with
+-- the events and their answers. The stamps of the records are those of the events. Each call replied after its invoke, or was
+-- committed. The plain book gives them their replies in this order, which is strict by the stamps alone. The batches are of the
+-- trust domain.
 pub record WritesRecords (domain : List ℕ) (last : Scheduled) (order : List ℕ) (recorded : List Recorded) (end : List ℕ) : Type 0 where
   pub is_order : IsOrder last.machine order
   pub headline : Headline (accepted last.events last.answers) order
@@ -147,8 +148,8 @@ abbrev pub events_of : List ℕ → ChaCha → List (List ℕ) → List Event
 events_of domain ids [] = []
 events_of domain ids (line ∷ lines) = events_by (spelled_event domain ids line) (λ event left. event ∷ events_of domain left lines) (events_of domain ids lines)
 
--- The records are those of all events that the lines represent: the machine was run through these events and refused none of them for
--- lack of memory, and known bytes grow by the records of its calls.
+-- The records are those of all events that the lines represent: the machine was run through these events and refused none of them
+-- for lack of memory, and known bytes grow by the records of its calls.
 pub record AppendsAllRecords (domain seed : List ℕ) (lines : List (List ℕ)) (old new : Option (List ℕ)) : Type 0 where
   pub last : Scheduled
   pub text : List ℕ
@@ -158,8 +159,8 @@ pub record AppendsAllRecords (domain seed : List ℕ) (lines : List (List ℕ)) 
   pub closes : ClosesWithRecords domain last text
   pub appends : Appends old new text
 
--- The result of a run of the engine over an input and an output: it is a run of lines, and if it succeeded, the records and nothing else
--- were written. It returns how many lines were lost: if none was, the records are those of all events.
+-- The result of a run of the engine over an input and an output: it is a run of lines, and if it succeeded, the records and
+-- nothing else were written. It returns how many lines were lost: if none was, the records are those of all events.
 pub record RunsRecord (domain seed : List ℕ) (input rest : InputState) (output out : OutputState) (result : Result ℕ RunFault) : Type 0 where
   pub run : RunsOver (RecordsLine domain) (ClosesRecording domain) ⊤ (first_recording domain seed) input rest output out result
   pub alone : IfOk result (λ lost. IfSome input.left (λ bytes. AppendsRecords domain seed (first_lines most_lines bytes) lost output.written out.written))

@@ -8,9 +8,11 @@ use Rattle.line_engines.specs.Recorded.{Recording, RecordsLine, was_lost}
 pub a_line_recorded : (domain : List ℕ) (now : Recording) (line : List ℕ) → (next : Recording) × (reply : List ℕ) × RecordsLine domain now line next reply
 a_line_recorded domain now line = (record { scheduled = schedule_skips now.scheduled; lost = now.lost + 1 }, [], was_lost (unread refl) refl refl)
 
+-- the state that the engine stores: that of `schedule`, and the number of lost lines
 pub record RecordKept : Type 0 where
   pub schedule : ScheduleKept
   pub lost : ℕ
 
+-- it represents this state of a run
 abbrev pub KeepsRecording : RecordKept → Recording → Type 0
 KeepsRecording kept now = ScheduleRepresents kept.schedule now.scheduled × (now.lost ≡ kept.lost)

@@ -18,8 +18,8 @@ use Rattle.line_engines.specs.Answers.{as_line}
 use Rattle.line_engines.specs.Driver.{RunsOver}
 use Rattle.line_engines.specs.declared.fault.RunFault.{RunFault}
 
--- The state of a run: the events of the lines and their answers, the machine's state after them, the ids that are left to draw, and the
--- number of lines that were read.
+-- The state of a run: the events of the lines and their answers, the machine's state after them, the ids that are left to draw,
+-- and the number of lines that were read.
 pub record Scheduled : Type 0 where
   pub events : List Event
   pub answers : List EventAnswer
@@ -44,9 +44,9 @@ abbrev pub event_answer_json : ℕ → EventAnswer → List ℕ
 event_answer_json line (Ok done) = event_json done
 event_answer_json line (Err refused) = event_refusal_json line refused.refusal
 
--- The reply that a line may get in a run, and the state after it. A line that represents an event gets the machine's answer to it, even
--- if that is a refusal, and draws the ids of its creates in any case. If memory runs out while a line is read, the reply says so, and
--- the line changes nothing.
+-- The reply that a line may get in a run, and the state after it. A line that represents an event gets the machine's answer to
+-- it, even if that is a refusal, and draws the ids of its creates in any case. If memory runs out while a line is read, the reply
+-- says so, and the line changes nothing.
 pub data AnswersEvent (domain : List ℕ) (now : Scheduled) (line : List ℕ) (next : Scheduled) (reply : List ℕ) : Type 0 where
   refused : (fault : Fault) → spelled_event domain now.ids line ≡ Err fault → next ≡ schedule_skips now → reply ≡ as_line (fault_json (now.lines + 1) fault) → AnswersEvent domain now line next reply
   applied : (event : Event) (ids : ChaCha) (answer : EventAnswer) (machine : MachineState) → spelled_event domain now.ids line ≡ Ok (event, ids) → Applies now.machine event answer machine → next ≡ stepped now event answer machine ids → reply ≡ as_line (event_answer_json (now.lines + 1) answer) → AnswersEvent domain now line next reply
@@ -76,8 +76,8 @@ pub data LosesLine (domain : List ℕ) (now : Scheduled) (line : List ℕ) (next
   unread : next ≡ schedule_skips now → LosesLine domain now line next
   unapplied : (event : Event) (ids : ChaCha) (answer : EventAnswer) (machine : MachineState) → spelled_event domain now.ids line ≡ Ok (event, ids) → Applies now.machine event answer machine → lacks_memory answer ≡ true → next ≡ stepped now event answer machine ids → LosesLine domain now line next
 
--- The last line is the order line: it gives an order of the machine's calls, for which the headline (main theorem) holds with the events
--- and their answers.
+-- The last line is the order line: it gives an order of the machine's calls, for which the headline (main theorem) holds with the
+-- events and their answers.
 pub record WritesOrder (last : Scheduled) (order : List ℕ) (end : List ℕ) : Type 0 where
   pub is_order : IsOrder last.machine order
   pub headline : Headline (accepted last.events last.answers) order

@@ -23,11 +23,13 @@ LosesOrTakes lost domain now line next = MatchBool lost (LosesLine domain now li
 pub an_event_answer : (domain : List ℕ) (now : Scheduled) (line : List ℕ) → (next : Scheduled) × (reply : List ℕ) × AnswersEvent domain now line next reply
 an_event_answer domain now line = (schedule_skips now, as_line (no_memory_json (now.lines + 1)), not_read refl refl)
 
+-- the state that the engine `schedule` stores
 pub record ScheduleKept : Type 0 where
   pub machine : MachineState
   pub ids : ChaCha
   pub lines : ℕ
 
+-- it represents this state of a run
 pub record ScheduleRepresents (kept : ScheduleKept) (now : Scheduled) : Type 0 where
   pub runs : Runs (first_machine kept.machine.domain) now.events now.answers now.machine
   -- each batch is of the machine's trust domain
@@ -57,7 +59,8 @@ is_lost (NotRead refusal) = is_unread refusal.failure
 abbrev pub Applied : MachineState → Event → ℕ → List ℕ → Bool → MachineState → Type 0
 Applied machine event line text lost after = (answer : EventAnswer) × Applies machine event answer after × (text ≡ event_answer_json line answer) × (lost ≡ lacks_memory answer)
 
--- One line was taken, or lost: its reply has this text, and it left this machine and these ids. A run of the machine continues with it.
+-- One line was taken, or lost: its reply has this text, and it left this machine and these ids. A run of the machine continues
+-- with it.
 pub record TakesEventLine (domain : List ℕ) (now : Scheduled) (line : List ℕ) (text : List ℕ) (lost : Bool) (machine : MachineState) (ids : ChaCha) : Type 0 where
   pub next : Scheduled
   pub answers : AnswersEvent domain now line next (as_line text)

@@ -16,10 +16,11 @@ use spiffe_name::TrustDomain;
 use std::alloc::{AllocError, Global};
 use std::marker::Model;
 
-/// Audits the records of the input, in order, and writes the verdict: yes if no line has a fault, and otherwise no for the first one
-/// that has. The lines after that one aren't read from the input.
+/// Audits the records of the input, in order, and writes the verdict: yes if no line has a fault, and otherwise no for the first
+/// one that has. The lines after that one aren't read from the input.
 ///
-/// Memory may run out at any line; the run then ends without a verdict.
+/// Returns whether the verdict is yes. The error is a failed device, or out of memory, which may happen at any line; the run then
+/// ends without a verdict.
 pub fn audit<S: Source, K: Sink>(
     alloc: Global,
     domain: TrustDomain,

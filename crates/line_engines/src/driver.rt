@@ -63,11 +63,12 @@ pub trait LineHandler {
     ghost some_answer: { (s : Self.Setting) (now : Self.State) (line : List ℕ) → (next : Self.State) × (reply : List ℕ) × Self.answers s now line next reply };
 }
 
-/// Answers each line of the input, in order, until the line handler ends the run, and then puts the last text. No line is read after
-/// the one at which the run ends.
+/// Answers each line of the input, in order, until the line handler ends the run, and then puts the last text. No line is read
+/// after the one at which the run ends.
 ///
 /// The replies are out before each read that may wait, and at the end. The handler then represents the final state. The run
-/// preserves `preserves`, even if a device failed.
+/// preserves `preserves`, even if a device failed. The error is a failed device, or out of memory before the first line or for
+/// the last text.
 pub fn run_lines<A: LineHandler, S: Source, K: Sink>(
     alloc: Global,
     handler: &mut A,

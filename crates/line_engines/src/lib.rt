@@ -2,13 +2,17 @@
 //!
 //! - [`LineHandler`]: a line handler, which answers the lines of an input; [`run_lines`]: a run of any of them over the bytes.
 //! - [`plain`]: from the bytes of request lines to the bytes of reply lines, on a plain book; [`schedule`]: from event lines to
-//!   their answers and the order of the calls; [`record_schedule`]: from event lines to the records of the calls alone; [`audit`]:
-//!   from records of calls to the verdict on them.
+//!   their answers and the order of the calls; [`record_schedule`]: from event lines to the records of the calls alone;
+//!   [`audit`]: from records of calls to the verdict on them.
 //! - [`RunEnd`]: the result of a run that succeeded; [`RunFault`]: why a run failed.
 //! - [`recorded_runs_are_confirmed`]: the verdict on the records of a schedule is yes.
 //!
-//! The definitions are in `specs/`: `Driver` defines a run of any line handler, and `Answers`, `Schedules`, `Recorded` and `Audited`
-//! what each engine replies. The files that end in `Private` are for this crate's own contracts.
+//! The definitions are in `specs/`: `Driver` defines a run of any line handler, and `Answers`, `Schedules`, `Recorded` and
+//! `Audited` what each engine replies. `Confirmed` has the theorem. The files that end in `Private` are for this crate's own
+//! contracts.
+//!
+//! - `driver`: runs of any line handler; `plain_engine`, `schedule_engine`, `record_engine`, `audit_engine`: the four engines,
+//!   each a line handler; `outcome` and `fault`: the result of a run; `laws`: the theorem.
 //!
 //! `docs/GLOSSARY.md` explains the terms.
 #![tactic(auto)]

@@ -20,7 +20,8 @@ use std::marker::Model;
 /// Answers each line of the input on a plain book of the trust domain, in order. Creates without an id get the ids of the
 /// seed, in order.
 ///
-/// The replies are out before each read that may wait, and at the end.
+/// The replies are out before each read that may wait, and at the end. The error is a failed device, or out of memory before the
+/// first line. If memory runs out later, the reply to the line says so.
 pub fn plain<S: Source, K: Sink>(
     alloc: Global,
     domain: TrustDomain,

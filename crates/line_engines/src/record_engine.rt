@@ -15,14 +15,14 @@ use spiffe_name::TrustDomain;
 use std::alloc::{AllocError, Global};
 use std::marker::Model;
 
-/// Applies each line of the input to a machine of calls of the trust domain, in order, as `schedule` does, but writes no answers. At
-/// the end of the input it writes a record of each call of the machine's order, in this order. Creates without an id get the ids of
-/// the seed, in order.
+/// Applies each line of the input to a machine of calls of the trust domain, in order, as `schedule` does, but writes no answers.
+/// At the end of the input it writes a record of each call of the machine's order, in this order. Creates without an id get the
+/// ids of the seed, in order.
 ///
-/// Returns how many lines were lost for lack of memory: those that `schedule` answers L6 or E5. If none was, the records are those
-/// of all events of the input.
+/// Returns how many lines were lost for lack of memory: those that `schedule` answers L6 or E5. If none was, the records are
+/// those of all events of the input.
 ///
-/// Memory may run out before the first line, and for the order.
+/// The error is a failed device, or out of memory before the first line or for the order.
 pub fn record_schedule<S: Source, K: Sink>(
     alloc: Global,
     domain: TrustDomain,

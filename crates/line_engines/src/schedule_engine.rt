@@ -20,8 +20,8 @@ use std::marker::Model;
 /// Answers each line of the input with a machine of calls of the trust domain, in order, and then writes the order of the calls.
 /// Creates without an id get the ids of the seed, in order.
 ///
-/// The replies are out before each read that may wait, and at the end. Memory may run out before the first line, and for the
-/// order.
+/// The replies are out before each read that may wait, and at the end. The error is a failed device, or out of memory before the
+/// first line or for the order. If memory runs out for a line, its reply says so.
 pub fn schedule<S: Source, K: Sink>(
     alloc: Global,
     domain: TrustDomain,
