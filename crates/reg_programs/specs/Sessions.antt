@@ -25,8 +25,8 @@ use Rattle.line_engines.specs.Answers.{as_line}
 use Rattle.line_engines.specs.Driver.{RunsOver}
 use Rattle.line_engines.specs.declared.fault.RunFault.{RunFault}
 
--- The state of a session: the seat, with its number of calls and the lists that it has seen and was informed of; the ids that are left to
--- draw; and the number of lines that were read.
+-- The state of a session: the seat, with its number of calls and the lists that it has seen and learnt of; the ids that are left
+-- to draw; and the number of lines that were read.
 pub record Session : Type 0 where
   pub seat : Seated
   pub ids : ChaCha
@@ -60,8 +60,9 @@ submit_json call line NoEntry = seat_refusal_json line NotAdmitted
 
 -- ---- a call of the seat, and its answer
 
--- The printed answer to a request, and the seat after it. A query gets the reply of the plain book on the books of the journal that the
--- seat has then seen. A batch of changes gets an outcome that the registry allows, with the number of tries of the request.
+-- The printed answer to a request, and the seat after it. A query gets the reply of the plain book on the books of the journal
+-- that the seat has then seen. A batch of changes gets an outcome that the registry allows, with the number of tries of the
+-- request.
 pub data AnswersCall (domain : Bytes) (s : Seated) (request : Request) (line : ℕ) (t : Seated) (text : List ℕ) : Type 0 where
   replied : is_query request.batch.ops ≡ true → CaughtUp domain s t → t.own ≡ s.own → text ≡ reply_json t.calls (reply_to request.batch (books_of (batches_of t.seen))) → AnswersCall domain s request line t text
   no_reply : (why : NoAnswer) → is_query request.batch.ops ≡ true → SawNothingNew domain s t → t.own ≡ s.own → text ≡ no_answer_json line why → AnswersCall domain s request line t text
@@ -69,9 +70,9 @@ pub data AnswersCall (domain : Bytes) (s : Seated) (request : Request) (line : �
 
 -- ---- a line, and its reply
 
--- The reply that a line may get in a session, and the state after it. A line that represents a request makes one call of the seat, and
--- draws the ids of its creates, whatever its answer; a seat without a call number left makes none. If memory runs out while a line is
--- read, the reply says so, and the line changes nothing.
+-- The reply that a line may get in a session, and the state after it. A line that represents a request makes one call of the
+-- seat, and draws the ids of its creates, whatever its answer; a seat without a call number left makes none. If memory runs out
+-- while a line is read, the reply says so, and the line changes nothing.
 pub data AnswersRequest (domain : Bytes) (now : Session) (line : List ℕ) (next : Session) (reply : List ℕ) : Type 0 where
   refused : (fault : Fault) → spelled domain now.ids line ≡ Err fault → next ≡ session_skips now → reply ≡ as_line (fault_json (now.lines + 1) fault) → AnswersRequest domain now line next reply
   not_read : next ≡ session_skips now → reply ≡ as_line (no_memory_json (now.lines + 1)) → AnswersRequest domain now line next reply
@@ -84,14 +85,15 @@ pub data AnswersRequest (domain : Bytes) (now : Session) (line : List ℕ) (next
 abbrev pub LeavesSeat : Seated → Session → List ℕ → Type 0
 LeavesSeat left last end = (end ≡ []) × (last.seat ≡ left)
 
--- The result of a run of the engine over an input and an output: it is a run of lines, and if it succeeded, this is the seat at the end.
+-- The result of a run of the engine over an input and an output: it is a run of lines, and if it succeeded, this is the seat at
+-- the end.
 abbrev pub RunsSession : {T : Type 0} → Bytes → Seated → ChaCha → InputState → InputState → OutputState → OutputState → Seated → Result T RunFault → Type 0
 RunsSession domain seat ids input rest output out left result = RunsOver (AnswersRequest domain) (LeavesSeat left) ⊥ (session_start seat ids) input rest output out result
 
 -- ---- a theorem: what the seat of a session has seen only grows
 
--- The seat is the same, has made no fewer calls, and was informed of nothing else. What it has seen extends what it had seen, and is a
--- lawful journal if that was one.
+-- The seat is the same, has made no fewer calls, and has learnt of nothing else. What it has seen extends what it had seen, and
+-- is a lawful journal if that was one.
 pub record Grew (domain : Bytes) (s t : Seated) : Type 0 where
   pub number : t.number ≡ s.number
   pub calls : s.calls ≤ t.calls

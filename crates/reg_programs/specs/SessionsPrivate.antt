@@ -36,8 +36,8 @@ IsToAnswer domain seat (Query line batch) = MaySee domain seat × (is_query batc
 abbrev pub found_json : Seated → Batch → List ℕ
 found_json seat batch = reply_json seat.calls (reply_to batch (books_of (batches_of seat.found)))
 
--- The printed reply to a line, and the seat after it: the answer that the line has; or the reply to a query on the journal that the seat
--- found, which it has then seen; or that memory ran out for that reply.
+-- The printed reply to a line, and the seat after it: the answer that the line has; or the reply to a query on the journal that
+-- the seat found, which it has then seen; or that memory ran out for that reply.
 abbrev pub IsPrinted : Seated → Taken → Seated → List ℕ → Type 0
 IsPrinted s (Answered call answer) t text = (t ≡ s) × HasText (Answered call answer) text
 IsPrinted s (NotAnswered r) t text = (t ≡ s) × HasText (NotAnswered r) text

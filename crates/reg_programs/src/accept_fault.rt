@@ -44,8 +44,8 @@ const EHOSTUNREACH: i32 = 113;
 pub(crate) enum AcceptFault {
     /// One connection: it ended while it waited, or its network reported an error, which accept(2) returns in its place.
     Connection,
-    /// The process or the system: it has no descriptor or no memory for a connection, or a rule forbids it (a firewall's, or that of
-    /// a seccomp filter).
+    /// The process or the system: it has no descriptor or no memory for a connection, or a rule forbids it (a firewall's, or that
+    /// of a seccomp filter).
     Shortage,
     /// The listener: it accepts nothing any more.
     Listener,

@@ -15,11 +15,12 @@ use std::time::{Clock, Duration};
 /// The number of shortages in a row that end a server that has accepted no connection yet.
 const MOST_SHORTAGES: u32 = 1_000;
 
-/// Accepts this many connections, in order, and puts connection j, counted from 0, into queue j mod N of N. If an allocation fails
-/// when one is put, that one is closed, and the others go on. At the end the listener is closed.
+/// Accepts this many connections, in order, and puts connection j, counted from 0, into queue j mod N of N. If an allocation
+/// fails when one is put, that one is closed, and the others go on. At the end the listener is closed.
 ///
-/// After an error of one connection it tries again, ten milliseconds later. It does the same after a shortage: once a connection was
-/// accepted, without a limit, because an end would lose the book; before that, at most 999 times in a row. Any other error ends it.
+/// After an error of one connection it tries again, ten milliseconds later. It does the same after a shortage: once a connection
+/// was accepted, without a limit, because an end would lose the book; before that, at most 999 times in a row. Any other error
+/// ends it.
 pub(crate) fn accept_all<R: Wait + Clock, L: OpenListener<Stream = TcpStream> + Drop>(
     rt: &R,
     listener: L,

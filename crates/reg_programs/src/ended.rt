@@ -1,4 +1,4 @@
-//! How did a run end, and what does the caller learn of it?
+//! How did a run end, and which exit status and text report it?
 
 ghost use Rattle.std.specs.Prelude.{◌≡◌};
 ghost use Rattle.reg_programs.specs.Ends.{ended_of, ended_of_server, exit_status_of, exit_message_of, exit_message_of_line};
@@ -92,7 +92,8 @@ fn exit_message_of_fault(fault: LineFault) -> ExitMessage<clap::Error>
     }
 }
 
-/// Returns the exit status: 0 if everything was done, 3 if an audit found a fault, 2 for an invalid command line, 1 for any other end.
+/// Returns the exit status: 0 if everything was done, 3 if an audit found a fault, 2 for an invalid command line, 1 for any other
+/// end.
 pub fn status(ended: &Ended) -> u8
     ensures { result ≡ exit_status_of ended.now }
 {

@@ -7,10 +7,16 @@
 //! - [`session`]: the lines of one connection, answered through a seat of a shared registry; [`sessions_law`]: what the
 //!   seat has seen only grows.
 //! - [`serve`]: the program `regd serve`, with a session for each connection; [`Server`]: its parameters. [`serve_connections`]:
-//!   the same at an existing listener, with what the workers share ([`ServerContext`]), their seats ([`seats_of`]) and a [`Queue`]
-//!   of connections for each ([`queues_of`]); a [`QueueState`] says which worker sleeps.
+//!   the same at an existing listener, with what the workers share ([`ServerContext`]), their seats ([`seats_of`]) and a
+//!   [`Queue`] of connections for each ([`queues_of`]); a [`QueueState`] says which worker sleeps.
 //! - [`ServeFault`]: why a server ended before its last connection did.
 //! - [`Ended`]: how a run ended; [`status`]: its exit status; [`ExitMessage`]: what standard error gets.
+//!
+//! The definitions are in `specs/`: `Programs` says what a program does, `Sessions` what a session replies, and `Ends` which exit
+//! status and which text an end has. `SessionsPrivate` is for this crate's own contracts.
+//!
+//! - `programs`: the choice of the engine; `session_engine`: a session; `server`: the workers; `acceptor`, `accept_fault` and
+//!   `queue`: how connections are accepted and get to a worker; `ended`, `exit_message`, `serve_fault`: how a run ended.
 //!
 //! `docs/GLOSSARY.md` explains the terms.
 #![tactic(auto)]

@@ -8,8 +8,8 @@ use line_devices::{Input, Output, Sink, Source};
 use line_engines::{RunEnd, RunFault, audit, plain, record_schedule, schedule};
 use std::alloc::Global;
 
-/// Runs the program that the settings request, which is not a server, with their trust domain and seed: it answers each line of the
-/// input, in order.
+/// Runs the program that the settings request, which is not a server, with their trust domain and seed: it answers each line of
+/// the input, in order.
 pub fn run_settings<S: Source, K: Sink>(
     alloc: Global,
     settings: Settings,

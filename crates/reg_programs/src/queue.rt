@@ -32,9 +32,9 @@ impl Connection {
 pub struct QueueState {
     /// The number of waiting connections.
     pub waiting: usize,
-    /// The worker has come for the next connection: it sleeps if none waits and the queue is open.
+    /// The worker has asked for its next connection. It sleeps if none waits and the queue is open.
     pub has_worker: bool,
-    /// No connection comes any more.
+    /// The queue is closed: no more connections come.
     pub is_closed: bool,
 }
 

@@ -32,8 +32,11 @@ pub struct Server<'a> {
 /// What the workers of a server share: the registry, and how their sessions are run.
 #[derive(Drop)]
 pub struct ServerContext<'a, J: RegistryId, R> {
+    /// The runtime, for waiting and for the clock.
     pub rt: &'a R,
+    /// The allocator of the sessions.
     pub alloc: Global,
+    /// The registry through which every session answers.
     pub registry: &'a Registry<J>,
     /// The registry's trust domain.
     pub domain: &'a TrustDomain,
@@ -42,12 +45,13 @@ pub struct ServerContext<'a, J: RegistryId, R> {
     pub ghost own_domain: { domain.now ≡ J.domain },
 }
 
-/// Listens, prints the address of the listener, serves the planned number of connections through a shared registry with an empty book,
-/// and returns when the last one has ended. Connection j, counted from 0, goes to worker j mod N of N. A worker has one seat, and
-/// serves its connections one after another.
+/// Listens, prints the address of the listener, serves the planned number of connections through a shared registry with an empty
+/// book, and returns when the last one has ended. Connection j, counted from 0, goes to worker j mod N of N. A worker has one
+/// seat, and serves its connections one after another.
 ///
-/// The contract says nothing about the bytes of a connection; `session` has a contract over devices with known bytes. The function
-/// waits for connections and for their bytes, and isn't guaranteed to return.
+/// The contract says nothing about the bytes of a connection; `session` has a contract over devices with known bytes. The
+/// function waits for connections and for their bytes, and isn't guaranteed to return. The error is why the server ended before
+/// its last connection did.
 pub fn serve<
     R: Threads + Wait + Clock + Print + Net<Listener = TcpListener, Stream = TcpStream> + Sync,
 >(rt: &R, alloc: Global, server: Server<'_>) -> Result<(), ServeFault>
@@ -116,7 +120,7 @@ fn listen<
     )
 }
 
-/// Makes a seat for each of the workers.
+/// Makes a seat for each of the workers. It waits for the registry's lock. The error is `NoSeat`, or `NoMemory`.
 pub fn seats_of<J: RegistryId, R: Wait>(
     rt: &R,
     alloc: Global,
@@ -143,9 +147,9 @@ fn announce<R: Print>(rt: &R, address: SocketAddr) -> io::Result<()> {
 }
 
 /// Starts a worker with one of the seats for each queue, accepts the connections, and returns when all workers have ended. The
-/// listener is closed after the last connection, so that later clients are refused immediately and don't wait. If a worker's thread
-/// can't be started, the error is [`ServeFault::NoMemory`], and no connection is accepted. The function waits for connections and
-/// for their bytes, and isn't guaranteed to return.
+/// listener is closed after the last connection, so that later clients are refused immediately and don't wait. If a worker's
+/// thread can't be started, the error is [`ServeFault::NoMemory`], and no connection is accepted. The function waits for
+/// connections and for their bytes, and isn't guaranteed to return.
 pub fn serve_connections<
     J: RegistryId + Send + Sync,
     R: Threads + Wait + Clock + Sync,

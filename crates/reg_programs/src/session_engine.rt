@@ -23,8 +23,8 @@ use std::sync::Wait;
 
 /// Answers each line of the input through the seat, in order, and returns the seat. Creates without an id get the ids, in order.
 ///
-/// The replies are out before each read that may wait, and at the end. What the seat has seen has only grown, even if a device failed.
-/// The function waits for the input and for the registry's lock, and isn't guaranteed to return.
+/// The replies are out before each read that may wait, and at the end. What the seat has seen has only grown, even if a device
+/// failed. The function waits for the input and for the registry's lock, and isn't guaranteed to return.
 pub fn session<J: RegistryId, R: Wait, S: Source, K: Sink>(
     rt: &R,
     alloc: Global,
@@ -290,8 +290,8 @@ fn outcome_of(call: u64, line: u64, outcome: Outcome) -> Taken
     }
 }
 
-/// What the seat of a session has seen only grows, for any lines and answers. The body is empty: a proof calls the function to cite its
-/// contract.
+/// What the seat of a session has seen only grows, for any lines and answers. The body is empty: a proof calls the function to
+/// cite its contract.
 pub fn sessions_law()
     ensures { SessionsGrow }
 {}

@@ -31,7 +31,8 @@ fn is_denied(rt: &impl Abort, alloc: Global, lines: &[u8], verdict: &str) -> Res
     is_audited(rt, alloc, lines, RunEnd::Denied, expected.as_str())
 }
 
-/// Each verdict line of the table is the expected verdict on the lines between the verdict before and this one, in the notation of `lines`.
+/// Each verdict line of the table is the expected verdict on the lines between the verdict before and this one, in the notation
+/// of `lines`.
 fn are_denied(rt: &impl Abort, alloc: Global, table: &str) -> Result<(), Fail> {
     let mut lines = Vec::new(alloc);
     for line in table.lines() {
@@ -87,8 +88,8 @@ fn a_committed_call_may_not_have_replied(rt: HostRuntime) -> Result<(), Fail> {
     )
 }
 
-/// For two records, each cause, and if several apply, the first one: the number of a call before its stamps, these before the order,
-/// and that before the reply.
+/// For two records, each cause, and if several apply, the first one: the number of a call before its stamps, these before the
+/// order, and that before the reply.
 const BAD_SECOND: &str = r#"
 {"batch":{"ops":[{"op":"show_bundle","domain":"b.org"}]},"call":1,"invoked":5,"replied":9,"reply":{"call":1,"place":0,"replies":[{"bundle":null}],"result":"answered"}}
 {"batch":{"ops":[{"op":"show_bundle","domain":"b.org"}]},"call":1,"invoked":4,"replied":4,"reply":{}}

@@ -131,7 +131,8 @@ fn answers_of(
     }
 }
 
-/// The replies of `regd plain` with this trust domain and seed to these bytes, after asserting that they are compact and a session's too.
+/// The replies of `regd plain` with this trust domain and seed to these bytes, after asserting that they are compact and a
+/// session's too.
 pub fn answers_with(
     rt: &(impl Abort + Wait),
     alloc: Global,
@@ -177,7 +178,8 @@ fn run_program(
     run_settings(alloc, settings, &mut input, &mut output)
 }
 
-/// The replies of the program of a command line to these bytes, after asserting that they are compact, and the outcome of the run.
+/// The replies of the program of a command line to these bytes, after asserting that they are compact, and the outcome of the
+/// run.
 fn answers_of_words(
     rt: &impl Abort,
     alloc: Global,
@@ -215,8 +217,8 @@ pub struct Table {
 }
 
 impl Table {
-    /// The lines of a table that begin with `{` or `«` are alternately requests and their replies, followed by an order line; its other
-    /// lines say what is shown. Requests are in the notation of `lines`.
+    /// The lines of a table that begin with `{` or `«` are alternately requests and their replies, followed by an order line; its
+    /// other lines say what is shown. Requests are in the notation of `lines`.
     pub fn of(alloc: Global, text: &str) -> Result<Table, Fail> {
         let mut table = Table {
             asked: Vec::new(alloc),

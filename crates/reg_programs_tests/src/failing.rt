@@ -9,8 +9,8 @@ use std::sync::Wait;
 use std::test::Fail;
 use test_devices::{Chunking, FakeReader, FakeWriter, Faults};
 
-/// Asserts that a run whose device was to fail at this call wrote a prefix of the text. If it made the call, it ended there, with this
-/// fault; otherwise it succeeded, and wrote everything.
+/// Asserts that a run whose device was to fail at this call wrote a prefix of the text. If it made the call, it ended there, with
+/// this fault; otherwise it succeeded, and wrote everything.
 fn ends_at_a_failure(
     rt: &impl Abort,
     call: u64,

@@ -8,8 +8,8 @@
 //!   `audits` (recorded calls).
 //! - `failing`: runs over a reader or a writer that fails.
 //! - `sessions`: the lines of one connection over memory.
-//! - `hosting`: a server over TCP and its clients, in one process, with a scripted listener and a runtime that counts (`staged`). These
-//!   use it: `serving` (what clients get), `accepting` (errors of `accept`) and `announcing` (the address that is printed).
+//! - `hosting`: a server over TCP and its clients, in one process, with a scripted listener and a runtime that counts (`staged`).
+//!   These use it: `serving` (what clients get), `accepting` (errors of `accept`) and `announcing` (the address that is printed).
 //! - `wanted`: assertions.
 //!
 //! `docs/GLOSSARY.md` explains the terms.

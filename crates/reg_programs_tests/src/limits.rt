@@ -84,8 +84,8 @@ fn full_book(rt: HostRuntime) -> Result<(), Fail> {
     end_with(&rt, rt.alloc(), lines.as_str(), FULL)
 }
 
-/// A limit is checked on the book after all operations of a batch, and isn't the fault of a single one. A batch that is refused for
-/// it has drawn its ids.
+/// A limit is checked on the book after all operations of a batch, and isn't the fault of a single one. A batch that is refused
+/// for it has drawn its ids.
 const ONE_MORE: &str = r#"
 {"ops":[{"op":"create","parent":"spiffe://ex.org/spire/agent/n1","identity":"spiffe://ex.org/web","selectors":["u:1"]},{"op":"set_bundle","domain":"d1024","text":""}]}
 {"call":17,"code":"W5","place":16,"result":"refused"}
@@ -102,7 +102,8 @@ fn one_bundle_too_many(rt: HostRuntime) -> Result<(), Fail> {
     end_with(&rt, rt.alloc(), lines.as_str(), ONE_MORE)
 }
 
-/// After 65,537 committed batches the history goes on: a refused operation is refused for its own reason, and queries are answered.
+/// After 65,537 committed batches the history goes on: a refused operation is refused for its own reason, and queries are
+/// answered.
 const GONE_ON: &str = r#"
 {"ops":[{"op":"prune","before":0}]}
 {"call":65537,"place":65537,"replies":[{"pruned":[]}],"result":"committed"}

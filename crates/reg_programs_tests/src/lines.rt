@@ -1,7 +1,7 @@
 //! Lines from texts, in which long parts and invalid bytes have a short notation.
 //!
-//! `«64*x»` means `x` 64 times, `«c3»` the byte with this value, and `«0*»` an empty line. Each line gets an LF at its end, unless
-//! its text ends with `«»`.
+//! `«64*x»` means `x` 64 times, `«c3»` the byte with this value, and `«0*»` an empty line. Each line gets an LF at its end,
+//! unless its text ends with `«»`.
 
 use std::alloc::Global;
 use std::test::Fail;

@@ -47,8 +47,8 @@ fn a_conflict_is_recorded_nowhere(rt: HostRuntime) -> Result<(), Fail> {
     are_recorded(&rt, rt.alloc(), PHANTOM_EVENTS.as_bytes(), PHANTOM_RECORDS)
 }
 
-/// A bundle is dropped and an entry that names it is created, concurrently. The call that commits first is recorded, regardless of
-/// which was invoked first.
+/// A bundle is dropped and an entry that names it is created, concurrently. The call that commits first is recorded, regardless
+/// of which was invoked first.
 const WRITE_SKEW_EVENTS: &str =
     r#"{"batch":{"ops":[{"domain":"b.org","op":"set_bundle","text":"{}"}]},"call":1,"event":"invoke"}
 {"call":1,"event":"begin"}

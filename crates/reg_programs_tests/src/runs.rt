@@ -38,7 +38,7 @@ fn every_operation_is_answered(rt: HostRuntime) -> Result<(), Fail> {
     are_answered(&rt, rt.alloc(), EVERY_OPERATION)
 }
 
-/// Asserts that the table's requests get their replies over devices at these paces.
+/// Asserts that the table's requests get their replies over a reader and a writer with these chunkings.
 fn is_run(
     rt: &(impl Abort + Wait),
     alloc: Global,
@@ -105,8 +105,8 @@ fn each_failing_write_ends_the_run(rt: HostRuntime) -> Result<(), Fail> {
     Ok(())
 }
 
-/// Asserts how many reads a run of every operation by this engine at this pace makes, how many calls of the writer, and how many of
-/// these are flushes.
+/// Asserts how many reads a run of every operation by this engine makes over a reader with this chunking, how many calls of the
+/// writer, and how many of these are flushes.
 fn is_counted(
     rt: &(impl Abort + Wait),
     alloc: Global,

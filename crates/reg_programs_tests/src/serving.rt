@@ -57,8 +57,8 @@ const CREATED: &str =
 {"call":3,"place":3,"replies":[{"entry":{"domains":[],"expiry":0,"hint":"","id":"ef3fdfd6-c615-48fb-b5cf-35bd3dd33b80","identity":"spiffe://ex.org/c","parent":"spiffe://ex.org/spire/agent/n1","revision":0,"selectors":["u:1"]}}],"result":"committed"}
 "#;
 
-/// Asserts that a server with these numbers of workers and connections succeeds, and what its clients get. If `waits`, all workers
-/// sleep before each connection is accepted.
+/// Asserts that a server with these numbers of workers and connections succeeds, and what its clients get. If `waits`, all
+/// workers sleep before each connection is accepted.
 fn are_answered<
     R: Abort + Threads + Wait + Clock + Net<Listener = TcpListener, Stream = TcpStream> + Sync,
     C: Callers,
