@@ -34,7 +34,7 @@ fn main(rt: HostRuntime) -> ExitCode {
     ExitCode::from(code)
 }
 
-/// Runs to the end of the input, and returns the result.
+/// Runs the requested program over standard input and output, to the end of the input, and returns the result.
 fn run_lines_of<R: io::Input + Print + AllocGlobal>(
     rt: &R,
     settings: Settings,
@@ -46,7 +46,7 @@ fn run_lines_of<R: io::Input + Print + AllocGlobal>(
     run_settings(rt.alloc(), settings, &mut input, &mut output)
 }
 
-/// Runs to the end of the last connection, and returns how the server ended.
+/// Runs the requested server to the end of its last connection, and returns how it ended.
 fn serve_settings<
     R: Threads
         + Wait

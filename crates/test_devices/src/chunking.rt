@@ -1,20 +1,20 @@
-//! How much of its bytes does a device move in a call?
+//! How many bytes does a device move in a call?
 
 ghost use Rattle.std.specs.Prelude.{◌≡◌, ◌≤◌, ℕ, length, take};
 
-/// How much of its bytes a device moves in a call.
+/// How many bytes a device moves in a call.
 #[derive(Clone, Copy, Debug)]
 pub enum Chunking {
-    /// As much as the caller has room for or offers.
+    /// As many as the caller has room for or offers.
     All,
-    /// At most up to the end of a line.
+    /// At most one line, up to its LF.
     Line,
-    /// One byte.
+    /// At most one byte.
     Byte,
 }
 
 impl Chunking {
-    /// All paces.
+    /// Each of the three, for tests that run with all of them.
     pub const EACH: [Chunking; 3] = [Chunking::All, Chunking::Line, Chunking::Byte];
 
     /// Returns the prefix of the bytes that a call moves.

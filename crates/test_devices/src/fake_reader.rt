@@ -19,7 +19,7 @@ pub struct FakeReader<'a> {
 }
 
 impl<'a> FakeReader<'a> {
-    /// A reader of these bytes that hasn't been called yet.
+    /// Makes a reader of these bytes that hasn't been called yet.
     pub fn new(rest: &'a [u8], chunking: Chunking, faults: Faults) -> FakeReader<'a> {
         FakeReader {
             rest,

@@ -9,7 +9,7 @@ use std::io::Write;
 /// A writer to memory.
 #[derive(Drop)]
 pub struct FakeWriter {
-    /// The bytes that it got.
+    /// The bytes that it got, in order.
     pub bytes: Vec<u8>,
     /// The number of calls, including flushes.
     pub calls: u64,
@@ -20,7 +20,7 @@ pub struct FakeWriter {
 }
 
 impl FakeWriter {
-    /// A writer without bytes that hasn't been called yet.
+    /// Makes a writer without bytes that hasn't been called yet.
     pub fn new(alloc: Global, chunking: Chunking, faults: Faults) -> FakeWriter {
         FakeWriter {
             bytes: Vec::new(alloc),

@@ -3,7 +3,7 @@
 use std::io;
 use std::io::ErrorKind;
 
-/// A failure or an interruption of the call with a given number, counted from 1.
+/// The fault of a device: the call with a given number, counted from 1, fails or is interrupted, or no call does.
 #[derive(Clone, Copy, Debug)]
 pub struct Faults {
     failing: u64,
