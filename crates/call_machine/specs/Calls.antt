@@ -23,6 +23,7 @@ pub data CallStage : Type 0 where
   committed : Reply → CallStage
   conflict : (place : ℕ) → CallStage
 
+-- A call, as the state of a machine has it.
 pub record Call : Type 0 where
   pub number : ℕ
   pub batch : Batch
@@ -34,6 +35,7 @@ pub record Call : Type 0 where
   -- that of its reply, if it has replied
   pub replied : Option ℕ
 
+-- The state of a machine, its model in contracts.
 pub record MachineState : Type 0 where
   pub domain : Bytes
   -- the committed batches, in order
@@ -43,9 +45,11 @@ pub record MachineState : Type 0 where
   -- the calls, in the order of their invokes
   pub calls : List Call
 
+-- the state of a new machine
 abbrev pub first_machine : Bytes → MachineState
 first_machine own_domain = record { domain = own_domain; journal = []; count = 0; calls = [] }
 
+-- the call of this number, if there is one
 abbrev pub call_at : ℕ → List Call → Option Call
 call_at n [] = None
 call_at n (c ∷ cs) = if nat_eq n c.number then Some c else call_at n cs
@@ -70,6 +74,7 @@ answer_of (answered r) = Some (Replied r)
 answer_of (committed r) = Some (Replied r)
 answer_of (conflict n) = Some (Conflict n)
 
+-- what a call at this stage waits for
 abbrev pub status_at : CallStage → Status
 status_at waiting = New
 status_at (running base made) = Running

@@ -14,6 +14,7 @@ decided_of (answered r) turn = Some turn
 decided_of (committed r) turn = Some turn
 decided_of (conflict n) turn = None
 
+-- `t` is what the machine reports about the call
 pub record ReportsCall (c : Call) (t : KnownCall) : Type 0 where
   pub batch : t.batch.now ≡ c.batch
   pub invoked : t.invoked ≡ c.invoked
@@ -21,6 +22,7 @@ pub record ReportsCall (c : Call) (t : KnownCall) : Type 0 where
   pub replied : t.replied ≡ c.replied
   pub answer : option_copied t.answer ≡ answer_of c.stage
 
+-- the same if there is a call; otherwise nothing is reported
 abbrev pub Reports : Option Call → Option KnownCall → Type 0
 Reports None None = ⊤
 Reports (Some c) (Some t) = ReportsCall c t

@@ -42,6 +42,7 @@ is_listed c = is_listed_at c.stage c.replied
 abbrev pub turn_of : Call → ℕ × ℕ
 turn_of c = (c.turn, c.number)
 
+-- the two parts of such a pair
 abbrev pub turn_in : ℕ × ℕ → ℕ
 turn_in p = p.0
 
@@ -55,6 +56,7 @@ pub record IsOrder (s : MachineState) (order : List ℕ) : Type 0 where
   pub by_turn : IsNonDecreasingBy turn_in turns
   pub numbers : order ≡ map number_of_turn turns
 
+-- after every run, the main theorem holds for the events, their answers, and the machine's order
 abbrev pub HeadlineHolds : Type 0
 HeadlineHolds = (own_domain : Bytes) (events : List Event) (answers : List EventAnswer) (s : MachineState) (order : List ℕ) → Runs (first_machine own_domain) events answers s → IsOrder s order → Headline (accepted events answers) order
 
@@ -79,6 +81,7 @@ pub record IsStamped (log : List Happened) (call : Call) : Type 0 where
   pub replied : (n : ℕ) → (call.replied ≡ Some n) ↔ ((done : Done) × EventAt log n (on.Reply call.number) done)
   pub logged : (n : ℕ) (done : Done) → EventAt log n (on.Reply call.number) done → (answer : CallAnswer) × (answer_of call.stage ≡ Some answer) × (done ≡ Answered call.number answer)
 
+-- after every run, each call has exactly the numbers of its events
 abbrev pub CallsAreStamped : Type 0
 CallsAreStamped = (own_domain : Bytes) (events : List Event) (answers : List EventAnswer) (s : MachineState) (c : ℕ) (call : Call) → Runs (first_machine own_domain) events answers s → call_at c s.calls ≡ Some call → IsStamped (accepted events answers) call
 
@@ -114,5 +117,6 @@ abbrev pub HoldReplies : List Call → List Book → List ℕ → Type 0
 HoldReplies calls books [] = ⊤
 HoldReplies calls books (c ∷ cs) = (call : Call) × (call_at c calls ≡ Some call) × (answer_of call.stage ≡ Some (Replied (reply_to call.batch books))) × HoldReplies calls (books_after call.batch books) cs
 
+-- after every run, the calls of the machine's order hold these replies
 abbrev pub RepliesHeld : Type 0
 RepliesHeld = (own_domain : Bytes) (events : List Event) (answers : List EventAnswer) (s : MachineState) (order : List ℕ) → Runs (first_machine own_domain) events answers s → IsOrder s order → HoldReplies s.calls first_books order

@@ -23,17 +23,21 @@ use Rattle.call_events.specs.declared.event.RefusedEvent.{RefusedEvent}
 use Rattle.call_machine.specs.Schedules.{EventAnswer, IsDue}
 use Rattle.call_machine.specs.Calls.{CallStage, waiting, running, ready, answered, committed, conflict, Call, MachineState, answer_of, call_at, moved, status_at, stage_after}
 
+-- each of the events may be submitted for this trust domain
 abbrev pub AreFor : Bytes → List Event → Type 0
 AreFor own_domain events = AllByRecursion (IsFor own_domain) events
 
 -- ---- accepted events
 
+-- In state s the invoke of call n with this batch is accepted with the answer `done`, and the next state is t. The following
+-- records say the same of the other events.
 pub record Invokes (s : MachineState) (n : ℕ) (batch : Batch) (done : Done) (t : MachineState) : Type 0 where
   pub unknown : call_at n s.calls ≡ None
   pub room : length s.calls < 4096
   pub answer : done ≡ Invoked n
   pub after : t ≡ record s { count = s.count + 1; calls = s.calls ++ record { number = n; batch = batch; stage = waiting; invoked = s.count + 1; turn = 0; replied = None } ∷ [] }
 
+-- the begin of call n, on the newest book
 pub record Begins (s : MachineState) (n : ℕ) (done : Done) (t : MachineState) : Type 0 where
   pub call : Call
   pub found : call_at n s.calls ≡ Some call
@@ -43,6 +47,7 @@ pub record Begins (s : MachineState) (n : ℕ) (done : Done) (t : MachineState) 
   pub answer : done ≡ Begun n (length s.journal) (status_at stage)
   pub after : t ≡ moved (record call { stage = stage; turn = s.count + 1 }) s
 
+-- the next read of call n, that of `mark`
 pub record Steps (s : MachineState) (n : ℕ) (done : Done) (t : MachineState) : Type 0 where
   pub call : Call
   pub found : call_at n s.calls ≡ Some call
@@ -62,6 +67,7 @@ pub record CommitsNow (s : MachineState) (call : Call) (done : Done) (t : Machin
   pub answer : done ≡ Decided call.number is.Committed (length s.journal + 1)
   pub after : t ≡ record (moved (record call { stage = committed (reply_to call.batch (books_of s.journal)); turn = s.count + 1 }) s) { journal = s.journal ++ call.batch ∷ [] }
 
+-- a limit refuses the batch, so the call is answered, and nothing is committed
 pub record IsFull (s : MachineState) (call : Call) (done : Done) (t : MachineState) : Type 0 where
   pub limit : Limit
   pub full : reply_to call.batch (books_of s.journal) ≡ record { place = length s.journal; outcome = Refused (Full limit) }
@@ -74,6 +80,7 @@ pub record Conflicts (s : MachineState) (call : Call) (base : ℕ) (done : Done)
   pub answer : done ≡ Decided call.number is.Conflict (length s.journal)
   pub after : t ≡ moved (record call { stage = conflict (length s.journal); turn = s.count + 1 }) s
 
+-- the commit of call n, with one of the three decisions
 pub record Commits (s : MachineState) (n : ℕ) (done : Done) (t : MachineState) : Type 0 where
   pub call : Call
   pub found : call_at n s.calls ≡ Some call
@@ -81,6 +88,7 @@ pub record Commits (s : MachineState) (n : ℕ) (done : Done) (t : MachineState)
   pub in_turn : call.stage ≡ ready base
   pub decision : CommitsNow s call done t ⊎ (IsFull s call done t ⊎ Conflicts s call base done t)
 
+-- the reply of call n, once
 pub record Replies (s : MachineState) (n : ℕ) (done : Done) (t : MachineState) : Type 0 where
   pub call : Call
   pub found : call_at n s.calls ≡ Some call
@@ -100,6 +108,7 @@ Accepts s (on.Reply n) done t = Replies s n done t
 
 -- ---- refused events
 
+-- the call has an answer
 abbrev pub is_over : CallStage → Bool
 is_over stage = is_some (answer_of stage)
 
@@ -147,10 +156,12 @@ pub record Refuses (s : MachineState) (event : Event) (r : RefusedEvent) : Type 
 
 -- ---- runs
 
+-- the event is accepted; or it is refused, and changes nothing
 abbrev pub Applies : MachineState → Event → EventAnswer → MachineState → Type 0
 Applies s event (Ok done) t = Accepts s event done t
 Applies s event (Err r) t = Refuses s event r × (t ≡ s)
 
+-- the events, one after another, get these answers and lead to state t
 abbrev pub Runs : MachineState → List Event → List EventAnswer → MachineState → Type 0
 Runs s [] [] t = s ≡ t
 Runs s [] (a ∷ logged) t = ⊥

@@ -44,6 +44,7 @@ EventAt log n event done = (k : ℕ) × (n ≡ k + 1) × (slice_get log k ≡ So
 
 -- ---- the outcome of a call
 
+-- it was invoked with this batch
 abbrev pub HandedIn : List Happened → ℕ → Batch → Type 0
 HandedIn log c batch = (n : ℕ) × (done : Done) × EventAt log n (Invoke c batch) done
 
@@ -76,6 +77,7 @@ pub record EndedBefore (log : List Happened) (first second : ℕ) : Type 0 where
 
 -- ---- serial
 
+-- no number occurs twice
 abbrev pub Different : List ℕ → Type 0
 Different [] = ⊤
 Different (c ∷ cs) = AllByRecursion (λ d. c ≡ d → ⊥) cs × Different cs
@@ -99,11 +101,13 @@ abbrev pub RunsFrom : List Happened → List Book → List ℕ → Type 0
 RunsFrom log books [] = ⊤
 RunsFrom log books (c ∷ cs) = (batch : Batch) × HandedIn log c batch × IsReplyOf log c (reply_to batch books) × RunsFrom log (books_after batch books) cs
 
+-- the same from the empty book on
 abbrev pub IsLegal : List Happened → List ℕ → Type 0
 IsLegal log order = RunsFrom log first_books order
 
 -- ---- strict
 
+-- in this order, call a comes before call b
 abbrev pub IsListedBefore : List ℕ → ℕ → ℕ → Type 0
 IsListedBefore [] a b = ⊥
 IsListedBefore (c ∷ cs) a b = ((c ≡ a) × Within cs b) ⊎ IsListedBefore cs a b
@@ -114,6 +118,7 @@ IsStrict log order = (a b : ℕ) → IsListed log a → IsListed log b → Ended
 
 -- ---- begins
 
+-- the call that this answer reports as committed; an empty list for any other answer
 abbrev pub commit_of : Done → List ℕ
 commit_of (Invoked c) = []
 commit_of (Begun c place status) = []
@@ -162,6 +167,7 @@ pub record IsDueConflict (log : List Happened) (c place : ℕ) : Type 0 where
   pub place_is : place ≡ length journal
   pub due : IsDue journal batch base
 
+-- each conflict is due after the events before it
 abbrev pub ConflictsAreDue : List Happened → Type 0
 ConflictsAreDue log = (k c place : ℕ) → slice_get log k ≡ Some (record { event = Commit c; done = Decided c is.Conflict place }) → IsDueConflict (take k log) c place
 
