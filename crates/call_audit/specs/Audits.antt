@@ -15,6 +15,7 @@ use Rattle.call_audit.specs.declared.cause.Cause.TheVariants.{Call, Order, Reply
 
 -- ---- the conditions on a record, after those before it
 
+-- an earlier record is of this call
 abbrev pub has_call : ℕ → List AuditRecord → Bool
 has_call call before = list_any (λ r. call == r.call) before
 
@@ -39,6 +40,7 @@ abbrev pub is_past : Option ℕ → ℕ → Bool
 is_past None invoked = false
 is_past (Some n) invoked = nat_lt n invoked
 
+-- the call replied before the call of an earlier record was invoked
 abbrev pub is_late : AuditRecord → List AuditRecord → Bool
 is_late r before = list_any (λ e. is_past r.replied e.invoked) before
 
@@ -80,6 +82,7 @@ judged domain before line = judged_spelled before (spelled_record domain line)
 
 -- ---- what an auditor returns
 
+-- None if the line has a valid record, which together with those before it satisfies `Keeps`; otherwise the line's first cause
 abbrev pub Judges : List ℕ → List AuditRecord → List ℕ → (List AuditRecord → Type 0) → Option Cause → Type 0
 Judges domain before line Keeps None = (r : AuditRecord) × (judged domain before line ≡ Ok r) × Keeps (before ++ r ∷ [])
 Judges domain before line Keeps (Some cause) = judged domain before line ≡ Err cause

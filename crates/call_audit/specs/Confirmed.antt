@@ -40,6 +40,7 @@ pub record IsReadableCall (domain : List ℕ) (c : RecordedCall) : Type 0 where
 abbrev pub CallAt : List RecordedCall → ℕ → RecordedCall → Type 0
 CallAt calls i c = slice_get calls i ≡ Some c
 
+-- each number is that of at most one call
 abbrev pub CallsAreOnce : List RecordedCall → Type 0
 CallsAreOnce calls = (i j : ℕ) (a b : RecordedCall) → CallAt calls i a → CallAt calls j b → a.call ≡ b.call → i ≡ j
 
@@ -59,6 +60,7 @@ CallsAreStrict calls = (i j : ℕ) (a b : RecordedCall) (n : ℕ) → i < j → 
 abbrev pub CallsAreLegal : List RecordedCall → Type 0
 CallsAreLegal calls = (i : ℕ) (c : RecordedCall) → CallAt calls i c → c.reply ≡ reply_to c.batch (books_of (map (λ e. e.batch) (take i calls)))
 
+-- The calls are in a serial order: legal, and strict by their numbers.
 pub record AreConfirmed (calls : List RecordedCall) : Type 0 where
   pub once : CallsAreOnce calls
   pub ended : CallsHaveEnded calls
