@@ -107,6 +107,7 @@ line_faults words = fault_of regd_command words
 abbrev pub option_in : Text → Text → Option (Text × List Row) → Option Text
 option_in name id = option_and_then (λ program. if bytes_eq program.0 name then first_of id program.1 else None)
 
+-- the word for a program on a command line
 abbrev pub program_name : Program → Text
 program_name Plain = codes "plain"
 program_name Schedule = codes "schedule"

@@ -9,6 +9,7 @@ use Rattle.spiffe_name.specs.declared.refusals.Failure.TheVariants as name
 use Rattle.command_line.specs.declared.fault.LineFault.{LineFault}
 use Rattle.command_line.specs.declared.fault.LineFault.TheVariants.{Domain, NoMemory, Refused}
 
+-- the fault of the parser's error of this kind
 abbrev pub fault_of_kind : ErrorKind → Error → LineFault
 fault_of_kind kind.OutOfMemory error = NoMemory
 fault_of_kind _ error = Refused error

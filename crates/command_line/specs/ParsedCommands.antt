@@ -3,6 +3,7 @@ use Rattle.std.specs.Prelude.{List, ℕ, Option}
 use Rattle.command_line.specs.declared.program.Program.{Program}
 use Rattle.command_line.specs.declared.settings.ServerPlan.{ServerPlan}
 
+-- The requested program with its values, the model of settings in contracts.
 pub record ParsedCommand : Type 0 where
   pub program : Program
   -- the text of the server's own trust domain
