@@ -43,13 +43,15 @@ AreLines [] = ⊤
 AreLines (line ∷ []) = IsLine line
 AreLines (line ∷ next ∷ lines) = IsWholeLine line × AreLines (next ∷ lines)
 
--- The lines of bytes, concatenated, are the bytes, and no other list of lines is.
+-- the lines of bytes, concatenated, are the bytes
 abbrev pub LinesJoin : Type 0
 LinesJoin = (bytes : List ℕ) → concat (lines_of bytes) ≡ bytes
 
+-- they are lines: whole ones, except perhaps for the last
 abbrev pub LinesAreLines : Type 0
 LinesAreLines = (bytes : List ℕ) → AreLines (lines_of bytes)
 
+-- and no other list of lines is: any lines are those of the bytes to which they concatenate
 abbrev pub OnlyLinesJoin : Type 0
 OnlyLinesJoin = (lines : List (List ℕ)) → AreLines lines → lines ≡ lines_of (concat lines)
 
