@@ -46,6 +46,7 @@ audit_verdict_over None calls = Some (Yes calls)
 audit_verdict_over (Some (Denied line cause)) calls = Some (No line cause)
 audit_verdict_over (Some NoMemory) calls = None
 
+-- the verdict after a run; none if memory ran out
 abbrev pub audit_verdict_in : Audited → Option AuditVerdict
 audit_verdict_in last = audit_verdict_over last.over (length last.records)
 
@@ -53,6 +54,7 @@ audit_verdict_in last = audit_verdict_over last.over (length last.records)
 abbrev pub ClosesWithVerdict : Audited → List ℕ → Type 0
 ClosesWithVerdict last end = (verdict : AuditVerdict) × (audit_verdict_in last ≡ Some verdict) × (end ≡ as_line (verdict_json verdict))
 
+-- the outcome of a run with this verdict
 abbrev pub run_end_by : AuditVerdict → RunEnd
 run_end_by (Yes calls) = outcome.Done
 run_end_by (No line cause) = outcome.Denied

@@ -41,6 +41,7 @@ pub record Recorded : Type 0 where
   pub replied : Option ℕ
   pub reply : Reply
 
+-- the line of a record
 abbrev pub record_line : Recorded → List ℕ
 record_line r = as_line (record_json r.batch r.call r.invoked r.replied r.reply)
 
@@ -127,6 +128,7 @@ pub record WritesRecords (domain : List ℕ) (last : Scheduled) (order : List �
   pub written : AllByRecursion IsWritten recorded
   pub end_is : end ≡ flat_map record_line recorded
 
+-- the last text is the records in some order of the calls
 abbrev pub ClosesWithRecords : List ℕ → Scheduled → List ℕ → Type 0
 ClosesWithRecords domain last end = (order : List ℕ) × (recorded : List Recorded) × WritesRecords domain last order recorded end
 
@@ -139,6 +141,7 @@ AppendsRecords domain seed lines lost old new = (last : Recording) × (end : Lis
 
 -- ---- a run that lost no line
 
+-- the first continuation with the event of a line, or the second one if the line represents none
 abbrev pub events_by : Result (Event × ChaCha) Fault → (Event → ChaCha → List Event) → List Event → List Event
 events_by (Ok p) with_it without = with_it p.0 p.1
 events_by (Err fault) with_it without = without

@@ -83,6 +83,7 @@ pub record WritesOrder (last : Scheduled) (order : List ℕ) (end : List ℕ) : 
   pub headline : Headline (accepted last.events last.answers) order
   pub end_is : end ≡ as_line (order_json order)
 
+-- the last text is the line of some order of the calls
 abbrev pub ClosesWithOrder : Scheduled → List ℕ → Type 0
 ClosesWithOrder last end = (order : List ℕ) × WritesOrder last order end
 

@@ -66,9 +66,10 @@ pub trait LineHandler {
 /// Answers each line of the input, in order, until the line handler ends the run, and then puts the last text. No line is read
 /// after the one at which the run ends.
 ///
-/// The replies are out before each read that may wait, and at the end. The handler then represents the final state. The run
-/// preserves `preserves`, even if a device failed. The error is a failed device, or out of memory before the first line or for
-/// the last text.
+/// The replies are out before each read that may wait, and at the end. The handler then represents the final state. A value to
+/// which `preserves` relates the handler before the run is related to it afterwards, even if a device failed.
+///
+/// The error is a failed device, or out of memory before the first line or for the last text.
 pub fn run_lines<A: LineHandler, S: Source, K: Sink>(
     alloc: Global,
     handler: &mut A,
