@@ -1,5 +1,6 @@
 -- The values at the keys of an object: a small reader for each kind of key, which gives the value or a fault. The lines of a
--- reader are in the order in which it looks for faults.
+-- reader are in the order in which it looks for faults. A name in `_in` reads a value for a key, a name in `_at` the value at the
+-- key, and a name with `optional` gives None if the key is absent or null.
 use Rattle.std.specs.Prelude.{◌≡◌, ◌⊎◌, ℕ, List, [], ◌∷◌, Option, Some, None, Result, Ok, Err, ⊤, Bool, false, true, ◌&&◌, not, nat_lt, is_some, option_and_then, unwrap_or, bytes_eq, codes, if◌then◌else◌}
 use Rattle.std.specs.List.{list_any}
 use Rattle.serde_json.specs.Data.{Data, Items, no_items, item, Members, no_members, member}
