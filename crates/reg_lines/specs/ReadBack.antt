@@ -32,9 +32,11 @@ use Rattle.line_reading.specs.declared.fault.Key.TheVariants as key
 abbrev pub IsUuid : List ℕ → Type 0
 IsUuid id = parsed (uuid_text id) ≡ Some id
 
+-- the text is a SPIFFE ID
 abbrev pub IsIdText : List ℕ → Type 0
 IsIdText text = id_refusal text ≡ None
 
+-- the text is a trust domain
 abbrev pub IsDomainText : List ℕ → Type 0
 IsDomainText text = domain_refusal text ≡ None
 
@@ -46,6 +48,7 @@ IsSelector s = (selector_refusal (selector_text s) ≡ None) × (pair_of (select
 abbrev pub AreSelectors : List SelectorPair → Type 0
 AreSelectors selectors = AllByRecursion IsSelector selectors × (set_of selectors ≡ selectors)
 
+-- the texts are trust domains, and are the set of themselves
 abbrev pub AreDomains : List (List ℕ) → Type 0
 AreDomains domains = AllByRecursion IsDomainText domains × (domain_set domains ≡ domains)
 

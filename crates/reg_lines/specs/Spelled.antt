@@ -16,6 +16,7 @@ use Rattle.reg_lines.specs.Values.{reply_data}
 
 -- ---- the type invariants of a value's parts
 
+-- a whole number of 64 bits
 abbrev pub IsWord : Num → Type 0
 IsWord (unsigned n) = n < 2 ^ 64
 IsWord (negative z) = ⊥

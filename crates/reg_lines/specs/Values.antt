@@ -27,6 +27,7 @@ use Rattle.line_reading.specs.Codes.{code_text, field_text}
 use Rattle.reg_lines.specs.Refusals.{refusal_json}
 use Rattle.reg_lines.specs.Replies.{conflict_json, given_lifetime, reply_json, uuid_text}
 
+-- the JSON value of a whole number
 abbrev pub whole : ℕ → Data
 whole n = number (unsigned n)
 
@@ -109,6 +110,7 @@ done_data call place replies result = object (
     put (codes "result") (string result)
     no_members))))
 
+-- the text of the detail of a refusal, if it has one
 abbrev pub op_detail : OpRefusal → Option (List ℕ)
 op_detail refused.IdTaken = None
 op_detail (refused.Similar id) = Some (uuid_text id)
@@ -119,6 +121,7 @@ op_detail refused.BundleInUse = None
 op_detail refused.NoAgent = None
 op_detail refused.VersionGone = None
 
+-- the same of a batch's refusal
 abbrev pub detail : Refusal → Option (List ℕ)
 detail NotYet = None
 detail TokenReused = None
