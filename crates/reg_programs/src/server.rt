@@ -32,7 +32,7 @@ pub struct Server<'a> {
 /// What the workers of a server share: the registry, and how their sessions are run.
 #[derive(Drop)]
 pub struct ServerContext<'a, J: RegistryId, R> {
-    /// The runtime, for waiting and for the clock.
+    /// The runtime, which lets workers wait.
     pub rt: &'a R,
     /// The allocator of the sessions.
     pub alloc: Global,
