@@ -20,7 +20,7 @@
 //!
 //! The words of this crate:
 //!
-//! - journal: the list of all committed items; prefix: a first part of it, by its length.
+//! - journal: the list of all committed items; prefix: its first items, given by their number.
 //! - published state: the window of the last books, and the number of commits of each seat; published value ([`Published`]): a
 //!   published state with the prefix that it shows; snapshot: the published value that a seat has.
 //! - found: the journal of the snapshot that a seat has; seen: the prefix that its answers were computed from; learnt: the
