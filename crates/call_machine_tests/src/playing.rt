@@ -1,4 +1,4 @@
-//! Tables of schedules, with the expected answers.
+//! Plays tables of schedules, which have the expected answers.
 
 ghost use Rattle.std.specs.Prelude.{◌<◌};
 
