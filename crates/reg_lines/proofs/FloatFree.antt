@@ -28,7 +28,7 @@ abbrev IsBelow : List ℕ → Members → Type 0
 IsBelow k no_members = ⊤
 IsBelow k (member l e ms) = (slice_cmp nat_cmp k l ≡ Less) × IsBelow k ms
 
--- the value nests at most n deep, and each object has each key once, in order, in UTF-8
+-- the value nests at most n deep, and each object has each key once, in order, in UTF-8; its numbers may be any
 abbrev mutual
   pub IsFloatFree : ℕ → Data → Type 0
   IsFloatFree n null = ⊤

@@ -1,4 +1,5 @@
--- The values of the lines of records are without floats: `put` keeps the keys of an object in order, and no value nests deep.
+-- In the values of the lines of records the keys of each object are in order, as `put` keeps them, and no value nests deep. With
+-- the type invariants of `IsTyped`, such a value is what its text parses to.
 use Rattle.std.proofs.Common.{◌≡◌, ℕ, suc, true, List, [], ◌∷◌, map, Option, None, Some, refl}
 use Rattle.std.specs.Prelude.{codes}
 use Rattle.json.proofs.Printed.Utf8.{are_ascii, IsUtf8-are_ascii}

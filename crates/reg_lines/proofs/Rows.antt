@@ -1,4 +1,4 @@
--- Texts put one after another, joined in one list.
+-- Two texts put one after another are put as one text.
 use Rattle.std.proofs.Common.{ℕ, List, ◌++◌}
 use Rattle.line_devices.specs.Stream.{OutputState, Puts}
 use Rattle.line_devices.proofs.Puts.{Puts-then}

@@ -1,7 +1,7 @@
 //! What do lines represent, what is printed, and how do bytes come in and go out?
 //!
-//! The crate has tests alone, over the public calls of `reg_lines`: what their contracts leave open, and each call once where
-//! it succeeds. The tests with slow or failing devices are in `reg_programs`.
+//! The crate has tests alone, over the public calls of `line_devices`, `line_reading` and `reg_lines`: what their contracts leave
+//! open, and each call once where it succeeds. The tests with slow or failing devices are in `reg_programs_tests`.
 //!
 //! - `tables`: runs tables. A line of a table is a text that `lines` expands; it is described by `spelled`, answered on a plain
 //!   book, or printed by `printed`, if it names one of the `values`. All of the following but the last use it:
