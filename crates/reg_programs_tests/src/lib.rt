@@ -1,6 +1,6 @@
 //! What do the programs of `regd` reply, line by line, and how do they end?
 //!
-//! The crate has tests alone, over the public calls of `reg_programs`:
+//! The crate has tests alone, over the public calls of `reg_programs`, `command_line`, `line_engines` and `call_audit`:
 //!
 //! - `command_lines`: command lines and what `regd` writes about them, word for word.
 //! - `engine`: runs of the engines over memory, as tables, in the notation of `lines`. These use it: `story`, `operations`,
