@@ -1,4 +1,4 @@
--- More on known bytes.
+-- Changes of bytes that are possibly known, one after another.
 use Rattle.std.proofs.Common.{ℕ, List, ◌++◌, Option, None, Some, ap, sym, ◌∙◌}
 use Rattle.std.specs.Io.KnownBytes.{Keeps, Consumes, Appends}
 use Rattle.std.proofs.KnownBytes.{Keeps-refl, Keeps-trans}
