@@ -1,4 +1,4 @@
--- The codes under which faults are printed.
+-- The codes under which refusals are printed.
 use Rattle.std.specs.Prelude.{ℕ, List, codes}
 use Rattle.spiffe_name.specs.declared.refusals.IdRefusal.{IdRefusal}
 use Rattle.spiffe_name.specs.declared.refusals.IdRefusal.TheVariants as id

@@ -6,6 +6,7 @@ use Rattle.spiffe_name.specs.declared.refusals.IdRefusal.{IdRefusal}
 use Rattle.spiffe_name.specs.declared.refusals.IdRefusal.TheVariants.{NoDomain, DomainTooLong, DomainChar}
 use Rattle.spiffe_name.specs.Failures.{refuse_if}
 
+-- whether a trust domain may contain this byte
 abbrev pub is_domain_byte : ℕ → Bool
 is_domain_byte b = is_ascii_lowercase b || is_ascii_digit b || list_any (λ c. b == c) (codes ".-_")
 

@@ -8,6 +8,7 @@ abbrev pub FailsBy : {R : Type 0} → Option R → Failure R → Type 0
 FailsBy due NoMemory = due ≡ None
 FailsBy due (Refused reason) = due ≡ Some reason
 
+-- the error is that of running out of memory
 abbrev pub IsNoMemory : {R : Type 0} → Failure R → Type 0
 IsNoMemory NoMemory = ⊤
 IsNoMemory (Refused reason) = ⊥

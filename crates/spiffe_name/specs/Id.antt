@@ -7,6 +7,7 @@ use Rattle.spiffe_name.specs.declared.refusals.IdRefusal.TheVariants.{TooLong, S
 use Rattle.spiffe_name.specs.Domain.{is_domain_byte, IsDomain, domain_refusal}
 use Rattle.spiffe_name.specs.Failures.{refuse_if}
 
+-- whether a segment may contain this byte
 abbrev pub is_path_byte : ℕ → Bool
 is_path_byte b = is_domain_byte b || is_ascii_uppercase b
 
@@ -22,6 +23,7 @@ abbrev pub path_text : List (List ℕ) → List ℕ
 path_text [] = []
 path_text (s ∷ ss) = codes "/" ++ s ++ path_text ss
 
+-- the start of each ID
 abbrev pub prefix : List ℕ
 prefix = codes "spiffe://"
 
@@ -33,10 +35,11 @@ pub record Spells (text domain : List ℕ) (segments : List (List ℕ)) : Type 0
   pub is_domain : IsDomain domain
   pub are_segments : AllByRecursion IsSegment segments
 
--- the path segments of a server's ID, and the text of the ID of a domain's server
+-- the path segments of the ID of a domain's server
 abbrev pub server_segments : List (List ℕ)
 server_segments = codes "spire" ∷ codes "server" ∷ []
 
+-- the text of the ID of a domain's server
 abbrev pub server_text : List ℕ → List ℕ
 server_text domain = prefix ++ domain ++ path_text server_segments
 
@@ -49,6 +52,7 @@ abbrev pub or_else : {A : Type 0} → Option A → Option A → Option A
 or_else (Some x) o = Some x
 or_else None o = o
 
+-- the first refusal that applies to a segment, if any
 unfoldable pub segment_refusal : List ℕ → Option IdRefusal
 segment_refusal s =
     refuse_if (length s == 0) EmptySegment (
@@ -56,7 +60,7 @@ segment_refusal s =
     refuse_if (not (list_all is_path_byte s)) PathChar
     None))
 
--- that of the first segment that has one
+-- the refusal of the first segment that has one
 abbrev pub segments_refusal : List (List ℕ) → Option IdRefusal
 segments_refusal [] = None
 segments_refusal (s ∷ ss) = or_else (segment_refusal s) (segments_refusal ss)
@@ -66,6 +70,7 @@ abbrev pub parts_refusal : List (List ℕ) → Option IdRefusal
 parts_refusal [] = Some NoDomain
 parts_refusal (d ∷ ss) = or_else (domain_refusal d) (segments_refusal ss)
 
+-- the first refusal that applies to the text of an ID, if any
 unfoldable pub id_refusal : List ℕ → Option IdRefusal
 id_refusal text =
     refuse_if (nat_lt 2048 (length text)) TooLong (

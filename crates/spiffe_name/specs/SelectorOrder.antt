@@ -6,6 +6,7 @@ use Rattle.std.specs.Cmp.Lexicographic.{nat_list_cmp_total, nat_list_eq_equiv, s
 use Rattle.std.specs.Ordering.{eq_by_cmp, nat_cmp, on, then_cmp}
 use Rattle.spiffe_name.specs.Selector.{SelectorPair}
 
+-- the type and the value are equal
 abbrev pub selector_eq : SelectorPair → SelectorPair → Bool
 selector_eq a b = bytes_eq a.type b.type && bytes_eq a.value b.value
 

@@ -21,6 +21,7 @@ abbrev pub set_of : List SelectorPair → List SelectorPair
 set_of [] = []
 set_of (s ∷ ss) = with_member s (set_of ss)
 
+-- whether the set has this selector
 abbrev pub has : List SelectorPair → SelectorPair → Bool
 has set s = list_any (λ t. selector_eq t s) set
 
@@ -32,6 +33,7 @@ is_within a b = list_all (λ s. has b s) a
 abbrev pub meets : List SelectorPair → List SelectorPair → Bool
 meets a b = list_any (λ s. has b s) a
 
+-- whether two sets are the same list
 abbrev pub set_eq : List SelectorPair → List SelectorPair → Bool
 set_eq = pointwise selector_eq
 

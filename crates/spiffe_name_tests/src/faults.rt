@@ -65,8 +65,8 @@ fn check_line(rt: &impl Abort, alloc: Global, kind: &str, line: &str) -> Result<
     Ok(())
 }
 
-/// Checks a table. Each line has a code and a text, which gets this code as a name of this kind. A line with a code alone is about
-/// the empty text.
+/// Checks a table. Each line has a code and a text, which gets this code as a name of this kind. A line with a code alone
+/// is about the empty text.
 pub(crate) fn check(rt: &impl Abort, alloc: Global, kind: &str, table: &str) -> Result<(), Fail> {
     for line in table.lines() {
         check_line(rt, alloc, kind, line)?;
