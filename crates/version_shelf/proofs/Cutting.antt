@@ -1,4 +1,4 @@
--- Pages cut at a key.
+-- Nodes cut at a key.
 use Rattle.std.proofs.Common.{◌≡◌, ℕ, ◌+◌, ◌-◌, ◌<◌, ◌≤◌, Bool, List, [], ◌∷◌, ◌++◌, length, get_or, take, refl, sym, ap, ◌∙◌, append-nil, length-append, length-take-le, inl, inr, arith}
 use Rattle.std.proofs.lemmas.List.{take-take, get_or-take, get_or_at}
 use Rattle.version_shelf.specs.Nodes.{AreFullNodes, AreNodes, Cuts, CutsAt, IsSplitIndex, last_passes}

@@ -1,4 +1,4 @@
--- Middles that satisfy the invariant of a shelf, and the rows of changed ones.
+-- Inner nodes that satisfy the invariant of a shelf, and the rows of a changed shelf.
 use Rattle.std.proofs.Common.{◌≡◌, ℕ, ◌*◌, ◌≤◌, Bool, false, cond, List, ◌∷◌, ◌++◌, length, Option, Some, None, is_some, Bor, Result, Ok, Err, refl, ap, ◌∙◌, append_assoc, inl, inr, arith}
 use Rattle.std.specs.Option.{option_copied}
 use Rattle.std.specs.Result.{IfOk, MatchResult}

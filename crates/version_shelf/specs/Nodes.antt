@@ -1,5 +1,5 @@
--- How the rows of a shelf are stored in nodes of a B-tree with three levels. A leaf contains rows, an inner node (an
--- inner node) contains leaves, and the root contains inner nodes. For this crate's own contracts.
+-- How the rows of a shelf are stored in nodes of a B-tree with three levels. A leaf contains rows, an inner node
+-- contains leaves, and the root contains inner nodes. For this crate's own contracts.
 use Rattle.std.specs.Prelude.{◌≡◌, ◌⊎◌, ℕ, ◌+◌, ◌-◌, ◌/◌, ◌<◌, ◌≤◌, Bool, true, false, if◌then◌else◌, nat_lt, List, [], ◌∷◌, ◌++◌, length, take, drop, Option, Some, None}
 use Rattle.std.specs.declared.cmp.Ordering.{Ordering}
 use Rattle.std.specs.List.{AllByRecursion}
@@ -10,10 +10,11 @@ abbrev pub flatten : {X : Type 0} → List (List X) → List X
 flatten [] = []
 flatten (node ∷ nodes) = node ++ flatten nodes
 
--- the least number of rows in a leaf, and of leaves in an inner node, if there are several on its level
+-- the least number of rows in a leaf, if there are several leaves
 abbrev pub least_rows : ℕ
 least_rows = 16
 
+-- the least number of leaves in an inner node, if there are several inner nodes
 abbrev pub least_leaves : ℕ
 least_leaves = 32
 
@@ -25,6 +26,7 @@ most_inners = 512
 abbrev pub IsFullNode : {X : Type 0} → ℕ → List X → Type 0
 IsFullNode least node = (least ≤ length node) × (length node ≤ least + least)
 
+-- each of these nodes has at least this number of parts, and at most twice as many
 abbrev pub AreFullNodes : {X : Type 0} → ℕ → List (List X) → Type 0
 AreFullNodes least nodes = AllByRecursion (IsFullNode least) nodes
 

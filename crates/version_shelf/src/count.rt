@@ -30,6 +30,7 @@ impl Count {
         Count { number: 0 }
     }
 
+    /// Returns the number that was counted.
     pub fn number(&self) -> u64
         ensures { result ≡ self.now }
     {

@@ -6,12 +6,12 @@
 //! an iterator over all rows, those from a key on, or those between two bounds. [`Bound`] is an end of a range: a key, or
 //! the position of a key that need not be constructed. [`Count`] counts the work of a call.
 //!
-//! A shelf is a B-tree of three fixed levels, with nodes of three kinds. The leaves contain the rows, the inner nodes (inner
-//! nodes) contain the leaves, and the root contains the inner nodes. A leaf has at most 32 rows, and at least 16 unless it is
-//! the only leaf. An inner node has at most 64 leaves, and at least 32 unless it is the only inner node. The root has at most 512
-//! inner nodes. A change rebuilds the leaf and the inner node of its key, and the root. A node with one part too many is split into
-//! two halves. A node with one part too few is merged with a neighbour, and the result is split if it is too large. This
-//! preserves the type invariant, `IsShelf` of `specs/Nodes.antt`, under all changes in any order of keys.
+//! A shelf is a B-tree of three fixed levels, with nodes of three kinds. The leaves contain the rows, the inner nodes
+//! contain the leaves, and the root contains the inner nodes. A leaf has at most 32 rows, and at least 16 unless it is the
+//! only leaf. An inner node has at most 64 leaves, and at least 32 unless it is the only inner node. The root has at most
+//! 512 inner nodes. A change rebuilds the leaf and the inner node of its key, and the root. A node with one part too many
+//! is split into two halves. A node with one part too few is merged with a neighbour, and the result is split if it is too
+//! large. This preserves the type invariant, `IsShelf` of `specs/Nodes.antt`, under all changes in any order of keys.
 //!
 //! The maximum cost of each call, for a shelf of n rows:
 //!
@@ -37,7 +37,7 @@
 //! its root.
 //!
 //! The only error is `AllocError`: out of memory, or a reference count at its maximum. Calls that neither allocate nor
-//! increment a reference count return no error.
+//! increment a reference count return no error. After an error the old shelf is unchanged.
 //!
 //! - `shelf`: the public type: how a shelf is read, and how a changed copy is made.
 //! - `bound`: where a range begins or ends.

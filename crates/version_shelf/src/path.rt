@@ -17,7 +17,7 @@ const LEAST_ROWS: usize = 16;
 
 const LEAST_LEAVES: usize = 32;
 
-/// The path from the root to a key: the inner nodes (inner nodes) of a shelf, the leaves of one inner node, and the rows of one
+/// The path from the root to a key: the inner nodes of a shelf, the leaves of one inner node, and the rows of one
 /// leaf. Each list is cut at the key.
 #[derive(Drop)]
 pub(crate) struct Path<'a, K, V> {

@@ -19,7 +19,7 @@ use std::marker::Model;
 const MOST_ROWS: usize = 262_144;
 
 /// A persistent (immutable) ordered map of at most 262,144 rows. A reader sees the same rows as long as it holds the
-/// shelf. A writer makes one or two leaves, one or two inner nodes (inner nodes), and a root. It shares all other nodes with
+/// shelf. A writer makes one or two leaves, one or two inner nodes, and a root. It shares all other nodes with
 /// the shelf that it changes.
 #[derive(Drop)]
 pub struct Shelf<K: Ord, V> {

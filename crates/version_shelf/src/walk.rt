@@ -11,8 +11,8 @@ use crate::node::{InnerNode, Leaf};
 use crate::search::{cut_at, cut_near};
 use crate::shared_row::SharedRow;
 
-/// The remainder of a walk: rows, the leaves after them, and the inner nodes after these. Then the last leaves, from the inner node
-/// of the upper bound, and the last rows, from the leaf of the upper bound.
+/// The remainder of a walk: rows, the leaves after them, and the inner nodes after these. Then the last leaves, from the
+/// inner node of the upper bound, and the last rows, from the leaf of the upper bound.
 #[derive(Drop)]
 pub(crate) struct Walk<'a, K, V> {
     pub(crate) rest: &'a [SharedRow<K, V>],

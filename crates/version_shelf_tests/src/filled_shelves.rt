@@ -1,5 +1,5 @@
-//! Shelves of many pages, filled and emptied in several orders. Is the cost of each call within its bound, and does an old shelf stay
-//! readable?
+//! Shelves of many nodes, filled and emptied in several orders. Is the cost of each call within its bound, and does an old
+//! shelf stay readable?
 
 ghost use Rattle.std.specs.Prelude.{◌<◌};
 
@@ -55,7 +55,7 @@ fn assert_found<'a>(
     is_at_most(rt, count.number(), 32, "count of find");
 }
 
-/// Asserts that a change has put this many rows and pages into new pages: at least 1, at most 1,024, and no copies.
+/// Asserts that a change has put this many rows and nodes into new nodes, from 1 to 1,024, and has copied no key and no value.
 fn assert_change(rt: &impl Abort, count: u64, counts: &Counts) {
     is_at_most(rt, 1, count, "least count of a change");
     is_at_most(rt, count, 1_024, "count of a change");

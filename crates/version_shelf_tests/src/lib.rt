@@ -6,7 +6,7 @@
 //! - `random_changes`: one shelf compared with a plain list, through random changes.
 //! - `equal_keys`: keys that differ but compare as equal.
 //! - `comparisons`: how many comparisons and copies of keys each call makes.
-//! - `filled_shelves`: shelves of many pages, filled and emptied in several orders.
+//! - `filled_shelves`: shelves of many nodes, filled and emptied in several orders.
 //! - `scripts`: scripts that make shelves and read them.
 //! - `keys`: keys and values for these tests.
 //! - `counted_keys`: keys whose comparisons and copies are counted.

@@ -153,9 +153,9 @@ fn plays_line<K: Ord + Clone + AsText + Drop, V: Clone + AsText + Drop>(
     Ok(shelves.push(next)?)
 }
 
-/// Plays a script over a first shelf, which has number 0. Each line begins with the number of a shelf. Lines with `with` and a row,
-/// `without` and a key, or `clone` make the shelf of the next number from that one. Other lines read the `range` between two bounds,
-/// or `get` the value at a key, and compare it with the text after ` => `.
+/// Plays a script over a first shelf, which has number 0. Each line begins with the number of a shelf. Lines with `with`
+/// and a row, `without` and a key, or `clone` make the shelf of the next number from that one. Other lines read the `range`
+/// between two bounds, or `get` the value at a key, and compare it with the text after ` => `.
 pub fn plays<K: Ord + Clone + AsText + Drop, V: Clone + AsText + Drop>(
     rt: &impl Abort,
     alloc: Global,
