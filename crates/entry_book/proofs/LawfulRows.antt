@@ -77,7 +77,7 @@ lawful_entry own_domain m b l k o n h =
 
 -- ---- entries that are removed, or changed
 
--- a row that has the parent, identity and selectors of the one that it replaces, and no further domain
+-- The entry x may replace e in a lawful book: it has the same id, parent, identity and selectors, and no further domain.
 pub record Milder (own_domain : Bytes) (m : ℕ) (e x : Entry) : Type 0 where
   pub id : x.id ≡ e.id
   pub parent : x.parent ≡ e.parent
@@ -91,7 +91,7 @@ pub record Milder (own_domain : Bytes) (m : ℕ) (e x : Entry) : Type 0 where
 pub same_milder : (own_domain : Bytes) (m : ℕ) (b : Book) → Lawful own_domain m b → (e : Entry) → Within b.entries e → Milder own_domain m e e
 same_milder own_domain m b l e w = record { id = refl; parent = refl; identity = refl; selectors = refl; domains = λ d v. v; proper = λ p. p; no_fault = λ f. f; low = l.revisions e w }
 
--- the rows are milder forms of entries of the book
+-- each of these rows may replace an entry of the book
 abbrev pub AreMilder : Bytes → ℕ → Book → List Entry → Type 0
 AreMilder own_domain m b rows = (x : Entry) → Within rows x → (e : Entry) × Within b.entries e × Milder own_domain m e x
 

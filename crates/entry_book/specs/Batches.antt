@@ -17,8 +17,8 @@ use Rattle.entry_book.specs.declared.fault.BatchRefusal.{BatchRefusal}
 use Rattle.entry_book.specs.declared.fault.BatchRefusal.TheVariants.{NoOps, TooManyOps, OfOp, PastPageNotAlone, TokenOnQuery}
 use Rattle.entry_book.specs.Rows.{Bytes, IsId, IsProperEntry, IsProperAgent}
 
--- A batch: the trust domain that it was made for, its operations in order, the minimum place at which it may run, and optionally a
--- token, a UUID under which its commit is stored.
+-- A batch: the trust domain that it was made for, its operations in order, the minimum place at which it may run, and
+-- optionally a token, a UUID under which its commit is stored.
 pub record Batch : Type 0 where
   pub domain : Bytes
   pub ops : List Op
@@ -27,6 +27,7 @@ pub record Batch : Type 0 where
 
 -- ---- which batches are read-only
 
+-- whether an operation is read-only
 abbrev pub is_question : Op → Bool
 is_question (Create e) = false
 is_question (Update e expected) = false
@@ -44,11 +45,13 @@ is_question (DropAgent k) = false
 is_question (SetBundle d text) = false
 is_question (DropBundle d mode) = false
 
+-- whether a batch of these operations is read-only
 abbrev pub is_query : List Op → Bool
 is_query ops = list_all is_question ops
 
 -- ---- which batches read an earlier book: a page that gives the number of a book reads that book
 
+-- the number of the book that the operation reads, if it is a page that gives one
 abbrev pub place_asked : Op → Option ℕ
 place_asked (Page q) = q.at
 place_asked op = None
@@ -64,6 +67,7 @@ past_place (op ∷ ops) = place_asked op
 abbrev pub is_foreign : Bytes → Bytes → Bool
 is_foreign domain id = not (bytes_eq (domain_of id) domain)
 
+-- whether the path of an ID is empty
 abbrev pub has_no_path : Bytes → Bool
 has_no_path id = length (path_of id) == 0
 
@@ -71,9 +75,11 @@ has_no_path id = length (path_of id) == 0
 abbrev pub is_outside : List SelectorPair → Bool
 is_outside selectors = length selectors == 0 || nat_lt 16 (length selectors)
 
+-- whether a path is that of an agent's ID
 abbrev pub is_agent_path : Bytes → Bool
 is_agent_path path = starts_with nat_eq path (codes "/spire/agent/")
 
+-- the fault of an entry that is created or updated
 unfoldable pub entry_fault : Bytes → NewEntry → Option OpFault
 entry_fault domain e =
     refuse_if (is_foreign domain e.parent || is_foreign domain e.identity) ForeignId (
@@ -133,6 +139,7 @@ bundle_fault domain d text =
     refuse_if (nat_lt 65536 (length text)) BundleTooLong
     None)
 
+-- the fault of an operation in a batch for this trust domain
 abbrev pub op_fault : Bytes → Op → Option OpFault
 op_fault domain (Create e) = entry_fault domain e
 op_fault domain (Update e expected) = entry_fault domain e
@@ -150,6 +157,7 @@ op_fault domain (DropAgent k) = asked_fault domain k
 op_fault domain (SetBundle d text) = bundle_fault domain d text
 op_fault domain (DropBundle d mode) = own_fault domain d
 
+-- the fault of operation n, if it has one; otherwise `later`
 abbrev pub or_later : Option OpFault → ℕ → Option BatchRefusal → Option BatchRefusal
 or_later (Some fault) n later = Some (OfOp n fault)
 or_later None n later = later
@@ -168,10 +176,12 @@ first_past n (op ∷ ops) = if is_some (place_asked op) then Some n else first_p
 abbrev pub first_past_of_many : List Op → Option ℕ
 first_past_of_many ops = if nat_lt 1 (length ops) then first_past 0 ops else None
 
+-- why operations without a fault aren't a batch: for a page of an earlier book, or for a query with a token
 abbrev pub or_token : Option ℕ → List Op → Option Bytes → Option BatchRefusal
 or_token (Some n) ops token = Some (PastPageNotAlone n)
 or_token None ops token = refuse_if (is_some token && is_query ops) TokenOnQuery None
 
+-- The first refusal that applies to these operations with this token, if any. A list is a batch exactly if there is none.
 unfoldable pub batch_refusal : Bytes → List Op → Option Bytes → Option BatchRefusal
 batch_refusal domain ops token =
     refuse_if (length ops == 0) NoOps (
@@ -187,6 +197,7 @@ pub record IsProperPage (q : PageQuery) : Type 0 where
   pub domain : IfSome q.filter.domain IsDomain
   pub selectors : IfSome q.filter.selectors (λ m. IsSelectorSet m.selectors)
 
+-- the parts of an operation satisfy the invariants of their types
 abbrev pub IsProperOp : Op → Type 0
 IsProperOp (Create e) = IsProperEntry e
 IsProperOp (Update e expected) = IsProperEntry e

@@ -48,10 +48,11 @@ bundle_at k b = first (filter (λ d. bytes_eq d.domain k) b.bundles)
 abbrev pub token_at : Bytes → Book → Option KeptBatch
 token_at k b = first (filter (λ r. bytes_eq r.token k) b.tokens)
 
--- the entries of a parent and an identity, in the order of ids
+-- whether an entry has this parent and this identity
 abbrev pub in_group : Bytes → Bytes → Entry → Bool
 in_group p i e = bytes_eq e.parent p && bytes_eq e.identity i
 
+-- the entries of a parent and an identity, in the order of ids
 abbrev pub group_of : Bytes → Bytes → Book → List Entry
 group_of p i b = filter (in_group p i) b.entries
 
@@ -59,16 +60,18 @@ group_of p i b = filter (in_group p i) b.entries
 abbrev pub children_of : Bytes → Book → List Entry
 children_of p b = filter (λ e. bytes_eq e.parent p) b.entries
 
--- the entries that name a trust domain, in the order of ids
+-- whether an entry names this trust domain
 abbrev pub names : Bytes → Entry → Bool
 names domain e = list_any (λ d. bytes_eq d domain) e.domains
 
+-- the entries that name a trust domain, in the order of ids
 abbrev pub users_of : Bytes → Book → List Entry
 users_of domain b = filter (names domain) b.entries
 
--- the entries that expire before a moment, in the order of ids; an expiry of 0 is none
+-- whether an entry expires before a moment; an expiry of 0 is none
 abbrev pub expires_before : ℕ → Entry → Bool
 expires_before moment e = nat_lt 0 e.expiry && nat_lt e.expiry moment
 
+-- the entries that expire before a moment, in the order of ids
 abbrev pub expired_before : ℕ → Book → List Entry
 expired_before moment b = filter (expires_before moment) b.entries

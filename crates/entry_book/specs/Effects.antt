@@ -1,5 +1,6 @@
--- The effect of each operation, in direct words: when each refusal is due, and which rows the book has afterwards. Theorems of this
--- crate say that `op_of` does exactly this on every book whose rows are in order, and that these words determine its result.
+-- The effect of each operation, in direct words: when each refusal is due, and which rows the book has afterwards. Theorems
+-- of this crate say that `op_of` does exactly this on every book whose rows are in order, and that these words determine
+-- its result.
 use Rattle.std.specs.Prelude.{◌≡◌, ◌≢◌, ◌⊎◌, ◌↔◌, ⊤, ℕ, ◌+◌, ◌<◌, not, List, [], ◌∷◌, ◌++◌, filter, map, Option, Some, None, bytes_eq}
 use Rattle.std.specs.List.{AllByRecursion}
 use Rattle.entry_book.specs.declared.agent.Agent.{Agent}
@@ -61,8 +62,8 @@ IsNew e b = (x : Entry) → Within b.entries x → x.id ≢ e.id
 abbrev pub IsAlone : NewEntry → Book → Type 0
 IsAlone e b = (x : Entry) → Within b.entries x → IsLike e x → x.id ≡ e.id
 
--- It replies with the entry at revision 0, and adds it and nothing else. No entry has its id or is like it, and its domains have
--- bundles.
+-- The operation replies with the entry at revision 0, and adds it and nothing else. No entry has its id or is like it, and
+-- its domains have bundles.
 pub record Creates (e : NewEntry) (b : Book) (d : OpEffect) : Type 0 where
   pub new : IsNew e b
   pub alone : IsAlone e b
@@ -101,8 +102,8 @@ HasExpected k expected b x = Within b.entries x × (x.id ≡ k) × IsExpected ex
 abbrev pub IsStale : Bytes → Option ℕ → Book → Type 0
 IsStale k expected b = (x : Entry) × Within b.entries x × (x.id ≡ k) × (IsExpected expected x → ⊥)
 
--- It replies with the entry as it is given, at the next revision, which replaces the one of its id. That one is at the expected
--- revision, if one is expected. No other entry is like the new one, and its domains have bundles.
+-- The operation replies with the entry as it is given, at the next revision, which replaces the one of its id. That one is
+-- at the expected revision, if one is expected. No other entry is like the new one, and its domains have bundles.
 pub record Updates (e : NewEntry) (expected : Option ℕ) (b : Book) (d : OpEffect) : Type 0 where
   pub old : Entry
   pub found : HasExpected e.id expected b old
@@ -120,7 +121,8 @@ UpdateRefused e expected b _ = ⊥
 
 -- ---- delete
 
--- It replies with the entry, and removes it and nothing else. It is at the expected revision, if one is expected.
+-- The operation replies with the entry, and removes it and nothing else. The entry is at the expected revision, if one is
+-- expected.
 pub record Deletes (k : Bytes) (expected : Option ℕ) (b : Book) (d : OpEffect) : Type 0 where
   pub old : Entry
   pub found : HasExpected k expected b old
@@ -134,14 +136,14 @@ DeleteRefused k expected b _ = ⊥
 
 -- ---- queries: they write nothing
 
--- It replies with the row of the key, if there is one.
+-- The operation replies with the row of the key, if there is one.
 pub record ShowsRow {X : Type 0} (key : X → Bytes) (rows : List X) (replies : Option X → OpReply) (k : Bytes) (d : OpEffect) : Type 0 where
   pub writes : d.writes ≡ []
   pub shown : Option X
   pub reply : d.reply ≡ replies shown
   pub is_row : IsRowAt key rows k shown
 
--- It replies with all rows for which `Has` holds, in order.
+-- The operation replies with all rows for which `Has` holds, in order.
 pub record Lists {X : Type 0} (key : X → Bytes) (replies : List X → OpReply) (Has : X → Type 0) (d : OpEffect) : Type 0 where
   pub writes : d.writes ≡ []
   pub shown : List X
@@ -162,11 +164,11 @@ LacksAgent k b _ = ⊥
 abbrev pub ListsChildren : Bytes → Book → OpEffect → Type 0
 ListsChildren p b d = Lists entry_key replied.Entries (λ x. Within b.entries x × (x.parent ≡ p)) d
 
--- It replies with the entries in which some chain for the agent ends.
+-- The operation replies with the entries in which some chain for the agent ends.
 abbrev pub ListsAuthorised : Bytes → Bytes → Book → OpEffect → Type 0
 ListsAuthorised server k b d = OfAgent k b (λ a. Lists entry_key replied.Entries (EndsChain server a b) d)
 
--- It replies with the bundles of the domains that these entries name.
+-- The operation replies with the bundles of the domains that these entries name.
 abbrev pub ListsTrust : Bytes → Bytes → Book → OpEffect → Type 0
 ListsTrust server k b d = OfAgent k b (λ a. Lists bundle_key replied.Bundles (λ x. Within b.bundles x × ((e : Entry) × EndsChain server a b e × Names x.domain e)) d)
 
@@ -176,7 +178,7 @@ ListsTrust server k b d = OfAgent k b (λ a. Lists bundle_key replied.Bundles (�
 abbrev pub IsExpired : ℕ → Entry → Type 0
 IsExpired moment x = (0 < x.expiry) × (x.expiry < moment)
 
--- It replies with the ids of the expired entries, in order, and removes these and nothing else.
+-- The operation replies with the ids of the expired entries, in order, and removes these and nothing else.
 pub record Prunes (moment : ℕ) (b : Book) (d : OpEffect) : Type 0 where
   pub expired : List Entry
   pub are_expired : IsListOf entry_key (λ x. Within b.entries x × IsExpired moment x) expired
@@ -185,12 +187,12 @@ pub record Prunes (moment : ℕ) (b : Book) (d : OpEffect) : Type 0 where
 
 -- ---- set_agent and drop_agent
 
--- It replies with the agent, which replaces the one of its id, if any; all else stays.
+-- The operation replies with the agent, which replaces the one of its id, if any; all else stays.
 pub record SetsAgent (a : Agent) (b : Book) (d : OpEffect) : Type 0 where
   pub reply : d.reply ≡ replied.Agent a
   pub after_it : AgentsBecome b (after d.writes b) (λ x. (x ≡ a) ⊎ (Within b.agents x × (x.id ≢ a.id)))
 
--- It replies with the agent, and removes it and nothing else.
+-- The operation replies with the agent, and removes it and nothing else.
 pub record DropsAgent (k : Bytes) (b : Book) (d : OpEffect) : Type 0 where
   pub old : Agent
   pub found : Within b.agents old × (old.id ≡ k)
@@ -204,7 +206,7 @@ abbrev pub IsNextSequence : Option Bundle → ℕ → Type 0
 IsNextSequence None n = n ≡ 0
 IsNextSequence (Some old) n = n ≡ old.sequence + 1
 
--- It replies with the bundle, at the next sequence, which replaces the one of its domain, if any; all else stays.
+-- The operation replies with the bundle, at the next sequence, which replaces the one of its domain, if any; all else stays.
 pub record SetsBundle (domain text : Bytes) (b : Book) (d : OpEffect) : Type 0 where
   pub old : Option Bundle
   pub found : IsRowAt bundle_key b.bundles domain old

@@ -12,7 +12,7 @@ use Rattle.entry_book.specs.Rows.{Bytes}
 abbrev pub IsIdOf : Bytes → Bytes → Type 0
 IsIdOf own_domain id = (segment : Bytes) × (more : List Bytes) × Spells id own_domain (segment ∷ more)
 
--- an ID of the trust domain whose path goes on after /spire/agent
+-- an ID of the trust domain whose path continues after /spire/agent
 abbrev pub IsAgentIdOf : Bytes → Bytes → Type 0
 IsAgentIdOf own_domain id = (segment : Bytes) × (more : List Bytes) × Spells id own_domain (codes "spire" ∷ codes "agent" ∷ segment ∷ more)
 

@@ -21,11 +21,12 @@ use Rattle.entry_book.specs.Batches.{Batch, IsMadeFor, is_query, past_place}
 
 -- ---- the list of all books, beginning with an empty one; their numbers count from 0
 
--- the last book, which batches read and change
+-- the last book of a list; b if it is empty
 abbrev pub last_or : Book → List Book → Book
 last_or b [] = b
 last_or b (c ∷ cs) = last_or c cs
 
+-- the last book, which batches read and change
 abbrev pub last_book : List Book → Book
 last_book books = last_or empty_book books
 
@@ -57,18 +58,20 @@ batch_writes batch n t = t.writes ++ token_writes batch.token batch.ops n t.repl
 
 -- ---- one batch
 
--- The outcome of a batch: it is refused, it is a query and answered, it adds a book, or it was committed before, at this place and
--- with these replies.
+-- The outcome of a batch: it is refused, it is a query and answered, it adds a book, or it was committed before, at this
+-- place and with these replies.
 pub data Verdict : Type 0 where
   refuses : Refusal → Verdict
   answers : List OpReply → Verdict
   adds : List OpReply → Book → Verdict
   repeats : ℕ → List OpReply → Verdict
 
+-- a batch of changes is refused for the limit that its book passes, if any; otherwise it adds the book
 abbrev pub adds_within : Option Limit → List OpReply → Book → Verdict
 adds_within (Some limit) replies c = refuses (Full limit)
 adds_within None replies c = adds replies c
 
+-- the outcome of a batch whose operations have this result; the flag is true for a query
 abbrev pub verdict_when : Bool → Batch → ℕ → Book → RunResult → Verdict
 verdict_when query batch place b (Err s) = refuses (OfOp s.op s.reason)
 verdict_when true batch place b (Ok t) = answers t.replies
@@ -84,10 +87,12 @@ abbrev pub verdict_again : Bool → KeptBatch → Verdict
 verdict_again true k = repeats k.place k.replies
 verdict_again false k = refuses TokenReused
 
+-- the batch that the book stores under the token, if a token is given and in use
 abbrev pub kept_under : Option Bytes → Book → Option KeptBatch
 kept_under None b = None
 kept_under (Some token) b = token_at token b
 
+-- the outcome if this is stored under the batch's token
 abbrev pub verdict_over : Option KeptBatch → Batch → ℕ → Book → Verdict
 verdict_over (Some k) batch place b = verdict_again (ops_eq k.ops batch.ops) k
 verdict_over None batch place b = verdict_run batch place b
@@ -101,32 +106,37 @@ verdict_on batch place (Some b) = verdict_over (kept_under batch.token b) batch 
 abbrev pub verdict : Batch → ℕ → Option Book → Verdict
 verdict batch place b = if nat_lt place batch.after then refuses NotYet else verdict_on batch place b
 
--- The place of a reply: the new book's number if a book is added, that of the first commit if the batch repeats one, and otherwise
--- the number of the last book.
+-- The place of a reply: the new book's number if a book is added, that of the first commit if the batch repeats one, and
+-- otherwise the number of the last book.
 abbrev pub reply_with : ℕ → Verdict → Reply
 reply_with place (refuses r) = record { place = place; outcome = Refused r }
 reply_with place (answers replies) = record { place = place; outcome = Answered replies }
 reply_with place (adds replies b) = record { place = place + 1; outcome = Committed replies }
 reply_with place (repeats n replies) = record { place = n; outcome = Repeated replies }
 
+-- the list of books after a batch with this outcome
 abbrev pub books_with : List Book → Verdict → List Book
 books_with books (refuses r) = books
 books_with books (answers replies) = books
 books_with books (adds replies b) = books ++ b ∷ []
 books_with books (repeats n replies) = books
 
+-- the reply to a batch on these books
 abbrev pub reply_to : Batch → List Book → Reply
 reply_to batch books = reply_with (place_of books) (verdict batch (place_of books) (book_for (past_place batch.ops) books))
 
+-- the list of books after a batch on these books
 abbrev pub books_after : Batch → List Book → List Book
 books_after batch books = books_with books (verdict batch (place_of books) (book_for (past_place batch.ops) books))
 
+-- whether the batch is committed now
 abbrev pub is_committed : ReplyOutcome → Bool
 is_committed (Committed replies) = true
 is_committed (Answered replies) = false
 is_committed (Repeated replies) = false
 is_committed (Refused refusal) = false
 
+-- whether the batch was committed before, with its token
 abbrev pub is_repeated : ReplyOutcome → Bool
 is_repeated (Committed replies) = false
 is_repeated (Answered replies) = false
@@ -154,6 +164,7 @@ abbrev pub CommitAll : List Book → List Batch → Type 0
 CommitAll books [] = ⊤
 CommitAll books (batch ∷ batches) = (commits batch books ≡ true) × CommitAll (books_after batch books) batches
 
+-- the list of all books before the first batch: an empty book, whose number is 0
 abbrev pub first_books : List Book
 first_books = empty_book ∷ []
 
@@ -180,6 +191,7 @@ pub record PlainState : Type 0 where
   pub newest : Book
   pub place : ℕ
 
+-- the stored books: the earlier ones and the last one
 abbrev pub kept_books : PlainState → List Book
 kept_books state = state.older ++ state.newest ∷ []
 
@@ -191,6 +203,7 @@ last_of n books = drop (length books - n) books
 abbrev pub among_kept : ℕ → PlainState → Option Book
 among_kept n state = if nat_lt (n + length state.older) state.place then None else slice_get (kept_books state) (n + length state.older - state.place)
 
+-- the stored book that a batch reads: the last one, or the one of this number, which may be gone
 abbrev pub kept_for : Option ℕ → PlainState → Option Book
 kept_for None state = Some state.newest
 kept_for (Some n) state = among_kept n state
@@ -199,21 +212,23 @@ kept_for (Some n) state = among_kept n state
 abbrev pub verdict_of : Batch → PlainState → Verdict
 verdict_of batch state = verdict batch state.place (kept_for (past_place batch.ops) state)
 
+-- the reply to a batch on the stored books
 abbrev pub reply_on : Batch → PlainState → Reply
 reply_on batch state = reply_with state.place (verdict_of batch state)
 
+-- what is stored after a batch with this outcome
 abbrev pub state_with : PlainState → Verdict → PlainState
 state_with state (refuses r) = state
 state_with state (answers replies) = state
 state_with state (adds replies b) = record state { older = last_of 63 (kept_books state); newest = b; place = state.place + 1 }
 state_with state (repeats n replies) = state
 
--- the stored books after it
+-- what is stored after a batch
 abbrev pub state_after : Batch → PlainState → PlainState
 state_after batch state = state_with state (verdict_of batch state)
 
--- The state represents the list of all books so far: its books are the last 64 of them, its place is the last one's number, and the
--- list is a history of its trust domain.
+-- The state represents the list of all books so far: its books are the last 64 of them, its place is the last one's number,
+-- and the list is a history of its trust domain.
 pub record RepresentsBooks (state : PlainState) (books : List Book) : Type 0 where
   pub count : length books ≡ state.place + 1
   pub kept : last_of 64 books ≡ kept_books state

@@ -9,7 +9,8 @@ use Rattle.entry_book.specs.Order.{Within}
 use Rattle.entry_book.specs.Book.{Book, AscendingBook, HasBundle}
 use Rattle.entry_book.specs.Batches.{IsMadeFor, entry_fault, agent_fault, bundle_fault}
 
--- `own_domain` is the server's trust domain. `most` bounds revisions, sequences and 64 times each token's place; in book n it is 64 n.
+-- `own_domain` is the server's trust domain. `most` bounds revisions, sequences and 64 times each token's place; in book n
+-- it is 64 n.
 pub record Lawful (own_domain : Bytes) (most : ℕ) (b : Book) : Type 0 where
   -- entry ids, agent ids, bundle domains and tokens are each distinct
   pub ascending : AscendingBook b

@@ -205,7 +205,8 @@ pub record StopsAt (domain : Bytes) (ops : List Op) (b : Book) (n : ℕ) (r : Op
 abbrev pub RunStops : Type 0
 RunStops = (domain : Bytes) (ops : List Op) (b : Book) (n : ℕ) (r : OpRefusal) → (run domain ops b ≡ Err (record { op = n; reason = r })) ↔ StopsAt domain ops b n r
 
--- One more operation adds its reply and its writes if the book that the others left accepts it; otherwise the run is refused for it.
+-- One more operation adds its reply and its writes if the book that the others left accepts it; otherwise the run is
+-- refused for it.
 abbrev pub RunExtends : Type 0
 RunExtends = (domain : Bytes) (ops : List Op) (op : Op) (b : Book) (t : RunEffect) → run domain ops b ≡ Ok t → MatchResult (op_of domain op (after t.writes b)) (λ d. run domain (ops ++ op ∷ []) b ≡ Ok (record { replies = t.replies ++ d.reply ∷ []; writes = t.writes ++ d.writes })) (λ r. run domain (ops ++ op ∷ []) b ≡ Err (record { op = length ops; reason = r }))
 
@@ -277,8 +278,8 @@ pub record PastPageAt (ops : List Op) (n : ℕ) : Type 0 where
 abbrev pub ArePagesAlone : List Op → Type 0
 ArePagesAlone ops = 1 < length ops → AskForLast ops
 
--- a batch is refused for page n exactly if no operation has a fault, there are several, and page n is the first that gives a book's
--- number
+-- a batch is refused for page n exactly if no operation has a fault, there are several, and page n is the first that gives
+-- a book's number
 abbrev pub PastPageRefused : Type 0
 PastPageRefused = (domain : Bytes) (ops : List Op) (token : Option Bytes) (n : ℕ) → (batch_refusal domain ops token ≡ Some (batch.PastPageNotAlone n)) ↔ (AreFaultless domain ops × (1 < length ops) × PastPageAt ops n)
 
@@ -343,8 +344,8 @@ OpRefuses = (batch : Batch) (books : List Book) (s : RefusedOp) → RunsOn batch
 abbrev pub QueriesAnswered : Type 0
 QueriesAnswered = (batch : Batch) (books : List Book) (t : RunEffect) → RunsOn batch books → is_query batch.ops ≡ true → run batch.domain batch.ops (last_book books) ≡ Ok t → HasOutcome batch books (record { place = place_of books; outcome = Answered t.replies }) books
 
--- any other batch of changes that passes no limit adds the book after its writes, even if it equals the last one; the reply has the
--- new place
+-- any other batch of changes that passes no limit adds the book after its writes, even if it equals the last one; the reply
+-- has the new place
 abbrev pub ChangesCommit : Type 0
 ChangesCommit = (batch : Batch) (books : List Book) (t : RunEffect) → RunsOn batch books → is_query batch.ops ≡ false → run batch.domain batch.ops (last_book books) ≡ Ok t → limit_passed (place_of books) (after (batch_writes batch (place_of books + 1) t) (last_book books)) ≡ None → HasOutcome batch books (record { place = place_of books + 1; outcome = Committed t.replies }) (books ++ after (batch_writes batch (place_of books + 1) t) (last_book books) ∷ [])
 
@@ -408,8 +409,8 @@ abbrev pub ReuseRefused : Type 0
 ReuseRefused = (batch : Batch) (books : List Book) (k : KeptBatch) → AscendingBook (last_book books) → batch.after ≤ place_of books → AskForLast batch.ops → Within (last_book books).tokens k → batch.token ≡ Some k.token → (k.ops ≡ batch.ops → ⊥) → HasOutcome batch books (record { place = place_of books; outcome = Refused TokenReused }) books
 
 -- Once a batch is committed with a token, no other batch is committed with it. Later, after any batches, one with the same
--- operations gets the same replies and place, and one with other operations is refused, if its minimum place is reached. The books
--- stay.
+-- operations gets the same replies and place, and one with other operations is refused, if its minimum place is reached.
+-- The books stay.
 pub record CommittedOnce (first : Reply) (replies : List OpReply) (batch other : Batch) (later : List Book) : Type 0 where
   pub no_more : commits other later ≡ false
   pub books_stay : books_after other later ≡ later
@@ -492,8 +493,8 @@ MatchesAsSaid = (mode : MatchMode) (given own_domain : List SelectorPair) → (m
 abbrev pub PassesAsSaid : Type 0
 PassesAsSaid = (f : Filter) (e : Entry) → (passes f e ≡ true) ↔ Passes f e
 
--- a page has exactly the first entries that pass and come after its start, as many as it has room for; there is a next page exactly
--- if more come
+-- a page has exactly the first entries that pass and come after its start, as many as it has room for; there is a next page
+-- exactly if more come
 abbrev pub PageAsSaid : Type 0
 PageAsSaid = (q : PageQuery) (b : Book) → AscendingBook b → IsPage q b (listed q b) (next_of q b)
 

@@ -5,8 +5,8 @@ use Rattle.entry_book.specs.declared.limit.Limit.{Limit}
 use Rattle.entry_book.specs.declared.limit.Limit.TheVariants.{History, Entries, Agents, Bundles, Tokens}
 use Rattle.entry_book.specs.Book.{Book}
 
--- The first limit that is passed by a book with these numbers of entries, agents, bundles and tokens that follows the one at this place.
--- The place is the number of batches committed so far.
+-- The first limit that is passed by a book with these numbers of entries, agents, bundles and tokens that follows the one
+-- at this place. The place is the number of batches committed so far.
 abbrev pub limit_over : ℕ → ℕ → ℕ → ℕ → ℕ → Option Limit
 limit_over place entries agents bundles tokens =
     refuse_if (not (nat_lt place (2 ^ 48))) History (

@@ -42,8 +42,8 @@ abbrev pub IsPageEnd : PageQuery → List Entry → List Entry → Option Bytes 
 IsPageEnd q es [] next = (length es ≤ q.size) × (next ≡ None)
 IsPageEnd q es (e ∷ left) next = (length es ≡ q.size) × (next ≡ last_id es)
 
--- A page has these entries, and says where the next one begins. They and those that are left are all that it could list, in the order
--- of ids.
+-- A page has these entries, and says where the next one begins. They and those that are left are all that it could list, in
+-- the order of ids.
 pub record IsPage (q : PageQuery) (b : Book) (es : List Entry) (next : Option Bytes) : Type 0 where
   pub left : List Entry
   pub all : IsListOf entry_key (IsToList q b) (es ++ left)

@@ -1,6 +1,7 @@
--- What one operation does to the book that it finds: the first of its refusals that is due, in their order, or its reply and its
--- writes. The writes say row by row what changes, and the book afterwards is the book after them. `Effects` says the same of all rows
--- together.
+-- What one operation does to the book that it finds: the first of its refusals that is due, in their order, or its reply
+-- and its writes. The writes say row by row what changes, and the book afterwards is the book after them. `Effects` says
+-- the same of all rows together. `.._over` is the result for the row that was found, if any; `.._when` is the result of a
+-- test.
 use Rattle.std.specs.Prelude.{ℕ, ◌+◌, Bool, true, false, not, List, [], ◌∷◌, ◌++◌, filter, map, Option, Some, None, Result, Ok, Err, is_some, bytes_eq, nat_eq, ◌&&◌, if◌then◌else◌}
 use Rattle.std.specs.List.{list_any}
 use Rattle.spiffe_name.specs.Id.{server_text}
@@ -27,9 +28,11 @@ pub record OpEffect : Type 0 where
   pub reply : OpReply
   pub writes : List RowWrite
 
+-- the reply and the writes of an operation, or why it is refused
 abbrev pub OpResult : Type 0
 OpResult = Result OpEffect OpRefusal
 
+-- the operation is accepted, with this reply and these writes
 abbrev pub done : OpReply → List RowWrite → OpResult
 done r ws = Ok (record { reply = r; writes = ws })
 
@@ -48,10 +51,12 @@ lacking (d ∷ ds) b = if is_some (bundle_at d b) then lacking ds b else Some d
 abbrev pub put : Option Entry → Entry → RowWrite
 put old e = wrote_entry (record { key = e.id; old = old; new = Some e })
 
+-- puts the entry, unless this domain of it has no bundle
 abbrev pub put_named : Option Bytes → Option Entry → Entry → OpResult
 put_named (Some d) old e = Err (NoBundle d)
 put_named None old e = done (replied.Entry e) (put old e ∷ [])
 
+-- puts the entry, unless this other entry is similar or a domain has no bundle
 abbrev pub put_unless_similar : Option Entry → Option Entry → Entry → Book → OpResult
 put_unless_similar (Some o) old e b = Err (Similar o.id)
 put_unless_similar None old e b = put_named (lacking e.domains b) old e
@@ -92,14 +97,16 @@ delete_over (Some e) expected = delete_when (is_stale expected e) e
 
 -- ---- operations on an agent of the book: refused for a missing agent
 
+-- the result of f on the agent of a query, which the book may lack
 abbrev pub for_agent : Option Agent → (Agent → OpResult) → OpResult
 for_agent None f = Err NoAgent
 for_agent (Some a) f = f a
 
--- the bundles of the domains that these entries name, in the order of domains
+-- whether one of these entries names the bundle's domain
 abbrev pub is_named : List Entry → Bundle → Bool
 is_named es d = list_any (names d.domain) es
 
+-- the bundles of the domains that these entries name, in the order of domains
 abbrev pub bundles_of : List Entry → Book → List Bundle
 bundles_of es b = filter (is_named es) b.bundles
 
@@ -132,10 +139,11 @@ bundle_removed d = wrote_bundle (record { key = d.domain; old = Some d; new = No
 abbrev pub dissociated : Bytes → Entry → Entry
 dissociated domain e = record e { domains = filter (λ d. not (bytes_eq d domain)) e.domains; revision = e.revision + 1 }
 
+-- the write that removes the domain from the entry
 abbrev pub freed : Bytes → Entry → RowWrite
 freed domain e = put (Some e) (dissociated domain e)
 
--- for the entries that name the bundle's domain
+-- the result in each mode, for the entries that name the bundle's domain
 abbrev pub drop_in : DropMode → List Entry → Bundle → OpResult
 drop_in mode.Restrict [] d = done (replied.Dropped [] []) (bundle_removed d ∷ [])
 drop_in mode.Restrict (e ∷ es) d = Err BundleInUse
@@ -146,8 +154,9 @@ abbrev pub drop_over : Option Bundle → Bytes → DropMode → Book → OpResul
 drop_over None domain mode b = Err (NoBundle domain)
 drop_over (Some d) domain mode b = drop_in mode (users_of d.domain b) d
 
--- ---- the result of an operation in the book of a trust domain; a page that gives the number of a book is run on that book
+-- ---- the operations together
 
+-- the result of an operation in the book of a trust domain; a page that gives the number of a book is run on that book
 abbrev pub op_of : Bytes → Op → Book → OpResult
 op_of own_domain (Create e) b = create_over (entry_at e.id b) (at_revision 0 e) b
 op_of own_domain (Update e expected) b = update_over (entry_at e.id b) e expected b

@@ -1,4 +1,5 @@
--- A finite set of rows, represented by the list of its members in strictly ascending order of their keys: so equal sets are equal lists.
+-- A finite set of rows, represented by the list of its members in strictly ascending order of their keys. Equal sets are
+-- equal lists.
 use Rattle.std.specs.Prelude.{◌≡◌, ℕ, Bool, true, ⊤, ◌⊎◌, List, [], ◌∷◌, ◌++◌, filter, Option, Some, None, option_to_list}
 use Rattle.std.specs.Ordering.{is_lt, nat_cmp}
 use Rattle.std.specs.Cmp.Lexicographic.{slice_cmp}

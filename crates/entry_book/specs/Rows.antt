@@ -47,6 +47,7 @@ bundle_key d = d.domain
 
 -- ---- the invariants of the parts' types: sets are lists in one order, so that equal sets are equal lists
 
+-- the text is a SPIFFE ID
 abbrev pub IsId : Bytes → Type 0
 IsId text = (domain : Bytes) × (segments : List Bytes) × Spells text domain segments
 
@@ -59,6 +60,7 @@ abbrev pub domain_set : List Bytes → List Bytes
 domain_set [] = []
 domain_set (domain ∷ domains) = with_row (λ d. d) domain (Some domain) (domain_set domains)
 
+-- The parts of a new entry satisfy the invariants of their types.
 pub record IsProperEntry (e : NewEntry) : Type 0 where
   pub id : length e.id ≡ 16
   pub parent : IsId e.parent
@@ -67,6 +69,7 @@ pub record IsProperEntry (e : NewEntry) : Type 0 where
   pub domains : IsDomainSet e.domains
   pub are_domains : AllByRecursion IsDomain e.domains
 
+-- The parts of an agent satisfy the invariants of their types.
 pub record IsProperAgent (a : Agent) : Type 0 where
   pub id : IsId a.id
   pub selectors : IsSelectorSet a.selectors

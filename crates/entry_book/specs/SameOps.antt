@@ -1,5 +1,5 @@
--- When two lists of operations are the same: operation by operation, of the same kind and with the same parts. A theorem says that they
--- are then equal lists.
+-- When two lists of operations are the same: operation by operation, of the same kind and with the same parts. A theorem
+-- says that they are then equal lists.
 use Rattle.std.specs.Prelude.{Bool, true, false, ◌&&◌, List, bytes_eq, nat_eq}
 use Rattle.std.specs.Option.{option_eq}
 use Rattle.std.specs.Cmp.Lexicographic.{pointwise}

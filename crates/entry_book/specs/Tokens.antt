@@ -1,4 +1,5 @@
--- What a book stores for a batch that was committed with a token. A stored batch is the record of the crate's own type `KeptBatch`.
+-- What a book stores for a batch that was committed with a token. A stored batch is the record of the crate's own type
+-- `KeptBatch`.
 use Rattle.entry_book.specs.declared.kept.KeptBatch.{KeptBatch}
 use Rattle.entry_book.specs.Rows.{Bytes}
 

@@ -190,8 +190,8 @@ LaterBatchWaits = replies_from first_books (record (worked_batch (Authorised age
 abbrev pub with_token : List Op → Batch
 with_token ops = record (worked_batch ops) { token = Some (worked_uuid 9) }
 
--- The agent is set with a token, and dropped. Setting it again with this token gets the first reply, and it stays dropped. Another batch
--- with the token is refused.
+-- The agent is set with a token, and dropped. Setting it again with this token gets the first reply, and it stays dropped.
+-- Another batch with the token is refused.
 abbrev pub TokenKeepsReplies : Type 0
 TokenKeepsReplies = replies_from first_books (with_token (SetAgent plain_agent ∷ []) ∷ worked_batch (DropAgent agent_id ∷ []) ∷ with_token (SetAgent plain_agent ∷ []) ∷ with_token (SetAgent (agent (x2 ∷ [])) ∷ []) ∷ worked_batch (ShowAgent agent_id ∷ []) ∷ []) ≡ committed 1 (replied.Agent plain_agent) ∷ committed 2 (replied.Agent plain_agent) ∷ record { place = 1; outcome = Repeated (replied.Agent plain_agent ∷ []) } ∷ record { place = 2; outcome = Refused TokenReused } ∷ worked_answer 2 (replied.AgentShown None) ∷ []
 

@@ -63,6 +63,7 @@ impl DomainSet {
         self.domains.len()
     }
 
+    /// Returns true if the set is empty.
     pub fn is_empty(&self) -> bool
         ensures { result ≡ (length self.now == 0) }
     {

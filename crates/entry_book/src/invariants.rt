@@ -1,5 +1,5 @@
-//! Which type invariants do the operations of a batch and its token have? For the prover: these functions have no effect, and their
-//! contracts bring the invariants into a proof.
+//! Which type invariants do the operations of a batch and its token have? For the prover: these functions have no effect,
+//! and their contracts bring the invariants into a proof.
 
 ghost use Rattle.std.specs.Prelude.{◌≡◌, IfSome, length};
 ghost use Rattle.std.specs.List.{AllByRecursion};

@@ -15,7 +15,7 @@
 //! - [`Entry`], [`Agent`], [`Bundle`], [`KeptBatch`]: the rows. Cloning a row copies no text.
 //! - [`Shared`], [`Sequence`], [`Text`], [`DomainSet`]: what rows consist of. Contracts see them as a value, a list,
 //!   bytes and a set.
-//! - [`both`], [`pair_with`]: pairs of values, where each, or the second, may have failed for lack of memory.
+//! - [`both`], [`pair_with`]: pairs of values, where making each of them, or only the second, may have run out of memory.
 //! - [`is_server`]: whether an ID is that of a trust domain's server; [`limit_passed`]: the limit that a book passes, if any.
 //! - [`laws`]: theorems about every book, such as that each reachable book is lawful.
 //!

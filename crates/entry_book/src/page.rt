@@ -137,7 +137,8 @@ impl Clone for Filter {
 pub struct PageQuery {
     /// The maximum number of entries that it lists, 1 to 500.
     pub size: u64,
-    /// The number of the book that it reads, one of the last 64; `None` for the last one, whatever its number.
+    /// The number of the book that it reads; `None` for the last one, whatever its number. If it isn't one of the last 64
+    /// books, the operation is refused `VersionGone`.
     pub at: Option<u64>,
     /// The id after which it begins; `None` to begin with the first entry.
     pub from: Option<Uuid>,

@@ -7,7 +7,7 @@ ghost use Rattle.std.specs.Prelude.{◌≡◌, IfOk, Ok};
 
 use std::alloc::AllocError;
 
-/// Returns both values if both are there; otherwise drops the one that is. The error is out of memory.
+/// Returns both values if both are there; otherwise drops the one that was made. The error is out of memory.
 pub fn both<A: Drop, B: Drop>(
     first: Result<A, AllocError>,
     second: Result<B, AllocError>,

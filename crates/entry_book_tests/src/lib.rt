@@ -2,8 +2,9 @@
 //!
 //! The crate has tests alone, over the public calls of `entry_book`:
 //!
-//! - `batches`: batches and their refusals; `pages`: those of pages; `kept`: what a batch carries besides its operations, and
-//!   when operations are the same; `rows`: what rows consist of; `limits`: when a limit is passed; `laws`: each theorem is called.
+//! - `batches`: batches and their refusals; `pages`: those of pages; `kept`: what a batch carries besides its operations,
+//!   and when operations are the same; `rows`: what rows consist of; `limits`: when a limit is passed; `laws`: each theorem
+//!   is called.
 //! - `making`: entries, and the parts of operations; `ops_of_text`: operations from the words of a text; `wanted`: assertions.
 //!
 //! `docs/GLOSSARY.md` explains the terms.

@@ -1,5 +1,5 @@
-//! Operations from the words of a text: first the kind, then the values that each of its kind has, then parts such as `hint=1`. An ID
-//! of `ex.org` is written as its path, and any other ID in full. `update1` expects revision 1.
+//! Operations from the words of a text: first the kind, then the values that each of its kind has, then parts such as
+//! `hint=1`. An ID of `ex.org` is written as its path, and any other ID in full. `update1` expects revision 1.
 
 use crate::making::{agent, domain, domains, id, new_entry, selectors, text, uuid};
 use entry_book::{
