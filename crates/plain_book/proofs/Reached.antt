@@ -21,8 +21,8 @@ reached s a (i ∷ is) e = reached s a is e || bytes_eq e.parent i
 abbrev pub new_children : Bytes → Agent → List Bytes → Bytes → List Entry → List Entry
 new_children s a is i es = filter (λ e. not (reached s a is e) && bytes_eq e.parent i) es
 
--- The invariant of the walk. Each identity visited is that of an entry in which a chain ends. Each waiting entry is reached. Each entry
--- reached is waiting, or its identity is visited.
+-- The invariant of the walk. Each identity visited is that of an entry in which a chain ends. Each waiting entry is
+-- reached. Each entry reached is waiting, or its identity is visited.
 pub record Walked (s : Bytes) (a : Agent) (es : List Entry) (is : List Bytes) (waiting : List Entry) : Type 0 where
   pub known : (i : Bytes) → Within is i → (c : Entry) × Within es c × (c.identity ≡ i) × (ends_within s a es (length es) c ≡ true)
   pub inside : (c : Entry) → Within waiting c → Within es c × (reached s a is c ≡ true)
@@ -129,7 +129,8 @@ module _ (s : Bytes) (a : Agent) (es : List Entry) (order : Ascending entry_key 
       ap (filter (is_missing first)) o ∙ (ap (λ l. filter (is_missing l) (filter (λ e. bytes_eq e.parent a.id) es)) f ∙ new_found (holds s a) (λ e. bytes_eq e.parent a.id) es order) in
       subst (Walked s a es []) (sym (w ∙ (ap (λ l. l ++ filter (is_missing first) own) all_new ∙ ap (λ l. filter (holds s a) es ++ l) others))) (at_start s a es)
 
-  -- One iteration: the children of the entry c are put among those found, and those not found before are appended to the waiting ones.
+  -- One iteration: the children of the entry c are put among those found, and those not found before are appended to the
+  -- waiting ones.
   pub record Turn (is : List Bytes) (i : Bytes) (c : Entry) (children old new before after : List Entry) : Type 0 where
     pub identity : i ≡ c.identity
     pub read : children ≡ filter (λ e. bytes_eq e.parent i) es

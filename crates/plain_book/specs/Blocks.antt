@@ -23,15 +23,15 @@ abbrev pub begins_behind : {X : Type 0} → (X → Bytes) → Bytes → List X �
 begins_behind key k [] = false
 begins_behind key k (x ∷ xs) = is_before k (key x)
 
--- The index n is at most the number of blocks. The block before it, if there is one, doesn't begin after the key. The block at it,
--- if there is one, does.
+-- The index n is at most the number of blocks. The block before it, if there is one, doesn't begin after the key. The block
+-- at it, if there is one, does.
 pub record IsBlockRank {X : Type 0} (key : X → Bytes) (k : Bytes) (blocks : List (List X)) (n : ℕ) : Type 0 where
   pub inside : n ≤ length blocks
   pub before : 0 < n → HoldsAt (λ block. begins_behind key k block ≡ false) blocks (n - 1)
   pub behind : n < length blocks → HoldsAt (λ block. begins_behind key k block ≡ true) blocks n
 
--- The rows of the blocks are those of `before`, then these, then those of `behind`. Those of `before` are below the key, and those
--- of `behind` are above it. `before` and `behind` consist of blocks, and these rows are at most 256.
+-- The rows of the blocks are those of `before`, then those in `rows`, then those of `behind`. Those of `before` are below
+-- the key, and those of `behind` are above it. `before` and `behind` consist of blocks, and `rows` has at most 256.
 pub record IsCut {X : Type 0} (key : X → Bytes) (k : Bytes) (blocks before : List (List X)) (rows : List X) (behind : List (List X)) : Type 0 where
   pub whole : joined blocks ≡ joined before ++ (rows ++ joined behind)
   pub below : AllByRecursion (λ x. is_before (key x) k ≡ true) (joined before)

@@ -1,5 +1,6 @@
--- What the code returns for an operation, the run of a batch, and its verdict. For the first two it is the defined result, with the book
--- after the writes instead of the writes. For the third it is the defined verdict. For this crate's own contracts.
+-- What the code returns for an operation, the run of a batch, and its verdict. For the first two it is the defined result,
+-- with the book after the writes instead of the writes. For the third it is the defined verdict. For this crate's own
+-- contracts.
 use Rattle.std.specs.Prelude.{Bool, true, false, ℕ, ◌+◌, List, ◌++◌, Result, Ok, Err}
 use Rattle.entry_book.specs.declared.reply.OpReply.{OpReply}
 use Rattle.entry_book.specs.declared.reply.OpRefusal.{OpRefusal}
@@ -15,6 +16,7 @@ use Rattle.entry_book.specs.Limits.{limit_passed}
 use Rattle.entry_book.specs.Batches.{Batch}
 use Rattle.entry_book.specs.History.{Verdict, refuses, answers, adds, repeats, adds_within, token_writes}
 
+-- the result of an operation, with the book after its writes instead of the writes
 abbrev pub performed : OpResult → Book → Result (OpReply × Book) OpRefusal
 performed (Ok d) b = Ok (d.reply, after d.writes b)
 performed (Err r) b = Err r
@@ -24,10 +26,12 @@ abbrev pub resumed : ℕ → List OpReply → Book → RunResult → BatchRun
 resumed n replies b (Ok t) = Accepted (replies ++ t.replies) (after t.writes b)
 resumed n replies b (Err s) = RefusedAt (n + s.op) s.reason
 
+-- the result of a run, with the book after its writes instead of the writes
 abbrev pub ran : Book → RunResult → BatchRun
 ran b (Ok t) = Accepted t.replies (after t.writes b)
 ran b (Err s) = RefusedAt s.op s.reason
 
+-- the verdict of the code, as the verdict of the definitions
 abbrev pub verdict_model : CodeVerdict → Verdict
 verdict_model (Refuses r) = refuses r
 verdict_model (Answers replies) = answers replies

@@ -4,9 +4,11 @@ use Rattle.plain_book.specs.declared.siblings.Siblings.{Siblings}
 use Rattle.entry_book.specs.Rows.{Bytes, Entry, entry_key}
 use Rattle.entry_book.specs.Order.{Ascending, first, with_row}
 
+-- the key of a row of the list: the parent
 abbrev pub parent_key : Siblings → Bytes
 parent_key s = s.parent
 
+-- the entries of such a row; none if there is no row
 abbrev pub entries_of : Option Siblings → List Entry
 entries_of None = []
 entries_of (Some s) = s.entries

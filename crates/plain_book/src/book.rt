@@ -162,7 +162,7 @@ impl Book {
         Ok((Sequence::of(found), next))
     }
 
-    /// Returns the entries that an agent may hand out in the book of this trust domain, in the order of their ids.
+    /// Returns the authorised entries of an agent in the book of this trust domain, in the order of their ids.
     #[tactic(auto, unfolding(entry_book::specs::Authorised::authorised))]
     pub(crate) fn authorised(
         &self,

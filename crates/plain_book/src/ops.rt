@@ -1,4 +1,7 @@
 //! What does one operation reply, and how does it change the book?
+//!
+//! Each operation has a file of its own in `ops/`. Its function says when the operation is refused; the outer error is out of
+//! memory. The book is never changed in place: the result has the book after the operation.
 
 ghost use Rattle.std.specs.Prelude.{◌≡◌, IfOk};
 ghost use Rattle.entry_book.specs.Lawful.{CanGrow};

@@ -129,8 +129,8 @@ fn all_of<T: BookRow>(alloc: Global, blocks: &[Block<T>]) -> Result<Vec<T>, Allo
     Ok(all)
 }
 
-/// Returns the list in which these rows replace those at the cut. The list before has `count` rows. The error is out of memory, or
-/// a number of rows above `usize::MAX`.
+/// Returns the list in which these rows replace those at the cut. The list before has `count` rows. The error is out of
+/// memory, or a number of rows above `usize::MAX`.
 fn changed<T: Drop>(
     alloc: Global,
     count: usize,

@@ -1,4 +1,4 @@
-//! Which entries may an agent hand out?
+//! Which entries is an agent authorised for?
 //!
 //! Those reached from the agent: first the entries that start a chain, then, for each entry reached, the children of its
 //! identity. An entry that was found before is not visited again, so the walk ends even if parents form a cycle. Let n be

@@ -2,9 +2,10 @@
 //!
 //! The crate has tests alone, over the public calls of `plain_book`:
 //!
-//! - `random`: random requests over a few names. Each resulting book is lawful. The authorised entries of each agent, and each page
-//!   of it or of an earlier book, are what a search finds: `rows` reads and checks all rows of a book, `search` finds chains by their
-//!   length, and `requests` draws the requests and says which of them are early, repeated or too late.
+//! - `random`: random requests over a few names. Each resulting book is lawful. The authorised entries of each agent, and
+//!   each page of it or of an earlier book, are what a search finds: `rows` reads and checks all rows of a book, `search`
+//!   finds chains by their length, and `requests` draws the requests and says which of them are early, repeated or too
+//!   late.
 //! - `worked`: what a small book replies, batch after batch; `past`: pages of earlier books, and batches with a minimum place;
 //!   `tokens`: batches with a token. Each test is a script, which `playing` runs.
 //! - `large`: what a book of over five hundred entries replies.

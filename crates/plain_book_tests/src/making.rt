@@ -1,5 +1,6 @@
-//! Batches from texts as in `test_batches`. What those cannot express follows `with` in a line: the two lifetimes of an entry, the
-//! revision that an update or a delete expects, and the filter of a page. IDs in such a line are written as their paths.
+//! Batches from texts as in `test_batches`. What those cannot express follows `with` in a line: the two lifetimes of an
+//! entry, the revision that an update or a delete expects, and the filter of a page. IDs in such a line are written as
+//! their paths.
 
 use entry_book::{
     Batch, DomainSet, Filter, MatchMode, NewEntry, Op, PageQuery, SelectorMatch, Sequence, Shared,

@@ -1,5 +1,5 @@
-//! Pages of a book of random entries: page after page, for any filter and size, they list what a search over the entries finds. The
-//! search knows the entries by the words that created them.
+//! Pages of a book of random entries: page after page, for any filter and size, they list what a search over the entries
+//! finds. The search knows the entries by the words that created them.
 
 use crate::draws::drawn;
 use crate::playing::{as_text, first_book, plays_on};

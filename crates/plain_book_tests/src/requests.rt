@@ -8,9 +8,9 @@ use std::test::Fail;
 use test_batches::below;
 use test_support::{add, one};
 
-/// `<changes>` are one to three changes, in one of four cases with a final query for an agent's authorised entries. `<questions>` are
-/// one to three queries. `<from>` is what follows the number of the book in a page. Each part of a filter is given in half of the
-/// cases.
+/// `<changes>` are one to three changes, in one of four cases with a final query for an agent's authorised entries.
+/// `<questions>` are one to three queries. `<from>` is what follows the number of the book in a page. Each part of a filter
+/// is given in half of the cases.
 const GRAMMAR: &str = "\
 <changes>: <change> <end> | <change> ; <change> <end> | <change> ; <change> ; <change> <end>
 <end>: ; authorised <agent> | | |

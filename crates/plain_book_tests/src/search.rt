@@ -88,7 +88,8 @@ fn next_level(rows: &BookRows, level: u64) -> u64 {
     next
 }
 
-/// These entries, and those in which a chain ends that continues from one of them; no chain longer than the number of entries is needed.
+/// These entries, and those in which a chain ends that continues from one of them; no chain longer than the number of
+/// entries is needed.
 fn reached(rows: &BookRows, level: u64) -> u64 {
     let mut level = level;
     let mut all = level;

@@ -1,4 +1,4 @@
-//! `authorised`: returns the entries that an agent may hand out.
+//! `authorised`: returns the authorised entries of an agent.
 
 ghost use Rattle.std.specs.Prelude.{◌≡◌, IfOk, []};
 ghost use Rattle.spiffe_name.specs.Id.{server_text};

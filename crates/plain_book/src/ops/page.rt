@@ -9,7 +9,7 @@ use crate::book::Book;
 use entry_book::{OpRefusal, OpReply, PageQuery, pair_with};
 use std::alloc::{AllocError, Global};
 
-/// Never refused.
+/// Never refused. A page of a book that isn't stored is refused before, in `verdict_on`.
 pub(crate) fn page(
     alloc: Global,
     query: &PageQuery,

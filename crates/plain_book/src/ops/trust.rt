@@ -1,4 +1,4 @@
-//! `trust`: returns the bundles of the domains that are named by the entries that an agent may hand out.
+//! `trust`: returns the bundles of the domains that the authorised entries of an agent name.
 
 ghost use Rattle.std.specs.Prelude.{◌≡◌, IfOk, []};
 ghost use Rattle.spiffe_name.specs.Id.{server_text};
