@@ -83,7 +83,7 @@ length-map : {X Y : Type 0} (f : X → Y) (xs : List X) → length (map f xs) �
 length-map f [] = refl
 length-map f (x ∷ xs) = let rest = length-map f xs in omega (arith, rest)
 
--- ---- the rows of a version without one, and with another
+-- ---- the rows of a version after one is removed, and after another is put
 
 module _ (k : Bytes) (rows : List (CommittedRow Entry)) where
   rows_without : map row_of (with_row (of_row entry_key) k None rows) ≡ with_row entry_key k None (map row_of rows)

@@ -13,22 +13,26 @@ use Rattle.version_book.specs.declared.mark.MarkKind.{MarkKind}
 use Rattle.version_book.specs.declared.committed_row.CommittedRow.{CommittedRow}
 use Rattle.version_book.specs.Marks.{names_entry, names_agent, names_bundle, names_token}
 
+-- the row without its number
 abbrev pub row_of : {X : Type 0} → CommittedRow X → X
 row_of r = r.row
 
+-- the row, last written by commit n
 abbrev pub numbered : {X : Type 0} → ℕ → X → CommittedRow X
 numbered n x = record { row = x; commit = n }
 
--- a function of a row, as a function of the row with its number
+-- applies a function to the row of a row with its number
 abbrev pub of_row : {X Y : Type 0} → (X → Y) → CommittedRow X → Y
 of_row f r = f r.row
 
+-- The four sets of rows of a version, each row with the number of the commit that last wrote it.
 pub record CommittedRows : Type 0 where
   pub entries : List (CommittedRow Entry)
   pub agents : List (CommittedRow Agent)
   pub bundles : List (CommittedRow Bundle)
   pub tokens : List (CommittedRow KeptBatch)
 
+-- the rows of the first version
 abbrev pub no_rows : CommittedRows
 no_rows = record { entries = []; agents = []; bundles = []; tokens = [] }
 

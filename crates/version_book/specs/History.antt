@@ -15,6 +15,7 @@ use Rattle.version_book.specs.CommittedRows.{VersionState, book_of, next_state}
 
 -- ---- one batch
 
+-- the writes of a batch that adds book n and whose operations have this result
 abbrev pub writes_in : Batch → ℕ → RunResult → List RowWrite
 writes_in batch n (Ok t) = batch_writes batch n t
 writes_in batch n (Err s) = []

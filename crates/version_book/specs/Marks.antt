@@ -11,6 +11,7 @@ use Rattle.version_book.specs.declared.mark.MarkKind.TheVariants as mark
 
 -- ---- which rows a mark names
 
+-- whether the mark names the entry
 abbrev pub names_entry : MarkKind → Entry → Bool
 names_entry (mark.Entry id) e = bytes_eq e.id id
 names_entry (mark.Group parent identity) e = in_group parent identity e
@@ -20,10 +21,12 @@ names_entry (mark.Expiring moment) e = expires_before moment e
 names_entry mark.All e = true
 names_entry m e = false
 
+-- whether the mark names the agent
 abbrev pub names_agent : MarkKind → Agent → Bool
 names_agent (mark.Agent id) a = bytes_eq a.id id
 names_agent m a = false
 
+-- whether the mark names the bundle
 abbrev pub names_bundle : MarkKind → Bundle → Bool
 names_bundle (mark.Bundle domain) d = bytes_eq d.domain domain
 names_bundle m d = false
@@ -33,6 +36,7 @@ abbrev pub is_of_token : Bytes → MarkKind → Bool
 is_of_token k (mark.Token token) = bytes_eq k token
 is_of_token k m = false
 
+-- whether the mark names the stored batch
 abbrev pub names_token : MarkKind → KeptBatch → Bool
 names_token m k = is_of_token k.token m
 
@@ -46,6 +50,7 @@ Agree b c m = reads m b ≡ reads m c
 
 -- ---- which writes hit a mark
 
+-- there is a row, and it passes the test
 abbrev pub passes_if_some : {X : Type 0} → (X → Bool) → Option X → Bool
 passes_if_some p None = false
 passes_if_some p (Some x) = p x
@@ -65,13 +70,16 @@ hits (wrote_token c) m = passes_if_some (names_token m) c.old || passes_if_some 
 
 -- ---- the part of a write that a mark sees
 
+-- the row, if there is one and it passes the test
 abbrev pub kept_if : {X : Type 0} → (X → Bool) → Option X → Option X
 kept_if p None = None
 kept_if p (Some x) = if p x then Some x else None
 
+-- the change, with the old and the new row only if they pass the test
 abbrev pub seen_change : {X : Type 0} → (X → Bool) → RowChange X → RowChange X
 seen_change p c = record { key = c.key; old = kept_if p c.old; new = kept_if p c.new }
 
+-- the write, with the old and the new row only if the mark names them
 abbrev pub seen : MarkKind → RowWrite → RowWrite
 seen m (wrote_entry c) = wrote_entry (seen_change (names_entry m) c)
 seen m (wrote_agent c) = wrote_agent (seen_change (names_agent m) c)

@@ -21,6 +21,7 @@ by_bytes bytes shelf = map (λ row. (bytes row.0, row.1)) shelf
 abbrev pub stamp : {K : Type 0} → K × CommittedRow Entry → Bytes × ℕ
 stamp row = (row.1.row.id, row.1.commit)
 
+-- the stamps of the rows of a range
 abbrev pub stamps : {K : Type 0} → List (K × CommittedRow Entry) → List (Bytes × ℕ)
 stamps rows = map stamp rows
 
@@ -44,6 +45,7 @@ shelf_after cmp key (Some value) shelf = with_key cmp shelf key value
 abbrev pub IdentifyRows : {X : Type 0} → (X → Bytes) → List (CommittedRow X) → List (CommittedRow X) → Type 0
 IdentifyRows key older newer = (r s : _) → Within older r → Within newer s → key r.row ≡ key s.row → r.commit ≡ s.commit → r ≡ s
 
+-- In all four sets, an older and a newer row with the same key and the same number are equal.
 pub record NumbersIdentify (older newer : CommittedRows) : Type 0 where
   pub entries : IdentifyRows entry_key older.entries newer.entries
   pub agents : IdentifyRows agent_key older.agents newer.agents

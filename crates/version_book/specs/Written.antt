@@ -24,12 +24,15 @@ HasOwnKey (wrote_token c) = IfSome c.new (λ kept. token_key kept ≡ c.key)
 
 -- ---- setting the number of the book that a batch adds as the place of its stored batch
 
+-- the stored batch with this place
 abbrev pub at_place : ℕ → KeptBatch → KeptBatch
 at_place n k = record k { place = n }
 
+-- the write; if it is that of a token, with this place
 abbrev pub placed_write : ℕ → BookWrite → BookWrite
 placed_write n (wrote_token c) = wrote_token (record c { new = option_map (at_place n) c.new })
 placed_write n w = w
 
+-- the writes, with this place in that of a token
 abbrev pub placed : ℕ → List BookWrite → List BookWrite
 placed n writes = map (placed_write n) writes

@@ -1,4 +1,4 @@
-//! A borrowed row.
+//! Rows that are borrowed from a version.
 
 ghost use Rattle.std.specs.Prelude.{◌≡◌, IfOk};
 ghost use Rattle.version_shelf.specs.Shelf.{ClonesEqual};
@@ -7,7 +7,7 @@ use std::alloc::{AllocError, Global};
 use std::cmp::Ordering;
 use std::marker::Model;
 
-/// A borrowed value: to make one or to pass it on doesn't change a reference count. The model in contracts is the value itself.
+/// A borrowed value. Making one and passing it on change no reference count. The model in contracts is the value itself.
 #[derive(Drop)]
 pub struct Borrowed<'a, T: 'a> {
     value: &'a T,
@@ -37,7 +37,7 @@ impl<'a, T: 'a> Borrowed<'a, T> {
     }
 }
 
-/// Two are equal if their values are.
+/// Two borrowed values are equal if the values are.
 impl<'a, T: PartialEq + 'a> PartialEq for Borrowed<'a, T> {
     ghost eq = { T.eq };
 
@@ -62,7 +62,7 @@ impl<'a, T: PartialOrd + 'a> PartialOrd for Borrowed<'a, T> {
     }
 }
 
-/// They are ordered as their values are.
+/// Borrowed values are ordered as the values are.
 impl<'a, T: Ord + 'a> Ord for Borrowed<'a, T> {
     ghost cmp = { T.cmp };
 

@@ -12,8 +12,11 @@ use uuid::Uuid;
 /// The change of one row: its key, the row that was found there, and the row that is written. Either row may be absent.
 #[derive(Drop)]
 pub struct RowChange<K, T> {
+    /// The row's key.
     pub key: K,
+    /// The row that was found; `None` if the row is added.
     pub old: Option<T>,
+    /// The row that is written; `None` if the row is removed.
     pub new: Option<T>,
 }
 
@@ -21,6 +24,7 @@ pub struct RowChange<K, T> {
 /// the version that takes the write sets its own number.
 #[derive(Drop)]
 pub struct TokenWrite {
+    /// The token, which is the key of the stored batch.
     pub token: Uuid,
     /// The batch's operations, in order.
     pub ops: Shared<Sequence<Op>>,
@@ -56,9 +60,13 @@ impl TokenWrite {
 /// The write of one row, of any kind.
 #[derive(Drop)]
 pub enum RowWrite {
+    /// The entry of an id.
     Entry(RowChange<Uuid, Entry>),
+    /// The agent of an ID.
     Agent(RowChange<Shared<SpiffeId>, Agent>),
+    /// The bundle of a trust domain.
     Bundle(RowChange<Shared<TrustDomain>, Bundle>),
+    /// The batch stored under a token.
     Token(TokenWrite),
 }
 
@@ -149,6 +157,7 @@ impl Changes {
         self.writes.len()
     }
 
+    /// Returns true if there are no writes.
     pub fn is_empty(&self) -> bool
         ensures { result ≡ (length self.now == 0) }
     {

@@ -128,7 +128,7 @@ impl Entries {
     ghost use Rattle.version_book.specs.Room.{count_of_names};
     ghost use Rattle.version_book.specs.Stores.{IsAbsent, IdentifyRows};
 
-    /// No entries. Allocates no memory.
+    /// Makes an empty set of entries. Allocates no memory.
     pub(crate) fn empty(alloc: Global) -> Entries
         ensures { result ≡ [] }
     {
@@ -199,7 +199,8 @@ impl Entries {
         }
     }
 
-    /// Returns the entries with this one in place of the one that has its id, which has the same keys. The error is out of memory.
+    /// Returns the entries with this one in place of the one that has its id, which has the same keys. The error is out of
+    /// memory.
     fn replaced(
         &self,
         alloc: Global,

@@ -9,7 +9,7 @@
 //! most 32 keys, and two searches find a range. A change of a shelf builds new nodes on the path from the root to the row. They
 //! have about 90 parts at 16,384 rows, and at most 1,024.
 //!
-//! | Call | Rows that it reads, besides those that a search compares | Reference counts that it increments | Memory that it allocates |
+//! | Call | Rows read, besides those that a search compares | Reference counts incremented | Memory allocated |
 //! |---|---|---|---|
 //! | `clone` | none | one, for all that the version has | none |
 //! | `number`, `domain`, `server`, `count`, `Changes::hits` | none | none | none |
@@ -18,8 +18,10 @@
 //! | `page` | from its start id to the one that shows that more follow | none | a list of those that it returns |
 //! | `unchanged` | those that the mark names, up to the first difference | none | none |
 //! | `read` | those that the mark names | those of these rows | two lists of them, and for sorting one |
-//! | `read_after` | as `read`, and for each change those that a search in the rows of the mark compares | those of these rows, and of each row that a change adds | as `read`, and room for added rows |
+//! | `read_after` | as `read`, and see below | as `read`, and of rows that changes add | as `read`, and room for added rows |
 //! | `apply` | none | see below | the new nodes, and a written row once for each of its keys |
+//!
+//! For each change, `read_after` also searches the rows of the mark for the change's row.
 //!
 //! For each key of a removed or written row, `apply` makes a search and builds new nodes. A row that replaces one with the same
 //! keys is put once under each of them; otherwise the old row is removed first. `apply` increments a reference count for each
@@ -39,8 +41,8 @@
 //! - [`laws`]: theorems about marks, writes and histories of versions, such as that a mark that no write hits reads the same.
 //!
 //! The definitions are in `specs/`. `Marks` defines what marks read and which writes hit them, `CommittedRows` the rows of
-//! versions, and `History` how versions follow one another. `Applying` defines which writes may be applied, `Room` what there
-//! has to be room for, and `Written` the writes of [`Changes`] with the places that are set in them. `Index`,
+//! versions, and `History` how versions follow one another. `Applying` defines which writes may be applied, `Room` how many
+//! rows a version may have, and `Written` the writes of [`Changes`] with the places that are set in them. `Index`,
 //! `Stores` and `RowPlaces` are for this crate's own contracts. No other crate depends on how the rows are stored:
 //!
 //! - `store`: the sets of rows of a version; `entries` and `row_shelf`: the shelves of a set; `index` and `key`: how an index

@@ -223,8 +223,8 @@ fn put_token(tokens: &mut Vec<KeptBatch>, mark: &Mark, write: &TokenWrite) -> Re
     put_named(tokens, mark, key, &change.new)
 }
 
-/// Puts what the mark names of one more write, whose new row has the key of the write, into what it read. The error is out of
-/// memory.
+/// Returns what the mark reads after one more write, given what it read before. The new row must have the key of the write. The
+/// error is out of memory.
 fn put_write(reading: RowsRead, mark: &Mark, write: &RowWrite) -> Result<RowsRead, AllocError>
     requires order { AscendingBook reading }
     requires keyed { HasOwnKey (write_of write.now) }
@@ -273,8 +273,8 @@ fn has_own_key(write: &RowWrite) -> bool
 }
 
 /// Returns what the mark reads after these changes, given what it reads before them, in order. A write that the mark doesn't see
-/// costs a search in the rows that were read. A write whose new row has another key than the write can put the rows out of order:
-/// from the first one on, each write is made in new lists. The error is out of memory.
+/// costs a search in the rows that were read. A write whose new row has another key than the write can put the rows out of order.
+/// That write and all later ones are made in new lists. The error is out of memory.
 pub(crate) fn after_changes(
     alloc: Global,
     reading: RowsRead,

@@ -41,7 +41,7 @@ impl<K: Ord + Clone + Drop, T: KeyedRow<K> + Clone> RowShelf<K, T> {
     ghost use Rattle.version_book.specs.Stores.{IdentifyRows};
     ghost use Rattle.version_shelf.specs.Shelf.{ClonesEqual, most_rows};
 
-    /// No rows. Allocates no memory.
+    /// Makes an empty set. Allocates no memory.
     pub(crate) fn empty(alloc: Global) -> RowShelf<K, T>
         ensures { result ≡ [] }
     {

@@ -53,7 +53,7 @@ impl Store {
     ghost use Rattle.version_book.specs.declared.changes.RowWrite.TheVariants as write;
     ghost use Rattle.version_book.specs.Written.{placed, placed_write, write_of};
 
-    /// No rows. Allocates no memory.
+    /// Makes a store without rows. Allocates no memory.
     pub(crate) fn empty(alloc: Global) -> Store
         ensures { result ≡ no_rows }
     {
@@ -97,7 +97,7 @@ impl Store {
         self.tokens.len()
     }
 
-    /// Makes a store of the four sets. It fails if making one of them failed.
+    /// Makes a store of the four sets. The error is out of memory, if making one of them failed.
     fn of(
         entries: Result<Entries, AllocError>,
         agents: Result<RowShelf<Shared<SpiffeId>, Agent>, AllocError>,

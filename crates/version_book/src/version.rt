@@ -18,9 +18,13 @@ use uuid::Uuid;
 /// The number of rows of each kind in a version.
 #[derive(Clone, Copy, PartialEq, Eq)]
 pub struct RowCounts {
+    /// The entries.
     pub entries: usize,
+    /// The agents.
     pub agents: usize,
+    /// The bundles.
     pub bundles: usize,
+    /// The batches stored under tokens.
     pub tokens: usize,
 }
 

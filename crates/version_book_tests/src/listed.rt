@@ -3,8 +3,8 @@
 use std::alloc::{AllocError, Global};
 use std::test::Fail;
 
-/// All rows of a book, in the order of their lines, so that entries are in the order of their numbers, 1 to 6. The many stored tokens
-/// are in a list of their own.
+/// All rows of a book, in the order of their lines, so that entries are in the order of their numbers, 1 to 6. The many
+/// stored tokens are in a list of their own.
 #[derive(Drop)]
 pub struct Listed {
     rows: Vec<String>,

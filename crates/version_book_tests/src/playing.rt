@@ -292,8 +292,8 @@ fn plays_lines(
     Ok(())
 }
 
-/// Plays a table. A line has a question, `=>`, and the expected answer; each other line that isn't empty is the batch that leads to
-/// the next version.
+/// Plays a table. A line has a question, `=>`, and the expected answer; each other line that isn't empty is the batch that
+/// leads to the next version.
 pub fn plays(rt: &impl Abort, alloc: Global, table: &str) -> Result<(), Fail> {
     let mut steps = first_step(alloc)?;
     let played = plays_lines(rt, alloc, &mut steps, table);

@@ -153,7 +153,8 @@ fn has_come(alloc: Global, steps: &[Step], line: &str) -> Result<bool, Fail> {
     Ok(false)
 }
 
-/// Asserts that every operation occurred alone and wrote something, and that each mode of dropping a bundle that affects users had some.
+/// Asserts that every operation occurred alone and wrote something, and that each mode of dropping a bundle that affects
+/// users had some.
 fn every_operation_came(rt: &impl Abort, alloc: Global, steps: &[Step]) -> Result<(), Fail> {
     for line in COMING.lines() {
         holds(rt, has_come(alloc, steps, line)?, line);
@@ -294,8 +295,8 @@ equal though changed
 other rows
 ";
 
-/// The outcome for a mark between two versions: whether the writes between them hit it, whether the newer one reports it unchanged,
-/// and whether both read the same.
+/// The outcome for a mark between two versions: whether the writes between them hit it, whether the newer one reports it
+/// unchanged, and whether both read the same.
 fn outcome(is_hit: bool, is_unchanged: bool, is_equal: bool) -> &'static str {
     if !is_hit {
         "not hit"
@@ -407,7 +408,8 @@ fn both(middle: &Changes, newer: &Changes) -> Result<Changes, AllocError> {
     where_done(appended, changes)
 }
 
-/// Asserts that a mark read through writes gives what a newer version gives. Places of newer commits aren't known yet and read as 0.
+/// Asserts that a mark read through writes gives what a newer version gives. Places of newer commits aren't known yet and
+/// read as 0.
 fn reads_through(
     rt: &impl Abort,
     alloc: Global,
@@ -421,8 +423,8 @@ fn reads_through(
     Ok(())
 }
 
-/// Asserts that each mark reads rightly through the writes of the last two of three versions, and that they hit it exactly if those of
-/// one of the two do. Returns the number of marks that they hit.
+/// Asserts that each mark reads rightly through the writes of the last two of three versions, and that they hit it exactly
+/// if those of one of the two do. Returns the number of marks that they hit.
 fn hits_of(
     rt: &impl Abort,
     alloc: Global,

@@ -1,6 +1,6 @@
-//! Rows as text. A line of a reading looks like ` 1.0|/a /x 10 u:1 d1`: the row in short form, and after the bar the other fields to
-//! compare. A line of writes looks like `|entry 1|all|group /a /x|children /a|users d1| => 1.0|/a /x 10 u:1 d1`. It begins with the
-//! marks that name the row, between bars; the first of them names it alone.
+//! Rows as text. A line of a reading looks like ` 1.0|/a /x 10 u:1 d1`: the row in short form, and after the bar the other
+//! fields to compare. A line of writes looks like `|entry 1|all|group /a /x|children /a|users d1| => 1.0|/a /x 10 u:1 d1`.
+//! It begins with the marks that name the row, between bars; the first of them names it alone.
 
 use entry_book::{Agent, Bundle, Entry, Filter, KeptBatch, PageQuery, Shared};
 use spiffe_name::{SelectorSet, SpiffeId};
