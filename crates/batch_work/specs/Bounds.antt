@@ -18,9 +18,11 @@ identity_put (Create e) = e.identity ∷ []
 identity_put (Update e expected) = e.identity ∷ []
 identity_put op = []
 
+-- the identities that these operations put
 abbrev pub identities_put : List Op → List Bytes
 identities_put ops = flat_map identity_put ops
 
+-- the identities of the book's entries
 abbrev pub identities_of : Book → List Bytes
 identities_of b = map (λ e. e.identity) b.entries
 
@@ -28,6 +30,7 @@ identities_of b = map (λ e. e.identity) b.entries
 abbrev pub count_of_identities : List Op → Book → ℕ
 count_of_identities ops b = length (text_set (identities_of b ++ identities_put ops))
 
+-- whether the operation sets a bundle
 abbrev pub sets_bundle : Op → Bool
 sets_bundle (SetBundle d text) = true
 sets_bundle op = false

@@ -33,25 +33,31 @@ text_set (x ∷ xs) = with_row (λ t. t) x (Some x) (text_set xs)
 -- ---- an entry that is put: its group; if no entry there is similar, the bundles of its domains, up to the first that is
 -- missing
 
+-- the bundles of these domains, up to the first that is missing
 abbrev pub bundle_marks : List Bytes → Book → List MarkKind
 bundle_marks [] b = []
 bundle_marks (d ∷ ds) b = mark.Bundle d ∷ (if is_some (bundle_at d b) then bundle_marks ds b else [])
 
+-- after the group was read: nothing if this other entry is similar, and otherwise the bundles
 abbrev pub marks_unless_similar : Option Entry → Entry → Book → List MarkKind
 marks_unless_similar (Some o) e b = []
 marks_unless_similar None e b = bundle_marks e.domains b
 
+-- the reads of an entry that is put
 abbrev pub put_marks : Entry → Book → List MarkKind
 put_marks e b = mark.Group e.parent e.identity ∷ marks_unless_similar (similar e b) e b
 
+-- after the read of the new entry's id
 abbrev pub create_marks : Option Entry → Entry → Book → List MarkKind
 create_marks (Some o) e b = []
 create_marks None e b = put_marks e b
 
+-- the flag is true if another revision is expected than that of the entry
 abbrev pub update_marks_when : Bool → Entry → Book → List MarkKind
 update_marks_when true e b = []
 update_marks_when false e b = put_marks e b
 
+-- after the read of the entry
 abbrev pub update_marks : Option Entry → NewEntry → Option ℕ → Book → List MarkKind
 update_marks None e expected b = []
 update_marks (Some old) e expected b = update_marks_when (is_stale expected old) (at_revision (old.revision + 1) e) b
@@ -73,6 +79,7 @@ is_one_of x xs = list_any (λ y. bytes_eq y x) xs
 abbrev pub unread : Agent → List Bytes → List Entry → List Bytes
 unread a read es = text_set (filter (λ i. not (is_one_of i (a.id ∷ read))) (map (λ e. e.identity) es))
 
+-- this identity, if there is one, and then what f gives for it
 abbrev pub least_then : Option Bytes → (Bytes → List Bytes) → List Bytes
 least_then None f = []
 least_then (Some i) f = i ∷ f i
@@ -83,9 +90,11 @@ abbrev pub walk : ℕ → Bytes → Agent → List Bytes → Book → List Bytes
 walk zero server a read b = []
 walk (suc n) server a read b = least_then (first (unread a read (found server a read b))) (λ i. walk n server a (i ∷ read) b)
 
+-- the reads of the walk
 abbrev pub walk_marks : Bytes → Agent → Book → List MarkKind
 walk_marks server a b = mark.Children server ∷ mark.Children a.id ∷ map mark.Children (walk (length b.entries) server a [] b)
 
+-- after the read of the agent, which the book may lack
 abbrev pub for_agent_marks : Option Agent → (Agent → List MarkKind) → List MarkKind
 for_agent_marks None f = []
 for_agent_marks (Some a) f = f a
@@ -94,17 +103,20 @@ for_agent_marks (Some a) f = f a
 abbrev pub domains_of : List Entry → List Bytes
 domains_of es = text_set (flat_map (λ e. e.domains) es)
 
+-- the reads of the walk, and then the bundles of the domains that the authorised entries name
 abbrev pub trust_marks : Bytes → Agent → Book → List MarkKind
 trust_marks server a b = walk_marks server a b ++ map mark.Bundle (domains_of (authorised server a b))
 
 -- ---- a bundle that is dropped: if it is there, its users
 
+-- after the read of the bundle
 abbrev pub drop_marks : Option Bundle → Bytes → List MarkKind
 drop_marks None domain = []
 drop_marks (Some d) domain = mark.Users domain ∷ []
 
 -- ---- the table
 
+-- the reads of an operation, for the server's trust domain, on the book that it finds
 abbrev pub marks_of : Bytes → Op → Book → List MarkKind
 marks_of own_domain (Create e) b = mark.Entry e.id ∷ create_marks (entry_at e.id b) (at_revision 0 e) b
 marks_of own_domain (Update e expected) b = mark.Entry e.id ∷ update_marks (entry_at e.id b) e expected b
@@ -125,10 +137,12 @@ marks_of own_domain (DropBundle d mode) b = mark.Bundle d ∷ drop_marks (bundle
 -- ---- the reads of operations on a book: those of each on the book that the earlier ones left, up to the first refusal; what
 -- is read twice is listed twice
 
+-- the reads after an operation with this result: none if it is refused
 abbrev pub marks_after : OpResult → (OpEffect → List MarkKind) → List MarkKind
 marks_after (Err r) f = []
 marks_after (Ok d) f = f d
 
+-- the reads of these operations, beginning on this book
 abbrev pub marks_of_ops : Bytes → List Op → Book → List MarkKind
 marks_of_ops own_domain [] b = []
 marks_of_ops own_domain (op ∷ ops) b = marks_of own_domain op b ++ marks_after (op_of own_domain op b) (λ d. marks_of_ops own_domain ops (after d.writes b))
@@ -183,8 +197,10 @@ verdict_in batch place (runs b) = verdict_run batch place b
 
 -- ---- the same, for a batch on the list of all books
 
+-- the footprint of a batch on these books
 abbrev pub footprint_of : Batch → List Book → List MarkKind
 footprint_of batch books = footprint_in batch (case_of batch books)
 
+-- whether a batch on these books has changes that await their commit
 abbrev pub awaits_commit : Batch → List Book → Bool
 awaits_commit batch books = awaits_in batch (case_of batch books)

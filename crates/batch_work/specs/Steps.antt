@@ -1,4 +1,5 @@
--- An operation in steps: which mark each phase reads, and what follows from the rows read. For this crate's own contracts.
+-- An operation in steps: which mark each phase reads, and what follows from the rows read. The functions
+-- `.._next` give what comes next: another read, the end, or a refusal. For this crate's own contracts.
 use Rattle.std.specs.Prelude.{◌≡◌, ℕ, ◌+◌, Bool, true, false, not, ◌&&◌, List, [], ◌∷◌, ◌++◌, filter, map, Option, Some, None, Err, is_some, bytes_eq, slice_get}
 use Rattle.spiffe_name.specs.SelectorSet.{set_eq}
 use Rattle.entry_book.specs.declared.agent.Agent.{Agent}
@@ -31,6 +32,7 @@ use Rattle.batch_work.specs.WalkStates.{WalkState, first_walk, walked}
 
 -- ---- the mark that is read next
 
+-- the first mark that an operation reads
 abbrev pub first_mark : Op → MarkKind
 first_mark (Create e) = mark.Entry e.id
 first_mark (Update e expected) = mark.Entry e.id
@@ -48,6 +50,7 @@ first_mark (DropAgent k) = mark.Agent k
 first_mark (SetBundle d text) = mark.Bundle d
 first_mark (DropBundle d m) = mark.Bundle d
 
+-- the mark that an operation reads at this phase
 abbrev pub mark_of : Bytes → Op → Phase → MarkKind
 mark_of server op phase.First = first_mark op
 mark_of server op (phase.Group old e) = mark.Group e.parent e.identity
@@ -144,6 +147,7 @@ walk_next ask w = identity_next w.waiting ask w
 
 -- ---- what comes after a read
 
+-- what comes after the first read of an operation, which found these rows
 abbrev pub first_next : Op → Book → Next
 first_next (Create e) r = create_next (first r.entries) e
 first_next (Update e expected) r = update_next (first r.entries) e expected
@@ -161,6 +165,7 @@ first_next (DropAgent k) r = for_agent_next (first r.agents) (λ a. Ends (replie
 first_next (SetBundle d text) r = bundle_put_next d text (first r.bundles)
 first_next (DropBundle d m) r = drop_next (first r.bundles) d m
 
+-- what comes after the read of a phase, which found these rows
 abbrev pub advance : Bytes → Op → Phase → Book → Next
 advance server op phase.First r = first_next op r
 advance server op (phase.Group old e) r = unless_similar_next (similar_in e r.entries) old e
@@ -171,13 +176,14 @@ advance server op (phase.OfAgent ask w) r = walk_next ask (walked r.entries w)
 advance server op (phase.Identity ask w i) r = walk_next ask (walked r.entries w)
 advance server op (phase.Trusted d ds n bs) r = trusted_next ds n (bs ++ r.bundles)
 
--- ---- from a phase on, on a book: the marks that are read, and the result of the operation
+-- ---- all reads from a phase to the end of the operation, on a book, and its result
 
 abbrev pub ContinuesWith : Next → List MarkKind → OpResult → (Phase → Type 0) → Type 0
 ContinuesWith (Continues q) ms o f = f q
 ContinuesWith (Ends r ws) ms o f = (ms ≡ []) × (o ≡ done r ws)
 ContinuesWith (Refused r) ms o f = (ms ≡ []) × (o ≡ Err r)
 
+-- the operation, from this phase on, reads these marks on the book, and has this result
 abbrev pub Plays : Bytes → Op → Phase → Book → List MarkKind → OpResult → Type 0
 Plays server op p b [] o = ⊥
 Plays server op p b (m ∷ ms) o = (m ≡ mark_of server op p) × ContinuesWith (advance server op p (reads (mark_of server op p) b)) ms o (λ q. Plays server op q b ms o)

@@ -14,6 +14,7 @@ pub record WalkState : Type 0 where
   pub waiting : List Bytes
   pub found : List Entry
 
+-- the walk before its first entry
 abbrev pub first_walk : Agent → WalkState
 first_walk a = record { agent = a; met = a.id ∷ []; waiting = []; found = [] }
 
@@ -26,6 +27,7 @@ abbrev pub met_when : Bool → Bytes → List Bytes → List Bytes
 met_when true x set = set
 met_when false x set = with_text x set
 
+-- the walk with one more entry among those found
 abbrev pub with_found : Entry → WalkState → WalkState
 with_found e w = record w { met = met_when (is_one_of e.identity w.met) e.identity w.met; waiting = met_when (is_one_of e.identity w.met) e.identity w.waiting; found = with_row entry_key e.id (Some e) w.found }
 
@@ -39,5 +41,6 @@ abbrev pub is_empty : List Bytes → Bool
 is_empty [] = true
 is_empty (x ∷ xs) = false
 
+-- the walk has no identity left to read
 abbrev pub is_walk_over : WalkState → Bool
 is_walk_over w = is_empty w.waiting

@@ -40,7 +40,8 @@ pub record IsNextIdentity (server : Bytes) (a : Agent) (b : Book) (read : List B
   pub unread : IsUnread server a b read i
   pub least : (j : Bytes) → IsUnread server a b read j → (i ≡ j) ⊎ (is_before i j ≡ true)
 
--- These are the identities whose children are read, after those of the server and of the agent: those of the authorised entries other than the agent's own ID, each once, and at each point the least that is known.
+-- These are the identities whose children are read, after those of the server and of the agent: those of the authorised
+-- entries other than the agent's own ID, each once, and at each point the least that is known.
 pub record IsWalk (server : Bytes) (a : Agent) (b : Book) (read : List Bytes) : Type 0 where
   pub members : (i : Bytes) → Within read i ↔ (IsAuthorised server a b i × (i ≢ a.id))
   pub once : EachOnce read
@@ -63,6 +64,7 @@ TrustedAsSaid = (server : Bytes) (a : Agent) (b : Book) → AreTrusted server a 
 
 -- ---- the reads of the two operations
 
+-- the reads of an agent's walk: the children of the server, of the agent, and of these identities
 abbrev pub children_read : Bytes → Agent → List Bytes → List MarkKind
 children_read server a read = mark.Children server ∷ mark.Children a.id ∷ map mark.Children read
 

@@ -10,6 +10,7 @@ pub record Window : Type 0 where
   pub older : List VersionState
   pub newest : VersionState
 
+-- all versions of the window, oldest first
 abbrev pub versions : Window → List VersionState
 versions w = w.older ++ w.newest ∷ []
 
@@ -43,6 +44,7 @@ Counted (s ∷ ss) = ComesNext s ss × Counted ss
 
 -- ---- in relation to the list of all books
 
+-- the book of a version
 abbrev pub book_in : VersionState → Book
 book_in s = book_of s.rows
 

@@ -34,7 +34,7 @@ use Rattle.batch_work.specs.Working.{Base, version_read, footprint_there, awaits
 abbrev pub base_of : Begun → Base
 base_of begun = record { newest = begun.newest; earlier = begun.earlier }
 
--- the result of a run that goes on after n operations with these replies and writes
+-- the result of a run that continues after n operations with these replies and writes
 abbrev pub going_on : List OpReply → List RowWrite → ℕ → RunResult → RunResult
 going_on replies writes n (Ok t) = Ok (record { replies = replies ++ t.replies; writes = writes ++ t.writes })
 going_on replies writes n (Err s) = Err (record { op = n + s.op; reason = s.reason })

@@ -20,10 +20,12 @@ pub record Base : Type 0 where
   pub newest : VersionState
   pub earlier : Option VersionState
 
+-- the version of the earlier book that a batch asks for, if it asks for one and the window has it
 abbrev pub earlier_in : Option ℕ → Window → Option VersionState
 earlier_in None w = None
 earlier_in (Some n) w = version_at n w
 
+-- what the work of a batch begins on, in a window
 abbrev pub base_in : Batch → Window → Base
 base_in batch w = record { newest = w.newest; earlier = earlier_in (past_place batch.ops) w }
 
@@ -32,22 +34,27 @@ abbrev pub version_read : Option ℕ → Base → Option VersionState
 version_read None base = Some base.newest
 version_read (Some n) base = base.earlier
 
+-- The batch of the work, what it began on, if it has begun, and the number of reads that it has made.
 pub record Work : Type 0 where
   pub batch : Batch
   pub base : Option Base
   pub steps : ℕ
 
--- ---- the reads of a batch on what it began on, and its outcome there
+-- ---- the reads of a batch on what its work began on, and its outcome there
 
+-- the book that the batch reads there, if it is there
 abbrev pub book_read : Batch → Base → Option Book
 book_read batch base = option_map book_in (version_read (past_place batch.ops) base)
 
+-- the case that the batch meets there
 abbrev pub case_there : Batch → Base → Case
 case_there batch base = case_at batch base.newest.number (book_read batch base)
 
+-- the footprint of the batch there
 abbrev pub footprint_there : Batch → Base → List MarkKind
 footprint_there batch base = footprint_in batch (case_there batch base)
 
+-- whether the batch has changes there that await their commit
 abbrev pub awaits_there : Batch → Base → Bool
 awaits_there batch base = awaits_in batch (case_there batch base)
 
@@ -61,6 +68,7 @@ abbrev pub end_status : Bool → Status
 end_status true = Ready
 end_status false = Settled
 
+-- the status after n reads
 abbrev pub status_on : Batch → Base → ℕ → Status
 status_on batch base n = if nat_lt n (length (footprint_there batch base)) then Running else end_status (awaits_there batch base)
 
@@ -68,6 +76,7 @@ abbrev pub status_from : Option Base → Batch → ℕ → Status
 status_from None batch n = New
 status_from (Some base) batch n = status_on batch base n
 
+-- the status of the work
 abbrev pub status_of : Work → Status
 status_of w = status_from w.base w.batch w.steps
 
@@ -109,10 +118,11 @@ abbrev pub IsAcceptedOn : Option Base → Batch → List OpReply → List RowWri
 IsAcceptedOn None batch replies writes = ⊥
 IsAcceptedOn (Some base) batch replies writes = IsAccepted batch (book_in base.newest) replies writes
 
--- the replies, and the writes, of a ready work
+-- the replies of a ready work
 abbrev pub HasReplies : Work → List OpReply → Type 0
 HasReplies w replies = (writes : List RowWrite) × IsAcceptedOn w.base w.batch replies writes
 
+-- the writes of a ready work
 abbrev pub HasWrites : Work → List RowWrite → Type 0
 HasWrites w writes = (replies : List OpReply) × IsAcceptedOn w.base w.batch replies writes
 

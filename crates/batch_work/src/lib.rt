@@ -13,8 +13,8 @@
 //!   [`BorrowedOpReply`] for each operation, which has its [`BorrowedRows`].
 //! - [`Window`]: the newest version of one history and up to 63 before it. A batch reads the newest one, or the one of the
 //!   earlier book that its page names.
-//! - [`laws`]: theorems. What is read decides the outcome of a batch; its outcome at a commit; the number of its reads, and
-//!   which they are; how a window represents the list of all books.
+//! - [`laws`]: theorems. They state that what a batch reads decides its outcome, and what its outcome at a commit is; how many
+//!   reads it makes, and which; and how a window represents the list of all books.
 //!
 //! The definitions are in `specs/`: `Reads` has the table of reads, the cases that a batch can meet, and its footprint in each;
 //! `Working` has what a work is, `Windows` what a window is, and `BorrowedReplies` the replies of borrowed rows. `Laws`, `Bounds`

@@ -19,8 +19,8 @@ struct Pairs {
     different: u64,
 }
 
-/// Returns true if the run depends on the book alone, and not on the place, as a minimum place that isn't reached does, and a page of an
-/// earlier book.
+/// Returns true if the run depends on the book alone, and not on the place, as a minimum place that isn't reached does, and
+/// a page of an earlier book.
 fn is_of_book(work: &Work, place: u64) -> bool {
     work.batch().past_place().is_none() && work.batch().after() <= place
 }
@@ -48,7 +48,8 @@ fn is_spared(work: &Work, other: &Work, place: u64) -> bool {
     is_of_book(work, place) && are_spared(work.marks(), other.changes())
 }
 
-/// Runs another batch on the version of a work, and commits it if it is ready. Returns true if it hits nothing that the work read.
+/// Runs another batch on the version of a work, and commits it if it is ready. Returns true if it hits nothing that the
+/// work read.
 fn commits_elsewhere(
     alloc: Global,
     window: &mut Window,

@@ -1,5 +1,5 @@
-//! The expected reads of a random batch, computed over plain rows that are kept along with the history: operation by operation, each
-//! on the rows that the earlier ones left, up to the first refusal.
+//! The expected reads of a random batch, computed over plain rows that are kept along with the history: operation by
+//! operation, each on the rows that the earlier ones left, up to the first refusal.
 
 use crate::plain_rows::{
     DOMAINS, IDS, PlainEntry, PlainRows, delete_users, domain_place, entry_number, entry_of,

@@ -2,10 +2,10 @@
 //!
 //! The crate has tests alone, over the public calls of `batch_work`:
 //!
-//! - `windows`: which versions a window has; `worked`: the marks and the outcomes of works on small books, as tables. `playing` plays a
-//!   table.
-//! - `random`: long histories of random batches, compared with the plain book. Their reads are compared with those that `footprints`
-//!   computes over `plain_rows`.
+//! - `windows`: which versions a window has; `worked`: the marks and the outcomes of works on small books, as tables.
+//!   `playing` plays a table.
+//! - `random`: long histories of random batches, compared with the plain book. Their reads are compared with those that
+//!   `footprints` computes over `plain_rows`.
 //! - `elsewhere`: random batches on pairs of books.
 //! - `running`: a work to its end, with its marks as text, and its commit. `details` writes the whole outcome.
 //! - `wanted`: assertions.

@@ -121,10 +121,10 @@ fn plays_line(rt: &impl Abort, alloc: Global, window: &mut Window, line: &str) -
     Ok(())
 }
 
-/// Plays a table on the window. A line has a question, ` => `, and the expected answer: `READS` gives the marks that a batch reads,
-/// `COMES` its outcome, and `VERSIONS` the versions that the window returns for a range of numbers. `AGAIN` and a number run a batch
-/// that many times, and any other line that isn't empty is a batch to run. Each of these must become ready, and leads to the next
-/// version.
+/// Plays a table on the window. A line has a question, ` => `, and the expected answer: `READS` gives the marks that a
+/// batch reads, `COMES` its outcome, and `VERSIONS` the versions that the window returns for a range of numbers. `AGAIN`
+/// and a number run a batch that many times, and any other line that isn't empty is a batch to run. Each of these must
+/// become ready, and leads to the next version.
 pub fn plays_on(
     rt: &impl Abort,
     alloc: Global,

@@ -50,7 +50,7 @@ VERSIONS 0 3 => 1 2 3 newest 64
 VERSIONS 63 66 => 63 64 newest 64
 ";
 
-/// A window with 64 versions goes on, and a copy of it stays as it was.
+/// Continues a window that has 64 versions, and asserts that a copy of it stays as it was.
 fn play_both(
     rt: &impl Abort,
     alloc: Global,
