@@ -1,4 +1,4 @@
-//! Did a batch since a work's begin write what the work has read?
+//! Did a batch that was committed since a work began write what the work has read?
 
 ghost use Rattle.std.specs.Prelude.{◌≡◌, IfSome, List, false, true};
 ghost use Rattle.std.specs.List.{AllByRecursion, list_any};
@@ -54,8 +54,8 @@ fn items_since<'a>(kept: &'a [Item], newest: &Version, older: &Version) -> Optio
     Some(&kept[kept.len() - commits as usize..])
 }
 
-/// Returns true if a batch since the older version wrote what these marks read. If at most 63 commits were made since and their
-/// items are retained, it checks their writes; otherwise it compares the rows of both versions.
+/// Returns true if a batch that was committed since the older version wrote what these marks read. If these are at most 63
+/// commits whose items are retained, it checks their writes; otherwise it compares the rows of both versions.
 pub(crate) fn is_conflict(kept: &[Item], newest: &Version, older: &Version, marks: &[Mark]) -> bool
     ensures agree { (items : List JournalItem) → Leads older.now items newest.now → Agrees items kept.now → result ≡ false
         → AllByRecursion (Agree (book_of older.now.rows) (book_of newest.now.rows)) marks.now }

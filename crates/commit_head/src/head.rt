@@ -53,8 +53,8 @@ fn move_last(from: &mut Vec<Item>, to: &mut Vec<Item>)
     to.reverse();
 }
 
-/// Moves all items but the last 64 to an empty list, which has room for 64. The lists change places, and the last items move
-/// back, so that the number of the others doesn't matter.
+/// Moves all items but the last 64 to an empty list, which has room for 64. Swaps the two lists, and moves the last items
+/// back. So it moves at most 64 items, however many there are.
 fn move_older(items: &mut Vec<Item>, older: &mut Vec<Item>)
     requires empty { older.old.items ≡ [] }
     requires room { 64 ≤ vec_capacity older.old }
@@ -72,10 +72,11 @@ fn move_older(items: &mut Vec<Item>, older: &mut Vec<Item>)
 /// The only place where the book changes. It has the window on which works begin, and the journal (commit log): one item for
 /// each commit, of which a checkpoint drops all but the last 64.
 ///
-/// A reader gets a clone of the window, and begins on it without the head. A writer first prepares a commit, which checks what
-/// the work has read and allocates all memory, and then finishes it, which allocates none. If the items since the work's begin
-/// are at most 63 and retained, the check looks at their writes. Otherwise it compares the rows of both versions at each mark.
-/// A commit costs this check and the version's `apply`. The caller ensures that no seat commits a call twice.
+/// A reader gets a clone of the window, and begins on it without the head. A writer first prepares a commit, which checks
+/// what the work has read and allocates all memory, and then finishes it, which allocates none. If at most 63 items were
+/// added since the work began, and all are retained, the check looks at their writes. Otherwise it compares the rows of
+/// both versions at each mark. A commit costs this check and the version's `apply`. The caller ensures that no seat commits
+/// a call twice.
 #[derive(Drop)]
 pub struct Head {
     window: Window,

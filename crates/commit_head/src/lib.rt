@@ -10,8 +10,8 @@
 //! - [`Commit`]: the outcome of a commit. [`Prepared`]: a commit that has passed its checks and needs no more memory, so that
 //!   it can be published before it is finished. [`Window`]: the newest version of a head and up to 63 before it; it is a type of
 //!   `batch_work`, re-exported here.
-//! - [`laws`]: theorems. What a head's journal implies for its versions and the specification; what the outcome of a commit
-//!   means; the version on which a work began remains one of the head's history.
+//! - [`laws`]: theorems. They state what a head's journal implies for its versions and the specification, and what the outcome
+//!   of a commit means; and that the version on which a work began remains one of the head's history.
 //!
 //! The definitions are in `specs/`. `Journals` defines items and where they lead, `Heads` what a head is and what a commit does
 //! to it. `Outcomes` says what the outcome means in terms of the specification, and `Laws` has the theorems. No other crate

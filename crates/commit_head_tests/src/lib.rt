@@ -2,8 +2,8 @@
 //!
 //! The crate has tests alone, over the public calls of `commit_head`:
 //!
-//! - `worked`: small histories, as tables. `playing` plays a table on a `test_head`: a head, and the works that wait for their commits.
-//!   `telling` writes commits and items as text.
+//! - `worked`: small histories, as tables. `playing` plays a table on a `test_head`: a head, and the works that wait for
+//!   their commits. `telling` writes commits and items as text.
 //! - `random`: a long history of random batches, compared with the plain book.
 //! - `wanted`: assertions.
 //!

@@ -149,11 +149,11 @@ fn plays_line(
     Ok(())
 }
 
-/// Plays a table, beginning with the empty book. `BEGIN` begins a work, which waits after the others. A line with a question has
-/// ` => ` and the expected answer: `COMMIT` and `COMMIT-IN-TWO`, with an index from 0 among the waiting works, a seat and a call,
-/// commit this work and remove it from the waiting ones; `ITEM` gives an item of the journal, `HEAD` the place, the journal and the
-/// window, `CHECKPOINT` the number of dropped items. `AGAIN` and a number begin and commit a batch that many times. Any other line
-/// that isn't empty is a batch to begin and commit immediately.
+/// Plays a table, beginning with the empty book. `BEGIN` begins a work, which waits after the others. A line with a
+/// question has ` => ` and the expected answer: `COMMIT` and `COMMIT-IN-TWO`, with an index from 0 among the waiting works,
+/// a seat and a call, commit this work and remove it from the waiting ones; `ITEM` gives an item of the journal, `HEAD` the
+/// place, the journal and the window, `CHECKPOINT` the number of dropped items. `AGAIN` and a number begin and commit a
+/// batch that many times. Any other line that isn't empty is a batch to begin and commit immediately.
 pub fn plays(rt: &impl Abort, alloc: Global, table: &str) -> Result<(), Fail> {
     let mut test_head = first_test_head(alloc)?;
     for line in table.lines() {

@@ -1,5 +1,5 @@
-//! Random batches, many of which are in flight together: what commits is what the plain book commits, and what is refused was hit by
-//! a later commit.
+//! Random batches, many of which are in flight together: what commits is what the plain book commits, and what is refused
+//! was hit by a later commit.
 
 ghost use Rattle.std.specs.Prelude.{◌≡◌};
 
@@ -108,8 +108,8 @@ fn base_number(work: &Work) -> Result<u64, Fail> {
     }
 }
 
-/// Returns true if at most 63 batches were committed between the work's begin and the book of this number. Then asserts that it is a
-/// conflict exactly if one of them wrote what the work has read.
+/// Returns true if at most 63 batches were committed between the work's begin and the book of this number. Then asserts
+/// that it is a conflict exactly if one of them wrote what the work has read.
 fn is_due(
     rt: &impl Abort,
     head: &Head,

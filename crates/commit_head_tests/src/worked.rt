@@ -124,8 +124,8 @@ COMMIT 0 1 4 => conflict at 193
 HEAD => place 193 kept 193 newest 193
 ";
 
-/// An entry of the group is created and deleted in the first two of up to 65 commits. Up to 63 commits are checked by their writes,
-/// more by comparing the rows.
+/// An entry of the group is created and deleted in the first two of up to 65 commits. Up to 63 commits are checked by their
+/// writes, more by comparing the rows.
 const CAME_AND_WENT: &str = "
 BEGIN create 1 n1 /web x:1 0
 create 11 n1 /web x:11 0
