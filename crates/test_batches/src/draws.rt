@@ -53,7 +53,7 @@ const QUESTIONS: [&str; 8] = [
     "trust",
 ];
 
-/// Returns a pseudo-random number below a bound.
+/// Returns a pseudo-random number below a bound, and advances the state.
 pub fn below(state: &mut u64, bound: u64) -> usize
     requires { 0 < bound }
     ensures { result < bound }
@@ -64,7 +64,7 @@ pub fn below(state: &mut u64, bound: u64) -> usize
     ((*state >> 33) % bound) as usize
 }
 
-/// A random operation of this kind on an entry.
+/// Returns a random operation of this kind on an entry.
 fn entry_line(alloc: Global, state: &mut u64, kind: &str) -> Result<String, Failed> {
     let (number, parent) = (NUMBERS[below(state, 6)], PARENTS[below(state, 5)]);
     let (identity, selectors) = (IDENTITIES[below(state, 3)], SELECTORS[below(state, 4)]);
@@ -79,7 +79,7 @@ fn is_of_one_entry(kind: &str) -> bool {
     )
 }
 
-/// A random page of the newest book.
+/// Returns a random page of the newest book.
 fn page_line(alloc: Global, state: &mut u64) -> Result<String, Failed> {
     let size = NUMBERS[below(state, 3)];
     if below(state, 2) == 0 {
@@ -89,7 +89,7 @@ fn page_line(alloc: Global, state: &mut u64) -> Result<String, Failed> {
     Ok(format!(in alloc; "page {size} - {from}")?)
 }
 
-/// The two words after the kind of a random operation that is neither on one entry nor a page.
+/// Returns the two words after the kind of a random operation that is neither on one entry nor a page.
 fn words_of(state: &mut u64, kind: &str) -> (&'static str, &'static str) {
     match kind {
         "set_agent" | "drop_agent" | "show_agent" | "authorised" | "trust" => (
@@ -103,7 +103,7 @@ fn words_of(state: &mut u64, kind: &str) -> (&'static str, &'static str) {
     }
 }
 
-/// A random operation of this kind.
+/// Returns a random operation of this kind.
 fn line_of(alloc: Global, state: &mut u64, kind: &str) -> Result<String, Failed> {
     if is_of_one_entry(kind) {
         return entry_line(alloc, state, kind);
@@ -147,14 +147,14 @@ fn add_lines(
     Ok(())
 }
 
-/// One to three queries.
+/// Returns one to three queries.
 fn questions(alloc: Global, state: &mut u64) -> Result<String, Failed> {
     let mut text = question(alloc, state)?;
     add_lines(alloc, state, &mut text, true, 3)?;
     Ok(text)
 }
 
-/// One to three changes, and up to two queries.
+/// Returns one to three changes, and up to two queries.
 fn changes(alloc: Global, state: &mut u64) -> Result<String, Failed> {
     let mut text = change(alloc, state)?;
     add_lines(alloc, state, &mut text, false, 3)?;
@@ -162,7 +162,7 @@ fn changes(alloc: Global, state: &mut u64) -> Result<String, Failed> {
     Ok(text)
 }
 
-/// Changes with a token.
+/// Returns changes with a token.
 fn with_token(alloc: Global, state: &mut u64) -> Result<String, Failed> {
     let token = below(state, 200);
     let changes = changes(alloc, state)?;
@@ -170,14 +170,14 @@ fn with_token(alloc: Global, state: &mut u64) -> Result<String, Failed> {
     Ok(format!(in alloc; "token {token}; {text}")?)
 }
 
-/// A batch of changes with one of a few tokens, so that it is likely to be repeated.
+/// Returns a batch of changes with one of a few tokens, so that it is likely to be repeated.
 fn repeated(alloc: Global, state: &mut u64) -> Result<String, Failed> {
     let token = below(state, 20);
     let agent = AGENTS[below(state, 2)];
     Ok(format!(in alloc; "token {token}; set_agent {agent} x:1")?)
 }
 
-/// A page of one of up to 67 books before this place, of this place, or of the next two.
+/// Returns a page of one of up to 67 books before this place, of this place, or of the next two.
 fn past_page(alloc: Global, state: &mut u64, place: u64) -> Result<String, Failed> {
     let size = NUMBERS[below(state, 6)];
     let back = below(state, 70) as u64;
@@ -185,7 +185,7 @@ fn past_page(alloc: Global, state: &mut u64, place: u64) -> Result<String, Faile
     Ok(format!(in alloc; "page {size} {at} -")?)
 }
 
-/// Changes with this place or the next one as their minimum place.
+/// Returns changes with this place or the next one as their minimum place.
 fn later(alloc: Global, state: &mut u64, place: u64) -> Result<String, Failed> {
     let least = place.wrapping_add(below(state, 2) as u64);
     let changes = changes(alloc, state)?;
@@ -193,7 +193,7 @@ fn later(alloc: Global, state: &mut u64, place: u64) -> Result<String, Failed> {
     Ok(format!(in alloc; "after {least}; {text}")?)
 }
 
-/// A random batch for a book at this place.
+/// Returns a random batch for a book at this place.
 pub fn batch_text(alloc: Global, state: &mut u64, place: u64) -> Result<String, Failed> {
     match below(state, 16) {
         0 => past_page(alloc, state, place),

@@ -1,4 +1,4 @@
-//! Why is there no batch, or no text?
+//! Why can't a batch be made from a text, or a text from a reply?
 
 use spiffe_name::Failure;
 use std::alloc::{AllocError, AllocFailed};
@@ -7,6 +7,7 @@ use std::num::ParseIntError;
 /// The error of this crate: an invalid text, or out of memory.
 #[derive(Clone, Copy, Debug)]
 pub enum Failed {
+    /// Out of memory.
     NoMemory,
     /// The text is not a valid batch.
     NotRead,

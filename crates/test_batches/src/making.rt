@@ -8,6 +8,7 @@ use spiffe_name::{Selector, SelectorSet, SpiffeId, TrustDomain};
 use std::alloc::Global;
 use uuid::Uuid;
 
+/// Returns the words of a line, which spaces separate.
 pub fn words<'a>(alloc: Global, line: &'a str) -> Result<Vec<&'a str>, Failed> {
     let mut words = Vec::new(alloc);
     for word in line.split_whitespace() {
@@ -16,16 +17,17 @@ pub fn words<'a>(alloc: Global, line: &'a str) -> Result<Vec<&'a str>, Failed> {
     Ok(words)
 }
 
-/// The word at an index from 0; the empty word after the last one.
+/// Returns the word at an index from 0; the empty word after the last one.
 pub fn word<'a>(words: &[&'a str], index: usize) -> &'a str {
     words.get(index).copied().unwrap_or("")
 }
 
+/// Returns the number in the word at an index from 0.
 pub fn number(words: &[&str], index: usize) -> Result<u64, Failed> {
     Ok(word(words, index).parse::<u64>()?)
 }
 
-/// The number in a word, or none for `-`.
+/// Returns the number in a word, or none for `-`.
 fn given_number(words: &[&str], index: usize) -> Result<Option<u64>, Failed> {
     if word(words, index) == "-" {
         return Ok(None);
@@ -33,7 +35,7 @@ fn given_number(words: &[&str], index: usize) -> Result<Option<u64>, Failed> {
     Ok(Some(number(words, index)?))
 }
 
-/// The UUID whose last bytes are this number.
+/// Returns the UUID whose last bytes are this number.
 fn uuid(words: &[&str], index: usize) -> Result<Uuid, Failed> {
     Ok(Uuid::from_u64_pair(0, number(words, index)?))
 }
@@ -50,7 +52,7 @@ fn id(alloc: Global, word: &str) -> Result<Shared<SpiffeId>, Failed> {
     Ok(Shared::of(alloc, SpiffeId::parse(alloc, text.as_str())?)?)
 }
 
-/// The trust domain of a name. It has no contract, so that callers' proofs don't evaluate the grammar on a literal.
+/// Returns the trust domain of a name. It has no contract, so that callers' proofs don't evaluate the grammar on a literal.
 pub fn trust_domain(alloc: Global, name: &str) -> Result<TrustDomain, Failed> {
     Ok(TrustDomain::parse(alloc, name)?)
 }
@@ -59,7 +61,7 @@ fn domain(alloc: Global, name: &str) -> Result<Shared<TrustDomain>, Failed> {
     Ok(Shared::of(alloc, trust_domain(alloc, name)?)?)
 }
 
-/// The selectors in a word, which commas separate; none for `-`.
+/// Returns the selectors in a word, which commas separate; none for `-`.
 fn selectors(alloc: Global, word: &str) -> Result<Shared<SelectorSet>, Failed> {
     let spaced = word.replace(alloc, ",", " ")?;
     let mut selectors = Vec::new(alloc);
@@ -88,7 +90,8 @@ fn hint(alloc: Global, word: &str) -> Result<Shared<Text>, Failed> {
     Ok(Shared::of(alloc, Text::of(text))?)
 }
 
-/// An entry from its number, parent, identity, selectors, expiry and domains. Its hint and its lifetimes are derived from these.
+/// Returns an entry from its number, parent, identity, selectors, expiry and domains. Its hint and its lifetimes are
+/// derived from these.
 fn entry(alloc: Global, words: &[&str]) -> Result<Shared<NewEntry>, Failed> {
     let expiry = number(words, 5)?;
     let parent = id(alloc, word(words, 2))?;
@@ -110,7 +113,7 @@ fn entry(alloc: Global, words: &[&str]) -> Result<Shared<NewEntry>, Failed> {
     Ok(Shared::of(alloc, new)?)
 }
 
-/// An agent from its name and its selectors.
+/// Returns an agent from its name and its selectors.
 fn agent(alloc: Global, words: &[&str]) -> Result<Agent, Failed> {
     let selectors = selectors(alloc, word(words, 2))?;
     Ok(Agent {
@@ -119,7 +122,7 @@ fn agent(alloc: Global, words: &[&str]) -> Result<Agent, Failed> {
     })
 }
 
-/// A page from its size, the number of the book that it reads, and the number of the entry after which it begins.
+/// Returns a page from its size, the number of the book that it reads, and the number of the entry after which it begins.
 fn page(alloc: Global, words: &[&str]) -> Result<Op, Failed> {
     let filter = Filter {
         parent: None,
@@ -144,7 +147,7 @@ fn mode(word: &str) -> DropMode {
     }
 }
 
-/// The operation of a line. One whose name ends in 0 expects revision 0.
+/// Returns the operation of a line. One whose name ends in 0 expects revision 0.
 fn op(alloc: Global, words: &[&str]) -> Result<Op, Failed> {
     Ok(match word(words, 0) {
         "create" => Op::Create(entry(alloc, words)?),
@@ -183,7 +186,7 @@ fn op_of_id(id: Shared<SpiffeId>, kind: &str) -> Result<Op, Failed> {
     })
 }
 
-/// The number after this word, in the first line that begins with it.
+/// Returns the number after this word, in the first line that begins with it.
 pub fn number_behind(alloc: Global, lines: &str, first: &str) -> Result<Option<u64>, Failed> {
     for line in lines.lines() {
         let words = words(alloc, line)?;
@@ -194,7 +197,7 @@ pub fn number_behind(alloc: Global, lines: &str, first: &str) -> Result<Option<u
     Ok(None)
 }
 
-/// The operations of all lines that don't begin with `token` or `after`.
+/// Returns the operations of all lines that don't begin with `token` or `after`.
 fn ops_of(alloc: Global, lines: &str) -> Result<Sequence<Op>, Failed> {
     let mut ops = Sequence::empty(alloc);
     for line in lines.lines() {
@@ -205,8 +208,8 @@ fn ops_of(alloc: Global, lines: &str) -> Result<Sequence<Op>, Failed> {
     Ok(ops)
 }
 
-/// The batch of a text: its token, `token 7`, and its minimum place, `after 1`, if they are given, and its operations, which `; `
-/// separates.
+/// Returns the batch of a text: its token, `token 7`, and its minimum place, `after 1`, if they are given, and its
+/// operations, which `; ` separates.
 pub fn batch(alloc: Global, text: &str) -> Result<Batch, Failed> {
     let lines = text.replace(alloc, "; ", "\n")?;
     let token = number_behind(alloc, lines.as_str(), "token")?;

@@ -13,6 +13,7 @@ fn expiring_text(alloc: Global, moment: u64) -> Result<String, Failed> {
     Ok(format!(in alloc; "expiring {moment}")?)
 }
 
+/// Returns a mark as words, such as `group n1 /web`.
 pub fn mark_words(alloc: Global, mark: &Mark) -> Result<String, Failed> {
     match mark.kind() {
         MarkKind::Entry(id) => of_number(alloc, "entry", id),
@@ -29,7 +30,7 @@ pub fn mark_words(alloc: Global, mark: &Mark) -> Result<String, Failed> {
     }
 }
 
-/// Marks, separated by bars.
+/// Returns marks, separated by bars.
 pub fn marks_text(alloc: Global, marks: &[Mark]) -> Result<String, Failed> {
     let mut text = String::new(alloc);
     for mark in marks {

@@ -1,5 +1,5 @@
-//! Replies as text. An ID is written as its path, and that of an agent as its name alone. An entry is written as its number, a dot
-//! and its revision, followed by its domains.
+//! Replies as text. An ID is written as its path, and that of an agent as its name alone. An entry is written as its
+//! number, a dot and its revision, followed by its domains.
 
 use crate::failed::Failed;
 use entry_book::{Agent, Bundle, Entry, OpRefusal, OpReply, Refusal, Reply, ReplyOutcome};
@@ -7,12 +7,13 @@ use spiffe_name::SpiffeId;
 use std::alloc::Global;
 use uuid::Uuid;
 
-/// The number in the last two bytes of an id.
+/// Returns the number in the last two bytes of an id.
 fn number_of(id: &Uuid) -> u16 {
     let bytes = id.as_bytes();
     u16::from_be_bytes([bytes[14], bytes[15]])
 }
 
+/// Returns an agent's name, and of any other ID of `ex.org` the path.
 pub fn path<'a>(id: &'a SpiffeId) -> &'a str {
     let text = id.as_str();
     if let Some(name) = text.strip_prefix("spiffe://ex.org/spire/agent/") {
@@ -21,11 +22,13 @@ pub fn path<'a>(id: &'a SpiffeId) -> &'a str {
     text.strip_prefix("spiffe://ex.org").unwrap_or(text)
 }
 
+/// Returns the kind, and the number of an id.
 pub fn of_number(alloc: Global, kind: &str, id: &Uuid) -> Result<String, Failed> {
     let number = number_of(id);
     Ok(format!(in alloc; "{kind} {number}")?)
 }
 
+/// Returns the kind, and the text.
 pub fn of_text(alloc: Global, kind: &str, text: &str) -> Result<String, Failed> {
     Ok(format!(in alloc; "{kind} {text}")?)
 }
@@ -63,14 +66,14 @@ fn page_text(alloc: Global, entries: &[Entry], next: &Option<Uuid>) -> Result<St
     Ok(text)
 }
 
-/// An agent, as its name and the number of its selectors.
+/// Returns an agent, as its name and the number of its selectors.
 fn agent_text(alloc: Global, agent: &Agent) -> Result<String, Failed> {
     let name = path(agent.id.get());
     let count = agent.selectors.get().len();
     Ok(format!(in alloc; "agent {name} {count}")?)
 }
 
-/// A bundle, as its domain and its sequence.
+/// Returns a bundle, as its domain and its sequence.
 fn bundle_text(alloc: Global, bundle: &Bundle) -> Result<String, Failed> {
     let domain = bundle.domain.get().as_str();
     let sequence = bundle.sequence;
@@ -123,7 +126,7 @@ fn op_reply_text(alloc: Global, reply: &OpReply) -> Result<String, Failed> {
     }
 }
 
-/// The kind of a batch's outcome, and the replies to its operations, each after a semicolon.
+/// Returns the kind of a batch's outcome, and the replies to its operations, each after a semicolon.
 pub fn replies_text(alloc: Global, kind: &str, replies: &[OpReply]) -> Result<String, Failed> {
     let mut text = String::from_str(alloc, kind)?;
     for reply in replies {
@@ -133,12 +136,12 @@ pub fn replies_text(alloc: Global, kind: &str, replies: &[OpReply]) -> Result<St
     Ok(text)
 }
 
-/// The kind of an outcome, and its place.
+/// Returns the kind of an outcome, and its place.
 pub fn kind_at_place(alloc: Global, kind: &str, place: u64) -> Result<String, Failed> {
     Ok(format!(in alloc; "{kind} at {place}")?)
 }
 
-/// The kind of a batch's outcome, its place, and the replies to its operations.
+/// Returns the kind of a batch's outcome, its place, and the replies to its operations.
 pub fn accepted_text(
     alloc: Global,
     kind: &str,
@@ -149,7 +152,7 @@ pub fn accepted_text(
     replies_text(alloc, head.as_str(), replies)
 }
 
-/// The detail of an operation's refusal, if it has one.
+/// Returns the detail of an operation's refusal, if it has one.
 fn detail_text(alloc: Global, refusal: &OpRefusal) -> Result<String, Failed> {
     match refusal {
         OpRefusal::Similar(id) => of_number(alloc, " by", id),
@@ -169,8 +172,8 @@ fn refused_text(alloc: Global, place: u64, refusal: &Refusal) -> Result<String, 
     }
 }
 
-/// A batch's outcome, its place, and the replies to its operations; or the code of the refusal, with the index and the detail of an
-/// operation that is refused.
+/// Returns a batch's outcome, its place, and the replies to its operations; or the code of the refusal, with the index and
+/// the detail of an operation that is refused.
 pub fn outcome_text(alloc: Global, place: u64, outcome: &ReplyOutcome) -> Result<String, Failed> {
     match outcome {
         ReplyOutcome::Committed(replies) => {
@@ -186,6 +189,7 @@ pub fn outcome_text(alloc: Global, place: u64, outcome: &ReplyOutcome) -> Result
     }
 }
 
+/// Returns the outcome and the place of a reply, as `outcome_text`.
 pub fn reply_text(alloc: Global, reply: &Reply) -> Result<String, Failed> {
     outcome_text(alloc, reply.place, &reply.outcome)
 }

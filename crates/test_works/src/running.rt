@@ -31,7 +31,7 @@ pub fn may_begin(window: &Window, batch: &Batch) -> bool
     batch.domain() == window.newest().domain() && window.newest().number() <= MOST
 }
 
-/// A work of the batch, begun on the window.
+/// Returns a work of the batch, begun on the window.
 pub fn begun(alloc: Global, window: &Window, batch: Batch) -> Result<Work, Fail> {
     if !may_begin(window, &batch) {
         drop(batch);
@@ -42,7 +42,7 @@ pub fn begun(alloc: Global, window: &Window, batch: Batch) -> Result<Work, Fail>
     Ok(where_done(begun, work)?)
 }
 
-/// A work of the batch, begun on the version.
+/// Returns a work of the batch, begun on the version.
 fn begun_on_version(alloc: Global, version: &Version, batch: Batch) -> Result<Work, Fail> {
     let (batch, copy) = pair_with(batch, version.clone())?;
     let window = Window::of(copy);
@@ -61,7 +61,7 @@ fn run_to_end(work: &mut Work) -> Result<(), AllocError> {
     Ok(())
 }
 
-/// The work of the batch on the version, at its end.
+/// Returns the work of the batch on the version, at its end.
 pub fn ended(alloc: Global, version: &Version, batch: Batch) -> Result<Work, Fail> {
     let mut work = begun_on_version(alloc, version, batch)?;
     let ended = run_to_end(&mut work);
@@ -87,7 +87,7 @@ fn is_kept(version: &Version, token: Option<Uuid>) -> Result<bool, AllocError>
     }
 }
 
-/// The next version, with one retry if out of memory.
+/// Returns the next version, with one retry if out of memory.
 fn made(version: &Version, changes: &Changes, number: u64) -> Result<Version, AllocError>
     requires { MayApply (placed number changes.now) number version.now }
 {
@@ -118,7 +118,7 @@ fn applied(version: &Version, batch: &Batch, changes: &Changes) -> Result<Versio
     Ok(made(version, changes, number + 1)?)
 }
 
-/// The version after the batch of a work that is ready.
+/// Returns the version after the batch of a work that is ready.
 pub fn next_of(work: &Work) -> Result<Version, Fail>
     requires ready { status_of work.now ≡ status.Ready }
 {
