@@ -190,6 +190,7 @@ batch_refusal domain ops token =
 
 -- ---- the invariants of the types of an operation's parts
 
+-- The parts of a query for a page satisfy the invariants of their types.
 pub record IsProperPage (q : PageQuery) : Type 0 where
   pub from : IfSome q.from (λ k. length k ≡ 16)
   pub parent : IfSome q.filter.parent IsId

@@ -26,16 +26,19 @@ pub record AscendingBook (b : Book) : Type 0 where
 
 -- ---- what a book contains
 
+-- the book has an entry of this id
 abbrev pub HasEntry : Book → Bytes → Type 0
 HasEntry b k = (x : Entry) × Within b.entries x × (x.id ≡ k)
 
+-- the book has an agent of this ID
 abbrev pub HasAgent : Book → Bytes → Type 0
 HasAgent b k = (x : Agent) × Within b.agents x × (x.id ≡ k)
 
+-- the book has a bundle of this domain
 abbrev pub HasBundle : Book → Bytes → Type 0
 HasBundle b k = (x : Bundle) × Within b.bundles x × (x.domain ≡ k)
 
--- the row of a key, if there is one
+-- the row of a key, if there is one; likewise for the three other kinds below
 abbrev pub entry_at : Bytes → Book → Option Entry
 entry_at k b = first (filter (λ e. bytes_eq e.id k) b.entries)
 

@@ -40,10 +40,12 @@ pub record EntriesBecome (b c : Book) (Has : Entry → Type 0) : Type 0 where
   pub listed : IsListOf entry_key Has c.entries
   pub others : c ≡ record b { entries = c.entries }
 
+-- the same for agents
 pub record AgentsBecome (b c : Book) (Has : Agent → Type 0) : Type 0 where
   pub listed : IsListOf agent_key Has c.agents
   pub others : c ≡ record b { agents = c.agents }
 
+-- the same for bundles
 pub record BundlesBecome (b c : Book) (Has : Bundle → Type 0) : Type 0 where
   pub listed : IsListOf bundle_key Has c.bundles
   pub others : c ≡ record b { bundles = c.bundles }
@@ -81,6 +83,7 @@ pub record LacksBundle (e : NewEntry) (b : Book) (k : Bytes) : Type 0 where
   pub first : (before : List Bytes) × (later : List Bytes) × (e.domains ≡ before ++ k ∷ later) × AllByRecursion (HasBundle b) before
   pub none : HasBundle b k → ⊥
 
+-- when each refusal of a create is due
 abbrev pub CreateRefused : NewEntry → Book → OpRefusal → Type 0
 CreateRefused e b IdTaken = HasEntry b e.id
 CreateRefused e b (Similar k) = IsNew e b × IsSimilar e b k
@@ -112,6 +115,7 @@ pub record Updates (e : NewEntry) (expected : Option ℕ) (b : Book) (d : OpEffe
   pub reply : d.reply ≡ replied.Entry (at_revision (old.revision + 1) e)
   pub after_it : EntriesBecome b (after d.writes b) (λ x. (x ≡ at_revision (old.revision + 1) e) ⊎ (Within b.entries x × (x.id ≢ e.id)))
 
+-- when each refusal of an update is due
 abbrev pub UpdateRefused : NewEntry → Option ℕ → Book → OpRefusal → Type 0
 UpdateRefused e expected b NoEntry = HasEntry b e.id → ⊥
 UpdateRefused e expected b StaleRevision = IsStale e.id expected b
@@ -129,6 +133,7 @@ pub record Deletes (k : Bytes) (expected : Option ℕ) (b : Book) (d : OpEffect)
   pub reply : d.reply ≡ replied.Entry old
   pub after_it : EntriesBecome b (after d.writes b) (λ x. Within b.entries x × (x.id ≢ k))
 
+-- when each refusal of a delete is due
 abbrev pub DeleteRefused : Bytes → Option ℕ → Book → OpRefusal → Type 0
 DeleteRefused k expected b NoEntry = HasEntry b k → ⊥
 DeleteRefused k expected b StaleRevision = IsStale k expected b
@@ -161,6 +166,7 @@ LacksAgent k b _ = ⊥
 
 -- ---- children, authorised and trust; `server` is the ID of the book's server
 
+-- The operation replies with the entries of the parent.
 abbrev pub ListsChildren : Bytes → Book → OpEffect → Type 0
 ListsChildren p b d = Lists entry_key replied.Entries (λ x. Within b.entries x × (x.parent ≡ p)) d
 
@@ -259,16 +265,19 @@ pub record DropsDissociating (domain : Bytes) (b : Book) (d : OpEffect) : Type 0
   pub entries : IsListOf entry_key (λ y. (Within b.entries y × (Names domain y → ⊥)) ⊎ ((x : Entry) × Within b.entries x × Names domain x × IsFreed domain x y)) (after d.writes b).entries
   pub bundle : DropsOne domain b (after d.writes b)
 
+-- what a dropped bundle does in each mode
 abbrev pub DropsBundle : Bytes → DropMode → Book → OpEffect → Type 0
 DropsBundle domain mode.Restrict b d = DropsUnused domain b d
 DropsBundle domain mode.Delete b d = DropsDeleting domain b d
 DropsBundle domain mode.Dissociate b d = DropsDissociating domain b d
 
+-- the mode refuses to drop a bundle in use
 abbrev pub IsRestrict : DropMode → Type 0
 IsRestrict mode.Restrict = ⊤
 IsRestrict mode.Delete = ⊥
 IsRestrict mode.Dissociate = ⊥
 
+-- when each refusal of a dropped bundle is due
 abbrev pub DropBundleRefused : Bytes → DropMode → Book → OpRefusal → Type 0
 DropBundleRefused domain m b (NoBundle k) = (k ≡ domain) × (HasBundle b domain → ⊥)
 DropBundleRefused domain m b BundleInUse = IsRestrict m × HasBundle b domain × ((x : Entry) × Within b.entries x × Names domain x)

@@ -16,6 +16,7 @@ IsIdOf own_domain id = (segment : Bytes) × (more : List Bytes) × Spells id own
 abbrev pub IsAgentIdOf : Bytes → Bytes → Type 0
 IsAgentIdOf own_domain id = (segment : Bytes) × (more : List Bytes) × Spells id own_domain (codes "spire" ∷ codes "agent" ∷ segment ∷ more)
 
+-- An entry that a batch may create or update.
 pub record FaultlessEntry (own_domain : Bytes) (e : NewEntry) : Type 0 where
   pub parent : IsIdOf own_domain e.parent
   pub identity : IsIdOf own_domain e.identity
@@ -25,14 +26,17 @@ pub record FaultlessEntry (own_domain : Bytes) (e : NewEntry) : Type 0 where
   pub domains : length e.domains ≤ 8
   pub hint : length e.hint ≤ 1024
 
+-- An agent that a batch may set.
 pub record FaultlessAgent (own_domain : Bytes) (a : Agent) : Type 0 where
   pub id : IsAgentIdOf own_domain a.id
   pub selectors : length a.selectors ≤ 64
 
+-- A bundle that a batch may set: its domain and its text.
 pub record FaultlessBundle (own_domain domain text : Bytes) : Type 0 where
   pub not_own : domain ≢ own_domain
   pub short : length text ≤ 65536
 
+-- A query for a page that a batch may contain.
 pub record FaultlessPage (own_domain : Bytes) (q : PageQuery) : Type 0 where
   pub parent : IfSome q.filter.parent (IsIdOf own_domain)
   pub identity : IfSome q.filter.identity (IsIdOf own_domain)
@@ -40,6 +44,7 @@ pub record FaultlessPage (own_domain : Bytes) (q : PageQuery) : Type 0 where
   pub some_room : 0 < q.size
   pub size : q.size ≤ 500
 
+-- an operation that a batch may contain
 abbrev pub FaultlessOp : Bytes → Op → Type 0
 FaultlessOp own_domain (Create e) = FaultlessEntry own_domain e
 FaultlessOp own_domain (Update e expected) = FaultlessEntry own_domain e

@@ -61,11 +61,11 @@ EndsOfChains = (server : Bytes) (a : Agent) (b : Book) (e : Entry) → Within (a
 abbrev pub AuthorisedInOrder : Type 0
 AuthorisedInOrder = (server : Bytes) (a : Agent) (b : Book) → Ascending entry_key b.entries → Ascending entry_key (authorised server a b)
 
--- the book's aliases that the agent holds are among them, and so are its entries whose parent is the agent or the identity of one
--- of them
+-- the book's aliases that the agent holds are among them
 abbrev pub HeldIsAuthorised : Type 0
 HeldIsAuthorised = (server : Bytes) (a : Agent) (b : Book) (e : Entry) → Within b.entries e → Holds server a e → Within (authorised server a b) e
 
+-- and so are its entries whose parent is the agent or the identity of one of them
 abbrev pub ChildIsAuthorised : Type 0
 ChildIsAuthorised = (server : Bytes) (a : Agent) (b : Book) (e : Entry) → Within b.entries e → (e.parent ≡ a.id) ⊎ ((c : Entry) × Within (authorised server a b) c × (e.parent ≡ c.identity)) → Within (authorised server a b) e
 
@@ -202,6 +202,7 @@ pub record StopsAt (domain : Bytes) (ops : List Op) (b : Book) (n : ℕ) (r : Op
   pub accepted : run domain front b ≡ Ok done
   pub refused : op_of domain op (after done.writes b) ≡ Err r
 
+-- a run is refused for operation n and this reason exactly if it stops there
 abbrev pub RunStops : Type 0
 RunStops = (domain : Bytes) (ops : List Op) (b : Book) (n : ℕ) (r : OpRefusal) → (run domain ops b ≡ Err (record { op = n; reason = r })) ↔ StopsAt domain ops b n r
 
@@ -243,9 +244,11 @@ pub record FaultAt (domain : Bytes) (ops : List Op) (n : ℕ) (f : OpFault) : Ty
   pub none_before : AllByRecursion (λ other. op_fault domain other ≡ None) front
   pub fault : op_fault domain op ≡ Some f
 
+-- a batch is refused for having no operations exactly if it has none
 abbrev pub NoOpsRefused : Type 0
 NoOpsRefused = (domain : Bytes) (ops : List Op) (token : Option Bytes) → (batch_refusal domain ops token ≡ Some batch.NoOps) ↔ (ops ≡ [])
 
+-- a batch is refused for too many operations exactly if it has more than 64
 abbrev pub TooManyRefused : Type 0
 TooManyRefused = (domain : Bytes) (ops : List Op) (token : Option Bytes) → (batch_refusal domain ops token ≡ Some batch.TooManyOps) ↔ (64 < length ops)
 
@@ -360,6 +363,7 @@ abbrev pub asked_now : Op → Op
 asked_now (Page q) = Page (record q { at = None })
 asked_now op = op
 
+-- the same batch without the number of a book and without a minimum place
 abbrev pub batch_now : Batch → Batch
 batch_now batch = record batch { ops = map asked_now batch.ops; after = 0 }
 
@@ -384,6 +388,7 @@ pub record TokenWritten (batch : Batch) (n : ℕ) (b : Book) (t : RunEffect) : T
   pub others : after (batch_writes batch n t) b ≡ record (after t.writes b) { tokens = (after (batch_writes batch n t) b).tokens }
   pub last : map row_written (batch_writes batch n t) ≡ map row_written t.writes ++ map token_of (option_to_list batch.token)
 
+-- so it is with each accepted run of a batch whose token isn't in use
 abbrev pub TokensWritten : Type 0
 TokensWritten = (batch : Batch) (n : ℕ) (b : Book) → IsTokenFree batch.token b → IfOk (run batch.domain batch.ops b) (TokenWritten batch n b)
 
@@ -398,13 +403,15 @@ pub record WasCommitted (batches : List Batch) (k : KeptBatch) : Type 0 where
   pub place : k.place ≡ length before + 1
   pub replied : reply_to batch (books_of before) ≡ record { place = k.place; outcome = Committed k.replies }
 
+-- each batch that the last book of a history stores was committed
 abbrev pub KeptCommitted : Type 0
 KeptCommitted = (own_domain : Bytes) (batches : List Batch) (books : List Book) (k : KeptBatch) → LeadToBooks own_domain batches books → Within (last_book books).tokens k → WasCommitted batches k
 
--- a batch whose token is stored gets the stored reply if it has the same operations, and is refused otherwise; the books stay
+-- a batch whose token is in use gets the stored reply if it has the same operations; the books stay
 abbrev pub RepeatAnswered : Type 0
 RepeatAnswered = (batch : Batch) (books : List Book) (k : KeptBatch) → AscendingBook (last_book books) → batch.after ≤ place_of books → AskForLast batch.ops → Within (last_book books).tokens k → batch.token ≡ Some k.token → k.ops ≡ batch.ops → HasOutcome batch books (record { place = k.place; outcome = Repeated k.replies }) books
 
+-- with other operations, it is refused
 abbrev pub ReuseRefused : Type 0
 ReuseRefused = (batch : Batch) (books : List Book) (k : KeptBatch) → AscendingBook (last_book books) → batch.after ≤ place_of books → AskForLast batch.ops → Within (last_book books).tokens k → batch.token ≡ Some k.token → (k.ops ≡ batch.ops → ⊥) → HasOutcome batch books (record { place = place_of books; outcome = Refused TokenReused }) books
 
@@ -417,6 +424,7 @@ pub record CommittedOnce (first : Reply) (replies : List OpReply) (batch other :
   pub repeated : other.after ≤ place_of later → other.ops ≡ batch.ops → reply_to other later ≡ record { place = first.place; outcome = Repeated replies }
   pub reused : other.after ≤ place_of later → (other.ops ≡ batch.ops → ⊥) → reply_to other later ≡ record { place = place_of later; outcome = Refused TokenReused }
 
+-- so it is with each token of a history
 abbrev pub ExactlyOnce : Type 0
 ExactlyOnce = (own_domain token : Bytes) (batch other : Batch) (between : List Batch) (books : List Book) (replies : List OpReply) → IsHistory own_domain books → IsMadeFor own_domain batch → IsMadeFor own_domain other → AllByRecursion (IsMadeFor own_domain) between → batch.token ≡ Some token → other.token ≡ Some token → (reply_to batch books).outcome ≡ Committed replies → CommittedOnce (reply_to batch books) replies batch other (books_from (books_after batch books) between)
 
@@ -439,6 +447,7 @@ IsFirstPassed limit.Tokens place b = (place < 2 ^ 48) × (length b.entries ≤ 1
 abbrev pub FirstLimit : Type 0
 FirstLimit = (place : ℕ) (b : Book) (limit : Limit) → (limit_passed place b ≡ Some limit) ↔ IsFirstPassed limit place b
 
+-- no limit is reported exactly if fewer than 2^48 batches are committed and the rows are within the limits
 abbrev pub NoneIsPassed : Type 0
 NoneIsPassed = (place : ℕ) (b : Book) → (limit_passed place b ≡ None) ↔ ((place < 2 ^ 48) × IsWithinLimits b)
 
@@ -454,6 +463,7 @@ HistoryBounded = (own_domain : Bytes) (books : List Book) → IsHistory own_doma
 abbrev pub OneMore : Type 0
 OneMore = (batches : List Batch) (batch : Batch) → books_of (batches ++ batch ∷ []) ≡ books_after batch (books_of batches)
 
+-- and whether all of these batches commit
 abbrev pub OneMoreCommits : Type 0
 OneMoreCommits = (batches : List Batch) (batch : Batch) → CommitAll first_books (batches ++ batch ∷ []) ↔ (CommitAll first_books batches × (commits batch (books_of batches) ≡ true))
 
@@ -506,5 +516,6 @@ OnePage = (q : PageQuery) (b : Book) (es fs : List Entry) (m n : Option Bytes) �
 abbrev pub PagesListAll : Type 0
 PagesListAll = (q : PageQuery) (b : Book) → AscendingBook b → 0 < q.size → PageAfterPage q b None (passing q.filter b)
 
+-- and no reading lists other entries
 abbrev pub PagesListOnce : Type 0
 PagesListOnce = (q : PageQuery) (b : Book) (es : List Entry) → AscendingBook b → 0 < q.size → PageAfterPage q b None es → es ≡ passing q.filter b

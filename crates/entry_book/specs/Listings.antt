@@ -23,6 +23,7 @@ Matches mode.Any given own = (s : SelectorPair) × Within own s × Within given 
 Matches mode.Superset given own = (s : SelectorPair) → Within given s → Within own s
 Matches mode.Subset given own = (s : SelectorPair) → Within own s → Within given s
 
+-- The entry satisfies each part of the filter that is given.
 pub record Passes (f : Filter) (e : Entry) : Type 0 where
   pub parent : IfSome f.parent (λ given. e.parent ≡ given)
   pub identity : IfSome f.identity (λ given. e.identity ≡ given)
@@ -63,6 +64,7 @@ pub record ListsPage (q : PageQuery) (b : Book) (d : OpEffect) : Type 0 where
 abbrev pub page_after : PageQuery → Option Bytes → PageQuery
 page_after q from = record q { from = from }
 
+-- Reading page after page, the first of which begins after this id, lists these entries and ends.
 pub data PageAfterPage (q : PageQuery) (b : Book) : Option Bytes → List Entry → Type 0 where
   last_page : (from : Option Bytes) → next_of (page_after q from) b ≡ None → PageAfterPage q b from (listed (page_after q from) b)
   one_more : (from : Option Bytes) (k : Bytes) (later : List Entry) → next_of (page_after q from) b ≡ Some k → PageAfterPage q b (Some k) later → PageAfterPage q b from (listed (page_after q from) b ++ later)

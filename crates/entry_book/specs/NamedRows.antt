@@ -13,12 +13,14 @@ pub data RowName : Type 0 where
   bundle_of : Bytes → RowName
   token_of : Bytes → RowName
 
+-- the row that a write changes
 abbrev pub row_written : RowWrite → RowName
 row_written (wrote_entry c) = entry_of c.key
 row_written (wrote_agent c) = agent_of c.key
 row_written (wrote_bundle c) = bundle_of c.key
 row_written (wrote_token c) = token_of c.key
 
+-- the name of an entry's row
 abbrev pub entry_name : Entry → RowName
 entry_name e = entry_of e.id
 

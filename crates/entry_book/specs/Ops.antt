@@ -24,6 +24,7 @@ use Rattle.entry_book.specs.Writes.{RowWrite, wrote_entry, wrote_agent, wrote_bu
 use Rattle.entry_book.specs.Authorised.{authorised}
 use Rattle.entry_book.specs.Pages.{listed, next_of}
 
+-- What an accepted operation does: its reply, and its writes in order.
 pub record OpEffect : Type 0 where
   pub reply : OpReply
   pub writes : List RowWrite
@@ -84,6 +85,7 @@ update_over (Some old) e expected b = update_when (is_stale expected old) old e 
 
 -- ---- delete: refused for a missing entry, then a stale revision; the reply is the removed entry
 
+-- the write that removes the entry
 abbrev pub removed : Entry → RowWrite
 removed e = wrote_entry (record { key = e.id; old = Some e; new = None })
 
@@ -120,6 +122,7 @@ agent_dropped a = done (replied.Agent a) (wrote_agent (record { key = a.id; old 
 
 -- ---- set_bundle: never refused; a new bundle has sequence 0, and each further set adds 1
 
+-- the sequence after that of the old bundle, if there is one
 abbrev pub next_sequence : Option Bundle → ℕ
 next_sequence None = 0
 next_sequence (Some old) = old.sequence + 1
@@ -132,6 +135,7 @@ bundle_set domain text old = bundle_put old (record { domain = domain; text = te
 
 -- ---- drop_bundle: refused for a missing bundle, then for one in use; the reply has the deleted ids and the dissociated ids
 
+-- the write that removes the bundle
 abbrev pub bundle_removed : Bundle → RowWrite
 bundle_removed d = wrote_bundle (record { key = d.domain; old = Some d; new = None })
 

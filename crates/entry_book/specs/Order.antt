@@ -23,6 +23,7 @@ Ascending key (x ∷ xs) = AllByRecursion (λ y. is_before (key x) (key y) ≡ t
 unfoldable pub with_row : {X : Type 0} → (X → List ℕ) → List ℕ → Option X → List X → List X
 with_row key k new rows = filter (λ x. is_before (key x) k) rows ++ (option_to_list new ++ filter (λ x. is_before k (key x)) rows)
 
+-- the first item, if there is one
 abbrev pub first : {X : Type 0} → List X → Option X
 first [] = None
 first (x ∷ xs) = Some x

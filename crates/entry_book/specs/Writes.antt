@@ -14,12 +14,14 @@ pub record RowChange (X : Type 0) : Type 0 where
   pub old : Option X
   pub new : Option X
 
+-- The write of one row, of any kind.
 pub data RowWrite : Type 0 where
   wrote_entry : RowChange Entry → RowWrite
   wrote_agent : RowChange Agent → RowWrite
   wrote_bundle : RowChange Bundle → RowWrite
   wrote_token : RowChange KeptBatch → RowWrite
 
+-- the book after one write
 abbrev pub after_write : RowWrite → Book → Book
 after_write (wrote_entry c) b = record b { entries = with_row entry_key c.key c.new b.entries }
 after_write (wrote_agent c) b = record b { agents = with_row agent_key c.key c.new b.agents }
@@ -33,10 +35,12 @@ after (w ∷ ws) b = after ws (after_write w b)
 
 -- ---- a write finds the row that it names as old, or no row if it names none, and the new row has its key
 
+-- The change finds its row among these rows.
 pub record FitsRows {X : Type 0} (row_key : X → Bytes) (c : RowChange X) (rows : List X) : Type 0 where
   pub found : filter (λ x. bytes_eq (row_key x) c.key) rows ≡ option_to_list c.old
   pub keyed : IfSome c.new (λ x. row_key x ≡ c.key)
 
+-- the write finds its row in the book
 abbrev pub FitsBook : RowWrite → Book → Type 0
 FitsBook (wrote_entry c) b = FitsRows entry_key c b.entries
 FitsBook (wrote_agent c) b = FitsRows agent_key c b.agents
