@@ -15,12 +15,15 @@ use Rattle.version_book.specs.declared.committed_row.CommittedRow.{CommittedRow}
 
 -- ---- the keys of an entry
 
+-- parent, identity and id of an entry
 abbrev pub GroupKey : Type 0
 GroupKey = KeyPart Bytes × KeyPart Bytes × KeyPart Bytes
 
+-- a trust domain, and the id of an entry that names it
 abbrev pub UserKey : Type 0
 UserKey = Bytes × KeyPart Bytes
 
+-- the expiry and the id of an entry
 abbrev pub ExpiryKey : Type 0
 ExpiryKey = ℕ × KeyPart Bytes
 
@@ -55,6 +58,7 @@ pub record Covers {K : Type 0} (cmp : K → K → Ordering) (keys : Entry → Li
 
 -- ---- the bounds of a mark's range
 
+-- the range of keys of the entries that the mark names, or none if it names a row by its key
 abbrev pub index_range_of : MarkKind → IndexRange
 index_range_of (mark.Group parent identity) = Groups (At parent, At identity, Start) (At parent, At identity, End)
 index_range_of (mark.Children parent) = Groups (At parent, Start, Start) (At parent, End, End)

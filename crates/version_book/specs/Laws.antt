@@ -21,6 +21,7 @@ use Rattle.version_book.specs.Written.{placed}
 
 -- ---- what each mark reads, in terms of the book's own lookups
 
+-- the book of these entries, and no other rows
 abbrev pub entries_alone : List Entry → Book
 entries_alone es = record empty_book { entries = es }
 
@@ -128,10 +129,11 @@ RunMayApply = (batch : Batch) (s : VersionState) (t : RunEffect) → IsMadeFor s
 
 -- ---- lists of batches
 
--- the books after concatenated lists of batches, and whether all of these commit
+-- the books after two lists of batches are those after the second, beginning with the books after the first
 abbrev pub BooksJoin : Type 0
 BooksJoin = (first second : List Batch) (books : List Book) → books_from books (first ++ second) ≡ books_from (books_from books first) second
 
+-- all batches of two lists commit exactly if those of the first do, and those of the second on the books after them
 abbrev pub CommitsJoin : Type 0
 CommitsJoin = (first second : List Batch) (books : List Book) → CommitAll books (first ++ second) ↔ (CommitAll books first × CommitAll (books_from books first) second)
 

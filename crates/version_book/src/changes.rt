@@ -14,9 +14,9 @@ use uuid::Uuid;
 pub struct RowChange<K, T> {
     /// The row's key.
     pub key: K,
-    /// The row that was found; `None` if the row is added.
+    /// The row that was found; `None` if there was none.
     pub old: Option<T>,
-    /// The row that is written; `None` if the row is removed.
+    /// The row that is written; `None` if it is removed.
     pub new: Option<T>,
 }
 
