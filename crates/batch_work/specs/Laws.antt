@@ -65,7 +65,7 @@ pub record ResultsIn (batch : Batch) (s : VersionState) (t : RunEffect) : Type 0
 abbrev pub CommitCheck : Type 0
 CommitCheck = (batch : Batch) (base newest : VersionState) (t : RunEffect) → IsMadeFor newest.domain batch → batch.after ≤ newest.number → Lawful newest.domain (64 * newest.number) (book_of newest.rows) → IsWithinLimits (book_of newest.rows) → AscendingBook (book_of base.rows) → AllByRecursion (Agree (book_of base.rows) (book_of newest.rows)) (footprint_in batch (case_on batch (book_of base.rows))) → awaits_in batch (case_on batch (book_of base.rows)) ≡ true → run batch.domain batch.ops (book_of base.rows) ≡ Ok t → ResultsIn batch newest t
 
--- The batch has changes that await their commit: it may run, and on the last book; its token isn't in use there; it isn't
+-- The batch has changes that await their commit: it may run, and runs on the last book; its token isn't in use there; it isn't
 -- read-only; and its operations are accepted.
 pub record HasChanges (batch : Batch) (books : List Book) : Type 0 where
   pub in_time : batch.after ≤ place_of books
@@ -75,6 +75,7 @@ pub record HasChanges (batch : Batch) (books : List Book) : Type 0 where
   pub effect : RunEffect
   pub ran : run batch.domain batch.ops (last_book books) ≡ Ok effect
 
+-- a batch awaits its commit exactly if it has such changes
 abbrev pub AwaitsAsSaid : Type 0
 AwaitsAsSaid = (own_domain : Bytes) (batch : Batch) (books : List Book) → IsMadeFor own_domain batch → (awaits_commit batch books ≡ true) ↔ HasChanges batch books
 
@@ -91,6 +92,7 @@ pub record OnBooks (batch : Batch) (w : Window) (books : List Book) : Type 0 whe
   pub wait : awaits_there batch (base_in batch w) ≡ awaits_commit batch books
   pub reply : reply_there batch (base_in batch w) ≡ reply_to batch books
 
+-- so it is on each list of books that the window represents
 abbrev pub WindowRepresentsBooks : Type 0
 WindowRepresentsBooks = (batch : Batch) (w : Window) (books : List Book) → WindowRepresents w books → OnBooks batch w books
 
@@ -119,6 +121,7 @@ pub record HasRead (w : Work) : Type 0 where
   pub in_time : w.batch.after ≤ base.newest.number
   pub awaits : awaits_in w.batch (case_on w.batch (book_in base.newest)) ≡ true
 
+-- this holds of each ready work
 abbrev pub ReadyHasRead : Type 0
 ReadyHasRead = (own_domain : Bytes) (w : Work) → IsMadeFor own_domain w.batch → status_of w ≡ Ready → HasRead w
 
@@ -131,6 +134,7 @@ pub record TurnsBook (w : Work) (s : VersionState) (writes : List RowWrite) : Ty
   pub next_is : next ≡ after (placed (s.number + 1) writes) (book_in s)
   pub verdict_is : verdict w.batch s.number (Some (book_in s)) ≡ adds_within (limit_passed s.number next) replies next
 
+-- this holds of each ready work that began on this version
 abbrev pub ReadyTurns : Type 0
 ReadyTurns = (own_domain : Bytes) (w : Work) (base : Base) (writes : List RowWrite) → IsMadeFor own_domain w.batch → status_of w ≡ Ready → w.base ≡ Some base → HasWrites w writes → TurnsBook w base.newest writes
 

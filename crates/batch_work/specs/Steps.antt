@@ -178,6 +178,7 @@ advance server op (phase.Trusted d ds n bs) r = trusted_next ds n (bs ++ r.bundl
 
 -- ---- all reads from a phase to the end of the operation, on a book, and its result
 
+-- The operation ends with this result and reads no more, or f holds of the phase with which it continues.
 abbrev pub ContinuesWith : Next → List MarkKind → OpResult → (Phase → Type 0) → Type 0
 ContinuesWith (Continues q) ms o f = f q
 ContinuesWith (Ends r ws) ms o f = (ms ≡ []) × (o ≡ done r ws)

@@ -47,6 +47,7 @@ pub record IsWalk (server : Bytes) (a : Agent) (b : Book) (read : List Bytes) : 
   pub once : EachOnce read
   pub least_first : (before : List Bytes) (i : Bytes) (later : List Bytes) → read ≡ before ++ i ∷ later → IsNextIdentity server a b before i
 
+-- the identities that `walk` gives are such a walk
 abbrev pub WalkAsSaid : Type 0
 WalkAsSaid = (server : Bytes) (a : Agent) (b : Book) → IsWalk server a b (walk (length b.entries) server a [] b)
 

@@ -33,11 +33,12 @@ pub record IsNextVersion (s t : VersionState) : Type 0 where
   pub number : t.number ≡ s.number + 1
   pub domain : t.domain ≡ s.domain
 
--- each version is the next one after the version before it
+-- the first of these versions, if there is one, is the next one after s
 abbrev pub ComesNext : VersionState → List VersionState → Type 0
 ComesNext s [] = ⊤
 ComesNext s (t ∷ ts) = IsNextVersion s t
 
+-- each version is the next one after the version before it
 abbrev pub Counted : List VersionState → Type 0
 Counted [] = ⊤
 Counted (s ∷ ss) = ComesNext s ss × Counted ss

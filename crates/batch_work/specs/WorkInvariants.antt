@@ -31,6 +31,7 @@ use Rattle.batch_work.specs.Steps.{ContinuesWith, Plays}
 use Rattle.batch_work.specs.Windows.{book_in}
 use Rattle.batch_work.specs.Working.{Base, version_read, footprint_there, awaits_there, reply_there, IsAccepted}
 
+-- what a work began on, as contracts see it
 abbrev pub base_of : Begun → Base
 base_of begun = record { newest = begun.newest; earlier = begun.earlier }
 
@@ -61,6 +62,8 @@ pub record IsReadableVersion (own_domain : Bytes) (s : VersionState) : Type 0 wh
   pub low : s.number ≤ 2 ^ 48
   pub lawful : Lawful own_domain (64 * s.number) (book_in s)
 
+-- The batch was made for its trust domain, the server's ID is that of this domain, and the version that the batch reads, if it is
+-- there, is readable.
 pub record IsStartOf (batch : Batch) (begun : Begun) : Type 0 where
   pub server_is : begun.server ≡ server_text batch.domain
   pub made : IsMadeFor batch.domain batch
@@ -119,6 +122,7 @@ pub record Looked (batch : Batch) (base : Base) (marks : List MarkKind) (changes
 
 -- ---- each stage
 
+-- what holds of a read that was made and is still to be recorded
 abbrev pub FoundInvariant : MarkKind → Found → Batch → Base → List MarkKind → List RowWrite → List OpReply → Type 0
 FoundInvariant m (found.Op n next) batch base marks changes replies = Looked batch base marks changes replies n m next
 FoundInvariant m (found.Kept o) batch base marks changes replies = AtStart batch base marks changes replies × ((k : Bytes) × (t : AtToken batch base k) × (m ≡ mark.Token k) × (o ≡ kept_under batch.token (book_in t.s)))
@@ -130,11 +134,13 @@ pub record IsReady (batch : Batch) (base : Base) (marks : List MarkKind) (change
   pub waits : awaits_there batch base ≡ true
   pub accepted : IsAccepted batch (book_in base.newest) replies changes
 
+-- All reads were made, the batch doesn't await a commit, and this is its reply.
 pub record IsSettledWith (batch : Batch) (base : Base) (marks : List MarkKind) (reply : Reply) : Type 0 where
   pub all_read : marks ≡ footprint_there batch base
   pub done : awaits_there batch base ≡ false
   pub reply_is : reply ≡ reply_there batch base
 
+-- what holds at each stage of a work that has begun
 abbrev pub StageInvariant : Stage → Batch → Base → List MarkKind → List RowWrite → List OpReply → Type 0
 StageInvariant stage.New batch base marks changes replies = ⊥
 StageInvariant (stage.Token k) batch base marks changes replies = AtStart batch base marks changes replies × AtToken batch base k
@@ -144,6 +150,7 @@ StageInvariant (stage.Read m f) batch base marks changes replies = FoundInvarian
 StageInvariant (stage.Ready all) batch base marks changes replies = IsReady batch base marks changes all
 StageInvariant (stage.Settled reply) batch base marks changes replies = IsSettledWith batch base marks reply
 
+-- the work hasn't begun
 abbrev pub IsNewStage : Stage → Type 0
 IsNewStage stage.New = ⊤
 IsNewStage (stage.Token k) = ⊥
@@ -153,6 +160,7 @@ IsNewStage (stage.Read m f) = ⊥
 IsNewStage (stage.Ready all) = ⊥
 IsNewStage (stage.Settled reply) = ⊥
 
+-- what holds of each work
 abbrev pub WorkInvariant : Option Begun → Stage → Batch → List MarkKind → List RowWrite → List OpReply → Type 0
 WorkInvariant None g batch marks changes replies = IsNewStage g × (marks ≡ []) × (changes ≡ []) × (replies ≡ [])
 WorkInvariant (Some begun) g batch marks changes replies = IsStartOf batch begun × StageInvariant g batch (base_of begun) marks changes replies

@@ -64,6 +64,7 @@ reply_there batch base = reply_with base.newest.number (verdict batch base.newes
 
 -- ---- what the work waits for
 
+-- the status of a work that has made all its reads
 abbrev pub end_status : Bool → Status
 end_status true = Ready
 end_status false = Settled
@@ -96,6 +97,7 @@ IsNextReadOn (Some base) batch n m = slice_get (footprint_there batch base) n �
 abbrev pub IsNextRead : Work → MarkKind → Type 0
 IsNextRead w m = IsNextReadOn w.base w.batch w.steps m
 
+-- the first n reads of the footprint
 abbrev pub marks_from : Option Base → Batch → ℕ → List MarkKind
 marks_from None batch n = []
 marks_from (Some base) batch n = take n (footprint_there batch base)
