@@ -20,9 +20,11 @@ pub record Head : Type 0 where
   pub kept : List Item
   pub room : ℕ
 
+-- the newest version of a head
 abbrev pub newest_of : Head → VersionState
 newest_of h = h.window.newest
 
+-- the number of committed batches
 abbrev pub head_place : Head → ℕ
 head_place h = h.window.newest.number
 
@@ -33,6 +35,7 @@ pub record IsJournal (items : List Item) (h : Head) : Type 0 where
   pub ending : IsEnding items h.kept
   pub shown : WindowRepresents h.window (books_of (batches_of items))
 
+-- some items are the head's journal
 abbrev pub HasJournal : Head → Type 0
 HasJournal h = (items : List Item) × IsJournal items h
 
@@ -52,16 +55,17 @@ pub record IsUnchangedHead (old new : Head) : Type 0 where
 
 -- ---- a prepared commit
 
+-- The item of a commit that has passed its checks, and the version after its batch.
 pub record Prepared : Type 0 where
   pub item : Item
   pub version : VersionState
 
--- It fits a version: its item joins the version, and its version is the one after the item's batch.
+-- A prepared commit fits a version: its item joins the version, and its version is the one after the item's batch.
 pub record IsPreparedFor (newest : VersionState) (p : Prepared) : Type 0 where
   pub joins : Joins p.item newest
   pub version : p.version ≡ version_with p.item.batch newest
 
--- It fits the head's newest version, and the head has room for the item.
+-- A prepared commit fits the head's newest version, and the head has room for the item.
 pub record Fits (h : Head) (p : Prepared) : Type 0 where
   pub goes : IsPreparedFor (newest_of h) p
   pub room : 0 < h.room
@@ -100,9 +104,11 @@ IsRefusal newest kept w (Full limit n) = (n ≡ newest.number) × (verdict w.bat
 IsRefusal newest kept w (Committed n) = ⊥
 IsRefusal newest kept w NoMemory = ⊤
 
+-- a work that began on `base` may have begun on this head or an earlier state of it
 abbrev pub BeganOn : Option Base → Head → Type 0
 BeganOn base h = BeganBefore base (newest_of h) h.kept
 
+-- why a ready work isn't committed by this head
 abbrev pub IsRefused : Head → Work → Commit → Type 0
 IsRefused h w c = IsRefusal (newest_of h) h.kept w c
 
@@ -114,6 +120,7 @@ pub record IsCommitted (old : Head) (seat call : ℕ) (w : Work) (n : ℕ) (new 
   pub number : n ≡ head_place old + 1
   pub appended : IsAppended old item new
 
+-- a commit of a work for this seat and call: its outcome, and the head after it
 abbrev pub IsCommit : Head → ℕ → ℕ → Work → Commit → Head → Type 0
 IsCommit old seat call w (Conflict n) new = IsUnchangedHead old new × IsRefused old w (Conflict n)
 IsCommit old seat call w (Full limit n) new = IsUnchangedHead old new × IsRefused old w (Full limit n)

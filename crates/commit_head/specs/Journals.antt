@@ -26,6 +26,7 @@ abbrev pub Leads : VersionState → List Item → VersionState → Type 0
 Leads older [] newer = older ≡ newer
 Leads older (item ∷ items) newer = Joins item older × Leads (version_with item.batch older) items newer
 
+-- the batches of the items, in order
 abbrev pub batches_of : List Item → List Batch
 batches_of items = map (λ item. item.batch) items
 
@@ -48,6 +49,7 @@ committed_after n (item ∷ items) = record { place = n + 1; outcome = Committed
 pub record IsOther (item other : Item) : Type 0 where
   pub apart : item.seat ≡ other.seat → item.call ≡ other.call → ⊥
 
+-- no two items have the same seat and call
 abbrev pub EachCallOnce : List Item → Type 0
 EachCallOnce [] = ⊤
 EachCallOnce (item ∷ items) = AllByRecursion (IsOther item) items × EachCallOnce items

@@ -17,6 +17,7 @@ pub record AreBatches (older : VersionState) (items : List Item) (newer : Versio
   pub follows : Follows older (batches_of items) newer
   pub count : length items + older.number ≡ newer.number
 
+-- if items lead from one version to another, so do their batches
 abbrev pub ItemsFollow : Type 0
 ItemsFollow = (items : List Item) (older newer : VersionState) → Leads older items newer → AreBatches older items newer
 
@@ -38,6 +39,7 @@ pub record IsCommittedOnBooks (items : List Item) (item : Item) (n : ℕ) : Type
   pub reply : reply_to item.batch (books_of (batches_of items)) ≡ record { place = n; outcome = Committed item.replies }
   pub books : books_after item.batch (books_of (batches_of items)) ≡ books_of (batches_of (items ++ item ∷ []))
 
+-- so it is with an item that joins the newest version of a head
 abbrev pub JoinsOnBooks : Type 0
 JoinsOnBooks = (items : List Item) (item : Item) (h : Head) → IsJournal items h → Joins item (newest_of h) → IsCommittedOnBooks items item (head_place h + 1)
 
@@ -57,16 +59,17 @@ JournalReadsFew = (own_domain : Bytes) (items : List Item) (s : VersionState) (b
 abbrev pub JournalUnchanged : Type 0
 JournalUnchanged = (items : List Item) (old new : Head) → IsJournal items old → new.window ≡ old.window → new.kept ≡ last_items old.kept → IsJournal items new
 
--- items in two parts lead to a version in between, and a list of items leads to only one version
+-- items in two parts lead to a version in between
 abbrev pub LeadsInParts : Type 0
 LeadsInParts = (first second : List Item) (older newer : VersionState) → Leads older (first ++ second) newer → (between : VersionState) × Leads older first between × Leads between second newer
 
+-- a list of items leads from a version to only one other
 abbrev pub LeadsToOne : Type 0
 LeadsToOne = (items : List Item) (older newer other : VersionState) → Leads older items newer → Leads older items other → newer ≡ other
 
--- ---- A work began on the newest version of a head or an earlier one of its history: if it is the newest; if the first items
--- of the journal lead to it; after an item is appended; if nothing changed but the room; and after a checkpoint.
+-- ---- when a work began on the newest version of a head or an earlier one of its history
 
+-- a work that begins on the head's window
 abbrev pub BeganHere : Type 0
 BeganHere = (base : Base) (h : Head) → base.newest ≡ newest_of h → BeganOn (Some base) h
 
@@ -77,14 +80,18 @@ pub record IsInside (base : Base) (since : List Item) (h : Head) : Type 0 where
   pub agrees : Agrees since h.kept
   pub began : BeganOn (Some base) h
 
+-- a work that began on a version inside the journal
 abbrev pub BeganInside : Type 0
 BeganInside = (before since : List Item) (base : Base) (h : Head) → IsJournal (before ++ since) h → Leads (empty_version h.window.newest.domain) before base.newest → IsInside base since h
 
+-- if nothing changed but the room
 abbrev pub BeganKept : Type 0
 BeganKept = (base : Option Base) (old new : Head) → BeganOn base old → IsUnchangedHead old new → BeganOn base new
 
+-- after an item is appended
 abbrev pub BeganExtends : Type 0
 BeganExtends = (base : Option Base) (item : Item) (old new : Head) → BeganOn base old → Joins item (newest_of old) → IsAppended old item new → BeganOn base new
 
+-- after a checkpoint
 abbrev pub BeganUnchanged : Type 0
 BeganUnchanged = (base : Option Base) (old new : Head) → BeganOn base old → new.window ≡ old.window → new.kept ≡ last_items old.kept → BeganOn base new
