@@ -74,6 +74,7 @@ impl Selector {
         self.parts().1
     }
 
+    /// Returns the texts before and after the first colon.
     fn parts(&self) -> (&str, &str)
         ensures before { result.0.now ≡ self.now.type }
         ensures behind { result.1.now ≡ self.now.value }
