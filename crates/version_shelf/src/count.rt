@@ -37,6 +37,7 @@ impl Count {
         self.number
     }
 
+    /// Adds to the number, which has room for it.
     pub(crate) fn raise(&mut self, by: usize)
         requires { self.old + by < 2 ^ 64 }
         ensures { self.new ≡ self.old + by }

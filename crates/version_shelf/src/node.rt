@@ -43,6 +43,7 @@ impl<T> Node<T> {
         })
     }
 
+    /// Returns the parts, in order.
     pub(crate) fn parts(&self) -> &[T]
         ensures { result.now ≡ self.now }
     {

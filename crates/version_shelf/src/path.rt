@@ -26,6 +26,7 @@ pub(crate) struct Path<'a, K, V> {
     pub(crate) rows: Parts<'a, K, V>,
 }
 
+/// Returns the path to a key, in the inner nodes of a shelf. Makes at most 28 comparisons.
 pub(crate) fn path_to<'a, K: Ord, V>(
     inners: &'a [InnerNode<K, V>],
     key: &K,

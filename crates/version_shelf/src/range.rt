@@ -28,6 +28,7 @@ impl<'a, K: Ord + 'a, V: 'a> Range<'a, K, V> {
     ghost use Rattle.std.specs.Prelude.{◌≡◌};
     ghost use Rattle.version_shelf.specs.Nodes.{AreWalkNodes, walk_rows};
 
+    /// Makes the iterator over the remaining rows of a walk.
     pub(crate) fn of(walk: Walk<'a, K, V>) -> Range<'a, K, V>
         requires { AreWalkNodes walk.leaves.now walk.inners.now walk.last_leaves.now }
         ensures { result ≡ walk_rows walk.entry.rest.now walk.entry.leaves.now walk.entry.inners.now walk.entry.last_leaves.now walk.entry.last.now }

@@ -16,6 +16,7 @@ pub(crate) trait Sought<K: Ord> {
     // the least number of these parts in a node that has neighbours
     ghost least: { ℕ };
 
+    /// Returns true if the part's last key is below the bound. Makes at most one comparison.
     fn is_below<B: Bound<K>>(&self, bound: &B, count: &mut Count) -> bool
         requires { count.old + 1 < 2 ^ 64 }
         ensures below { result ≡ below (B.position bound.now) self.now }
@@ -148,6 +149,7 @@ pub(crate) fn cut_near<'a, K: Ord, T: Sought<K>, B: Bound<K>>(
     )
 }
 
+/// Cuts the nodes at this index, which is that of the bound among all nodes but the last.
 fn cut_at_position<'a, K: Ord, T: Sought<K>, B: Bound<K>>(
     nodes: &'a [Node<T>],
     bound: &B,
@@ -158,6 +160,7 @@ fn cut_at_position<'a, K: Ord, T: Sought<K>, B: Bound<K>>(
     ensures cuts { Cuts T.least nodes.now result.below.now result.at.now result.above.now }
     ensures key { CutsAt (T.below (B.position bound.now)) result.below.now result.at.now result.above.now }
 {
+    // the bound occurs in the contract alone
     let _ = bound;
     let (below, from) = nodes.split_at(position);
     match from.split_first() {

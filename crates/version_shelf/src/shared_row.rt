@@ -36,12 +36,14 @@ impl<K, V> SharedRow<K, V> {
         })
     }
 
+    /// Returns the key.
     pub(crate) fn key(&self) -> &K
         ensures { result.now ≡ self.now.0 }
     {
         &self.pair.0
     }
 
+    /// Returns the value.
     pub(crate) fn value(&self) -> &V
         ensures { result.now ≡ self.now.1 }
     {

@@ -190,6 +190,7 @@ impl<K: Ord + Clone, V: Clone> Shelf<K, V> {
         Shelf::of(self.alloc, inners, self.len - 1)
     }
 
+    /// Makes the shelf of these inner nodes, which have `len` rows. The only error is out of memory.
     fn of(
         alloc: Global,
         inners: Vec<InnerNode<K, V>>,
@@ -209,6 +210,7 @@ impl<K: Ord + Clone, V: Clone> Shelf<K, V> {
         })
     }
 
+    /// Returns the inner nodes; none if no row was ever added.
     fn inners(&self) -> &[InnerNode<K, V>]
         ensures rows { flatten (flatten result.now) ≡ self.now }
         ensures order { IsInOrder K.cmp self.now }
