@@ -21,12 +21,15 @@ use Rattle.entry_book.specs.Authorised.{authorised}
 use Rattle.entry_book.specs.Batches.{Batch}
 use Rattle.entry_book.specs.History.{first_books, replies_from}
 
+-- the ID of the server
 abbrev pub server : Bytes
 server = server_text (codes "ex.org")
 
+-- the ID with this path
 abbrev pub id_of : Bytes → Bytes
 id_of path = codes "spiffe://ex.org" ++ path
 
+-- the ID of the agent n1
 abbrev pub agent_id : Bytes
 agent_id = id_of (codes "/spire/agent/n1")
 
@@ -37,12 +40,15 @@ worked_uuid n = 0 ∷ 0 ∷ 0 ∷ 0 ∷ 0 ∷ 0 ∷ 0 ∷ 0 ∷ 0 ∷ 0 ∷ 0 �
 abbrev pub selector : Bytes → Bytes → SelectorPair
 selector t v = record { type = t; value = v }
 
+-- entry n with this parent, identity and selectors, at revision 0, with no hint, domains, expiry or lifetimes
 abbrev pub entry : ℕ → Bytes → Bytes → List SelectorPair → Entry
 entry n parent identity selectors = record { id = worked_uuid n; parent = parent; identity = identity; selectors = selectors; hint = []; domains = []; expiry = 0; x509_svid_ttl = 0; jwt_svid_ttl = 0; revision = 0 }
 
+-- the agent n1 with these selectors
 abbrev pub agent : List SelectorPair → Agent
 agent selectors = record { id = agent_id; selectors = selectors }
 
+-- the book of these entries and this agent
 abbrev pub book : List Entry → Agent → Book
 book entries a = record { entries = entries; agents = a ∷ []; bundles = []; tokens = [] }
 
@@ -51,12 +57,14 @@ book entries a = record { entries = entries; agents = a ∷ []; bundles = []; to
 abbrev pub cycle : List Entry
 cycle = entry 1 agent_id (id_of (codes "/A")) (selector (codes "u") (codes "1") ∷ []) ∷ entry 2 (id_of (codes "/A")) (id_of (codes "/B")) (selector (codes "u") (codes "1") ∷ []) ∷ entry 3 (id_of (codes "/B")) (id_of (codes "/A")) (selector (codes "u") (codes "1") ∷ []) ∷ []
 
+-- the entry that no chain reaches
 abbrev pub stranger : Entry
 stranger = entry 4 (id_of (codes "/C")) (id_of (codes "/A")) (selector (codes "u") (codes "1") ∷ [])
 
 abbrev pub plain_agent : Agent
 plain_agent = agent (selector (codes "x") (codes "1") ∷ [])
 
+-- the authorised entries are those of the cycle, and not the other one
 abbrev pub CycleIsAuthorised : Type 0
 CycleIsAuthorised = authorised server plain_agent (book (cycle ++ stranger ∷ []) plain_agent) ≡ cycle
 
@@ -74,6 +82,7 @@ x3 = selector (codes "x") (codes "3")
 abbrev pub aliased : List Entry
 aliased = entry 1 server (id_of (codes "/alias")) (x1 ∷ x2 ∷ []) ∷ entry 2 (id_of (codes "/alias")) (id_of (codes "/web")) (selector (codes "u") (codes "1") ∷ []) ∷ entry 3 (id_of (codes "/web")) (id_of (codes "/side")) (selector (codes "u") (codes "2") ∷ []) ∷ []
 
+-- the agent's authorised entries, if it has these selectors
 abbrev pub authorised_with : List SelectorPair → List Entry
 authorised_with selectors = authorised server (agent selectors) (book aliased (agent selectors))
 
@@ -99,15 +108,19 @@ AliasOfAnother = authorised server (agent (x1 ∷ [])) (record { entries = alias
 
 -- ---- batches, run one after another
 
+-- the batch of these operations, with no minimum place and no token
 abbrev pub worked_batch : List Op → Batch
 worked_batch ops = record { domain = codes "ex.org"; ops = ops; after = 0; token = None }
 
+-- the reply at place n to a committed batch of one operation
 abbrev pub committed : ℕ → OpReply → Reply
 committed n r = record { place = n; outcome = Committed (r ∷ []) }
 
+-- the reply at place n to a query of one operation
 abbrev pub worked_answer : ℕ → OpReply → Reply
 worked_answer n r = record { place = n; outcome = Answered (r ∷ []) }
 
+-- the reply at place n to a batch that is refused for this operation
 abbrev pub refused : ℕ → ℕ → OpRefusal → Reply
 refused n op reason = record { place = n; outcome = Refused (OfOp op reason) }
 

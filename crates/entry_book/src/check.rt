@@ -53,6 +53,7 @@ fn first_past_of_many(ops: &[Op]) -> Option<usize>
     if ops.len() > 1 { first_past(ops) } else { None }
 }
 
+/// Returns the index of the first page that gives the number of a book.
 fn first_past(ops: &[Op]) -> Option<usize>
     ensures { result ≡ first_past 0 ops.now }
 {
@@ -64,6 +65,7 @@ fn first_past(ops: &[Op]) -> Option<usize>
     None
 }
 
+/// Returns true if a batch of these operations is read-only.
 fn is_query(ops: &[Op]) -> bool
     ensures { result ≡ is_query ops.now }
 {
@@ -254,18 +256,21 @@ fn own_fault(domain: &TrustDomain, of: &TrustDomain) -> Option<OpFault>
     None
 }
 
+/// Returns true if the ID is of another trust domain.
 fn is_foreign(domain: &TrustDomain, id: &SpiffeId) -> bool
     ensures { result ≡ is_foreign domain.now id.now }
 {
     id.domain() != domain.as_str()
 }
 
+/// Returns true if the ID's path is empty.
 fn has_no_path(id: &SpiffeId) -> bool
     ensures { result ≡ has_no_path id.now }
 {
     id.path().is_empty()
 }
 
+/// Returns true if the ID's path is that of an agent.
 fn is_agent_path(id: &SpiffeId) -> bool
     ensures { result ≡ is_agent_path (path_of id.now) }
 {

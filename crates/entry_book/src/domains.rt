@@ -114,6 +114,7 @@ impl Eq for DomainSet {
     ghost laws = { lists_equiv nat_list_eq_equiv };
 }
 
+/// Returns true if the domain is one of these.
 fn is_among(domain: &TrustDomain, domains: &[Shared<TrustDomain>]) -> bool
     ensures { result ≡ list_any (λ other. bytes_eq other domain.now) domains.now }
 {

@@ -24,6 +24,7 @@ pub(crate) fn is_same_ops(ops: &[Op], others: &[Op]) -> bool
     true
 }
 
+/// Returns true if these are the same operation. A new operation needs a case here; without one, it differs from itself.
 fn is_same_op(op: &Op, other: &Op) -> bool
     ensures { result ≡ op_eq op.now other.now }
 {
@@ -104,6 +105,7 @@ fn is_same_question(question: &Option<SelectorMatch>, other: &Option<SelectorMat
     }
 }
 
+/// Returns true if these are the same condition on selectors.
 fn is_same_match(question: &SelectorMatch, other: &SelectorMatch) -> bool
     ensures { result ≡ match_eq question.now other.now }
 {
