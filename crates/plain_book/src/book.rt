@@ -212,6 +212,7 @@ impl Book {
         })
     }
 
+    /// Returns the book with these entries, and otherwise unchanged.
     fn with_entries(&self, entries: Entries) -> Result<Book, AllocError>
         requires ascending { Ascending entry_key entries }
         ensures { IfOk result (λ book. book ≡ record self.now { entries = entries }) }
@@ -232,6 +233,7 @@ impl Book {
         })
     }
 
+    /// Returns the book with these agents, and otherwise unchanged.
     fn with_agents(&self, agents: Rows<Agent>) -> Result<Book, AllocError>
         requires ascending { Ascending agent_key agents }
         ensures { IfOk result (λ book. book ≡ record self.now { agents = agents }) }
@@ -252,6 +254,7 @@ impl Book {
         })
     }
 
+    /// Returns the book with these bundles, and otherwise unchanged.
     fn with_bundles(&self, bundles: Rows<Bundle>) -> Result<Book, AllocError>
         requires ascending { Ascending bundle_key bundles }
         ensures { IfOk result (λ book. book ≡ record self.now { bundles = bundles }) }
@@ -272,6 +275,7 @@ impl Book {
         })
     }
 
+    /// Returns the book with these stored batches, and otherwise unchanged.
     fn with_tokens(&self, tokens: Rows<Shared<KeptBatch>>) -> Result<Book, AllocError>
         requires ascending { Ascending token_key tokens }
         ensures { IfOk result (λ book. book ≡ record self.now { tokens = tokens }) }

@@ -10,12 +10,14 @@ ghost use Rattle.plain_book.specs.Blocks.{joined};
 use crate::blocks::Block;
 use entry_book::{Entry, NewEntry};
 
+/// Returns true if both entries have the same parent and identity.
 fn is_in_group(entry: &Entry, new: &NewEntry) -> bool
     ensures { result ≡ in_group new.now.parent new.now.identity entry.now }
 {
     entry.parent().get() == new.parent.get() && entry.identity().get() == new.identity.get()
 }
 
+/// Returns true if both entries have the same selectors, but different ids.
 fn is_another_with_its_selectors(entry: &Entry, new: &NewEntry) -> bool
     ensures { result
         ≡ (set_eq entry.now.selectors new.now.selectors && not (bytes_eq entry.now.id new.now.id)) }
