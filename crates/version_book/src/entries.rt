@@ -212,6 +212,7 @@ impl Entries {
         requires room { length (with_row entry_key row.row.id (Some row.row) (map row_of self.now)) ≤ most_rows }
         ensures { IfOk result (λ entries. entries ≡ with_row (of_row entry_key) row.row.id (Some row) self.now) }
     {
+        // the old entry occurs in the contract alone
         let _ = old;
         let group_keys = group_keys(alloc, &row.row)?;
         let user_keys = user_keys(alloc, &row.row)?;

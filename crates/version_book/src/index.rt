@@ -89,6 +89,7 @@ fn in_order<K: Ord + Clone>(index: &Shelf<K, CommittedRow<Entry>>)
     ensures order { IsInOrder K.cmp index.now }
     ensures most { length index.now ≤ most_rows }
 {
+    // its contract says that the rows are in order and fit in a shelf
     let _ = index.len();
 }
 
@@ -156,6 +157,7 @@ pub(crate) fn same_between<K: Ord + Clone>(
     others.next().is_none()
 }
 
+/// Returns true if both rows have the same entry id and were last written by the same commit.
 fn is_same(one: &CommittedRow<Entry>, other: &CommittedRow<Entry>) -> bool
     ensures { IsTrue result ↔ ((one.now.row.id ≡ other.now.row.id) × (one.now.commit ≡ other.now.commit)) }
 {
