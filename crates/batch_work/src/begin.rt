@@ -24,7 +24,7 @@ fn earlier_clone(batch: &Batch, window: &Window) -> Result<Option<Version>, Allo
     let Some(version) = earlier_in(batch, window) else {
         return Ok(None);
     };
-    // its contract says that the version's book is valid
+    // its contract says that the version's book is lawful
     let _ = version.number();
     Ok(Some(version.clone()?))
 }
@@ -36,6 +36,7 @@ pub(crate) fn begun_on(batch: &Batch, window: &Window) -> Result<Begun, AllocErr
     ensures began { IfOk result (IsStartOf batch.now) }
 {
     let newest = window.newest();
+    // these contracts say that the version's book is lawful, and that the batch was made for its trust domain
     let _ = newest.number();
     let _ = batch.domain();
     let names = both(newest.server().clone(), newest.clone());

@@ -9,6 +9,7 @@ use spiffe_name::TrustDomain;
 use std::alloc::{AllocError, Global};
 use version_book::Borrowed;
 
+/// Appends the domains, and increments their reference counts. The error is out of memory.
 fn push_all(
     all: &mut Vec<Shared<TrustDomain>>,
     domains: &[Shared<TrustDomain>],

@@ -98,6 +98,7 @@ pub(crate) fn next_mark(
     requires running { IsRunning stage.now }
     ensures { IfOk result (λ mark. slice_get (footprint_there batch.now (base_of begun.now)) (length course.now.marks.items) ≡ Some mark) }
 {
+    // the course occurs in the contract alone
     let _ = course;
     match stage {
         Stage::Token(token) => Ok(Mark::token(*token)),

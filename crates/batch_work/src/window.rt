@@ -98,6 +98,7 @@ impl Window {
     fn know_history(&self)
         ensures { Counted (versions self.now) }
     {
+        // the use of a field brings the type invariant into the proof
         let _ = &self.newest;
     }
 

@@ -142,6 +142,7 @@ impl Work {
         ensures begun { OnOk result (self.new ≡ record self.old { base = Some (base_in self.old.batch window.now) }) }
         ensures err { OnErr result (self.new ≡ self.old) }
     {
+        // its contract says that the batch was made for its trust domain
         let _ = self.batch.ops();
         let begun = begun_on(&self.batch, window)?;
         let stage = first_stage(&self.batch, &begun);

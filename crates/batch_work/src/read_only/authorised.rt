@@ -87,6 +87,7 @@ fn to_end<'a>(
     requires begun { walk.old ≡ walk_begun (server_text version.now.domain) agent.now (book_in version.now) }
     ensures { OnOk result (walk.new.found ≡ authorised (server_text version.now.domain) agent.now (book_in version.now)) }
 {
+    // the agent occurs in the contract alone; the contract of `number` says that the version's book is lawful
     let _ = agent;
     let _ = version.number();
     for _ in 0..version.count().entries {
@@ -132,6 +133,7 @@ fn push_bundles<'a>(
 ) -> Result<(), AllocError>
     ensures { OnOk result (found.new.items ≡ found.old.items ++ bundles_at (book_in version.now) domains.now) }
 {
+    // its contract says that the version's book is lawful
     let _ = version.number();
     for domain in domains {
         push_bundle(found, version.bundle(domain))?;
@@ -147,6 +149,7 @@ fn bundles_of<'a>(
 ) -> Result<Vec<Borrowed<'a, Bundle>>, AllocError>
     ensures { IfOk result (λ found. found.items ≡ bundles_of entries.now (book_in version.now)) }
 {
+    // its contract says that the version's book is lawful
     let _ = version.number();
     let domains = domains_of_borrowed(alloc, entries)?;
     let mut found = Vec::new(alloc);
