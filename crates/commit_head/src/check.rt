@@ -62,6 +62,7 @@ pub(crate) fn is_conflict(kept: &[Item], newest: &Version, older: &Version, mark
     ensures hit { (items : List JournalItem) → Leads older.now items newest.now → Agrees items kept.now → result ≡ true
         → list_any (λ mark. any_hits mark older.now (batches_of items)) marks.now ≡ true }
 {
+    // its contract says that the version's book is lawful, so that its rows are in order
     let _ = older.number();
     match items_since(kept, newest, older) {
         Some(since) => are_hit(since, marks),

@@ -73,11 +73,13 @@ pub(crate) fn prepared(
     ensures of_work { IfOk result (λ prepared. IsItemOf seat call work.now prepared.item) }
     ensures refused { IfErr result (IsRefusal newest.now kept.now work.now) }
 {
+    // its contract says that the batch was made for its trust domain
     let _ = work.batch().ops();
     let place = newest.number();
     let Some(base) = work.base() else {
         unreachable!()
     };
+    // its contract says that the version's book is lawful
     let _ = base.number();
     if is_conflict(kept, newest, base, work.marks()) {
         return Err(Commit::Conflict(place));
