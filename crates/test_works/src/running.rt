@@ -104,6 +104,7 @@ fn applied(version: &Version, batch: &Batch, changes: &Changes) -> Result<Versio
 {
     laws::places();
     laws::applying();
+    // its contract says that the batch was made for its trust domain
     let _ = batch.ops();
     let number = version.number();
     let count = version.count();
