@@ -10,6 +10,9 @@
 //! - [`IdRefusal`] and [`SelectorRefusal`]: why a text is refused, in the order in which the reasons are checked.
 //! - [`Failure`]: the error of a call: a refusal, or out of memory.
 //!
+//! The definitions are in `specs/`: `Domain`, `Id` and `Selector` have the grammar, `SelectorOrder` and `SelectorSet` the order
+//! and the sets of selectors, `Failures` the errors of calls, `Codes` the codes of refusals, and `Laws` the theorems.
+//!
 //! The rules are those of the SPIFFE-ID specification, narrowed in places: see `docs/NAMES.md`.
 //!
 //! `docs/GLOSSARY.md` explains the terms.
