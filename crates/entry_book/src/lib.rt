@@ -1,8 +1,8 @@
 //! What is a registration book, and what does a batch of operations do to it?
 //!
 //! The book of a server has four sets of rows: entries, agents, trust bundles, and the batches that were committed with a
-//! token. A batch of operations is atomic. This crate defines that in `specs/`. It has the types of books and batches, and
-//! proves the theorems about the definitions. A crate with a book, such as `plain_book`, is proved to reply as they say.
+//! token. A batch of operations is atomic. This crate defines that, has the types of rows and batches, and proves theorems
+//! about the definitions. A crate with a book, such as `plain_book`, is proved to reply as they say.
 //!
 //! - [`Batch`]: 1 to 64 operations without a fault for the book of one trust domain, with a minimum place and optionally a
 //!   token. [`BatchRefusal`] and [`OpFault`] say why a list of operations is not a batch.
@@ -18,6 +18,16 @@
 //! - [`both`], [`pair_with`]: pairs of values, where making each of them, or only the second, may have run out of memory.
 //! - [`is_server`]: whether an ID is that of a trust domain's server; [`limit_passed`]: the limit that a book passes, if any.
 //! - [`laws`]: theorems about every book, such as that each reachable book is lawful.
+//!
+//! The definitions are in `specs/`. Every crate above cites them, so a changed definition changes what the program promises:
+//!
+//! - `Rows`, `Book`, `Order`, `Writes`: what a book is, and how a write changes it; `Lawful`: the invariants of a book.
+//! - `Batches`, `Tokens`: which lists of operations are a batch, and what is stored for a token; `SameOps`: when two are equal.
+//! - `Ops`, `Runs`, `History`: what one operation, a batch, and one batch after another reply and change; `Limits`: how large a
+//!   book may become. `Authorised`, `Pages`: what the queries for authorised entries and for pages return. `Codes`: the codes of
+//!   refusals.
+//! - `Effects`, `NamedRows`, `Listings`, `Faultless`: the same in direct words, without the order of evaluation. `Laws`: the
+//!   theorems, among them that both agree. `Worked`: examples.
 //!
 //! `docs/BOOK.md` has the rules, and `docs/GLOSSARY.md` the terms.
 #![tactic(auto)]
