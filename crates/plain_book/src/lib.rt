@@ -32,7 +32,8 @@
 //! - `rows`: a list of rows; `blocks`, `row`: how a row is found in blocks, inserted, replaced or removed.
 //! - `entries`: both lists of entries; `siblings`, `by_parent`: the entries of one parent, and the list of all parents.
 //! - `find`, `listing`, `users`, `expired`: the rows that an operation reads; `worklist`: the authorised entries of an agent.
-//! - [`laws`]: the theorems that the state and the list of all books agree.
+//! - [`laws`]: the theorems that the state and the list of all books agree, stated in `specs/Laws.antt`. All other files of
+//!   `specs/` are for this crate's own contracts. No other crate depends on how a book is stored.
 //!
 //! `docs/GLOSSARY.md` explains the terms.
 #![tactic(auto)]
