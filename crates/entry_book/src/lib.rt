@@ -19,7 +19,7 @@
 //! - [`is_server`]: whether an ID is that of a trust domain's server; [`limit_passed`]: the limit that a book passes, if any.
 //! - [`laws`]: theorems about every book, such as that each reachable book is lawful.
 //!
-//! The definitions are in `specs/`. Every crate above cites them, so a changed definition changes what the program promises:
+//! The definitions are in `specs/`. The crates above cite them, so a changed definition changes what the program promises:
 //!
 //! - `Rows`, `Book`, `Order`, `Writes`: what a book is, and how a write changes it; `Lawful`: the invariants of a book.
 //! - `Batches`, `Tokens`: which lists of operations are a batch, and what is stored for a token; `SameOps`: when two are equal.
