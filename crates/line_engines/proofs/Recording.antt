@@ -147,7 +147,7 @@ has_stamps log calls n r of s =
       replied = λ i. (
         λ e.
             let at = (s.replied i).0 (sym of.replied_is ∙ e) in
-            let t = s.reported i at.0 at.1 in
+            let t = s.logged i at.0 at.1 in
             let is : t.0 ≡ Replied r.reply = reported_same _ _ (sym t.1 ∙ of.holds) in
             subst (λ k. EventAt log i (on.Reply k) (Answered k (Replied r.reply))) same
             (subst (λ d. EventAt log i (on.Reply of.call.number) d) (t.2 ∙ ap (Answered of.call.number) is) at.1),
@@ -177,7 +177,7 @@ ended_before : (log : List Happened) (first second : Recorded) (k : ℕ) → Has
 ended_before log first second k f s e l = record {
   reply_number = k;
   invoke_number = first.invoked;
-  reported = Answered second.call (Replied second.reply);
+  logged = Answered second.call (Replied second.reply);
   batch = first.batch;
   done = f.invoked.0;
   reply = (s.replied k).0 e;
