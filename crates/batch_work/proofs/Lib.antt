@@ -21,5 +21,5 @@ pub mod Walked
 pub mod WalkOrder
 pub mod Walks
 pub mod WalkStates
-pub mod WindowPlaces
+pub mod WindowSlots
 pub mod Windows

@@ -40,7 +40,7 @@ ReadsDecide = (own_domain : Bytes) (ops : List Op) (b c : Book) → AscendingBoo
 
 -- The two books are the same for a batch. They store the same under its token, and it has the same reads on both. If nothing is
 -- stored, its operations have the same run. It awaits a commit on both or on neither.
-pub record AreOneTo (batch : Batch) (b c : Book) : Type 0 where
+pub record AreSameFor (batch : Batch) (b c : Book) : Type 0 where
   pub kept : kept_under batch.token b ≡ kept_under batch.token c
   pub marks : footprint_in batch (case_on batch b) ≡ footprint_in batch (case_on batch c)
   pub runs : kept_under batch.token b ≡ None → run batch.domain batch.ops b ≡ run batch.domain batch.ops c
@@ -48,7 +48,7 @@ pub record AreOneTo (batch : Batch) (b c : Book) : Type 0 where
 
 -- if two books read the same at each mark that a batch reads on the first, they are the same for the batch
 abbrev pub BatchReadsDecide : Type 0
-BatchReadsDecide = (batch : Batch) (b c : Book) → AscendingBook b → AscendingBook c → AllByRecursion (Agree b c) (footprint_in batch (case_on batch b)) → AreOneTo batch b c
+BatchReadsDecide = (batch : Batch) (b c : Book) → AscendingBook b → AscendingBook c → AllByRecursion (Agree b c) (footprint_in batch (case_on batch b)) → AreSameFor batch b c
 
 -- ---- the commit check
 

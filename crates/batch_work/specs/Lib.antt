@@ -8,6 +8,6 @@ pub mod WorkInvariants
 pub mod Steps
 pub mod Walked
 pub mod WalkStates
-pub mod WindowPlaces
+pub mod WindowSlots
 pub mod Windows
 pub mod Working

@@ -10,7 +10,7 @@ ghost use Rattle.batch_work.specs.Working.{footprint_there};
 
 use crate::advance::{advance, mark_of};
 use crate::phase::{Next, Phase};
-use crate::stage::{Begun, Course, Found, Stage};
+use crate::stage::{Begun, Found, Progress, Stage};
 use crate::versions::Versions;
 use entry_book::{Batch, KeptBatch};
 use std::alloc::{AllocError, Global};
@@ -46,7 +46,7 @@ fn look_op(
     alloc: Global,
     begun: &Begun,
     batch: &Batch,
-    course: &Course,
+    course: &Progress,
     index: usize,
     phase: Phase,
 ) -> Result<(Mark, Next), Phase>
@@ -90,7 +90,7 @@ fn look_token(begun: &Begun, batch: &Batch, token: Uuid) -> Result<Option<KeptBa
 pub(crate) fn next_mark(
     begun: &Begun,
     batch: &Batch,
-    course: &Course,
+    course: &Progress,
     stage: &Stage,
 ) -> Result<Mark, AllocError>
     requires began { IsStartOf batch.now begun.now }
@@ -115,7 +115,7 @@ pub(crate) fn look(
     alloc: Global,
     begun: &Begun,
     batch: &Batch,
-    course: &Course,
+    course: &Progress,
     stage: Stage,
 ) -> Result<(Mark, Found), Stage>
     requires began { IsStartOf batch.now begun.now }

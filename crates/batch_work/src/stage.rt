@@ -17,7 +17,7 @@ pub(crate) struct Begun {
 
 /// What a work has recorded: the marks that it read, and the writes and the replies of the operations that have ended.
 #[derive(Drop)]
-pub(crate) struct Course {
+pub(crate) struct Progress {
     pub(crate) marks: Vec<Mark>,
     pub(crate) changes: Changes,
     pub(crate) replies: Vec<OpReply>,

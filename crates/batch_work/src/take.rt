@@ -7,7 +7,7 @@ ghost use Rattle.entry_book.specs.SameOps.{ops_eq};
 ghost use Rattle.batch_work.specs.WorkInvariants.{IsStartOf, Looked, StageInvariant, FoundInvariant, base_of};
 
 use crate::phase::{Next, Phase};
-use crate::stage::{Begun, Course, Found, Stage};
+use crate::stage::{Begun, Found, Progress, Stage};
 use crate::versions::version_gone;
 use entry_book::{
     Batch, KeptBatch, OpRefusal, OpReply, Refusal, Reply, ReplyOutcome, Sequence, Shared,
@@ -68,7 +68,7 @@ fn append_copy(changes: &mut Changes, writes: &Changes) -> Result<(), AllocError
 
 /// Records the reply and the writes of an operation that isn't the last one. The error is out of memory, and then nothing has
 /// changed.
-fn end_op(course: &mut Course, reply: &OpReply, writes: &Changes) -> Result<(), AllocError>
+fn end_op(course: &mut Progress, reply: &OpReply, writes: &Changes) -> Result<(), AllocError>
     ensures changes { OnOk result (course.new.changes ≡ course.old.changes ++ writes.now) }
     ensures replies { OnOk result (course.new.replies.items ≡ course.old.replies.items ++ reply.now ∷ []) }
     ensures err { OnErr result ((course.new.changes ≡ course.old.changes) × (course.new.replies.items ≡ course.old.replies.items)) }
@@ -121,7 +121,7 @@ fn end_changes(
 fn end_query(
     alloc: Global,
     begun: &Begun,
-    course: &Course,
+    course: &Progress,
     reply: &OpReply,
 ) -> Result<Stage, AllocError>
     ensures { IfOk result (λ stage. stage ≡ Stage.Settled (record {
@@ -138,7 +138,7 @@ fn end_query(
 fn end_changes_batch(
     alloc: Global,
     batch: &Batch,
-    course: &mut Course,
+    course: &mut Progress,
     reply: &OpReply,
     writes: &Changes,
 ) -> Result<Stage, AllocError>
@@ -159,7 +159,7 @@ fn ended(
     alloc: Global,
     begun: &Begun,
     batch: &Batch,
-    course: &mut Course,
+    course: &mut Progress,
     mark: &Mark,
     index: usize,
     reply: &OpReply,
@@ -190,7 +190,7 @@ pub(crate) fn take_down(
     alloc: Global,
     begun: &Begun,
     batch: &Batch,
-    course: &mut Course,
+    course: &mut Progress,
     mark: &Mark,
     found: Found,
 ) -> Result<Stage, Found>

@@ -2,7 +2,7 @@
 
 ghost use Rattle.std.specs.Prelude.{◌≡◌, ◌++◌, ◌∷◌, ◌-◌, [], Some, drop, length, map, slice_get};
 ghost use Rattle.std.specs.Option.{option_copied};
-ghost use Rattle.batch_work.specs.WindowPlaces.{held};
+ghost use Rattle.batch_work.specs.WindowSlots.{held};
 
 use arrayvec::ArrayVec;
 use std::alloc::AllocError;
@@ -50,7 +50,7 @@ pub struct Window {
 
 impl Model for Window {
     ghost use Rattle.batch_work.specs.Windows.{Window};
-    ghost use Rattle.batch_work.specs.WindowPlaces.{AreKept, held};
+    ghost use Rattle.batch_work.specs.WindowSlots.{AreKept, held};
 
     ghost Value = { Window };
 

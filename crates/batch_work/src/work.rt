@@ -6,7 +6,7 @@ ghost use Rattle.batch_work.specs.WorkInvariants.{IsStartOf, IsRunning, StageInv
 
 use crate::begin::{begun_on, first_stage};
 use crate::look::{look, next_mark};
-use crate::stage::{Begun, Course, Found, Stage};
+use crate::stage::{Begun, Found, Progress, Stage};
 use crate::status::Status;
 use crate::take::take_down;
 use crate::window::Window;
@@ -32,7 +32,7 @@ fn taken(
     alloc: Global,
     begun: &Begun,
     batch: &Batch,
-    course: &mut Course,
+    course: &mut Progress,
     mark: Mark,
     found: Found,
 ) -> (Stage, bool)
@@ -58,7 +58,7 @@ fn stepped(
     alloc: Global,
     begun: &Begun,
     batch: &Batch,
-    course: &mut Course,
+    course: &mut Progress,
     stage: Stage,
 ) -> (Stage, bool)
     requires began { IsStartOf batch.now begun.now }
@@ -91,7 +91,7 @@ pub struct Work {
     alloc: Global,
     batch: Batch,
     begun: Option<Begun>,
-    course: Course,
+    course: Progress,
     stage: Stage,
 }
 
@@ -120,7 +120,7 @@ impl Work {
     pub fn new(alloc: Global, batch: Batch) -> Work
         ensures { result ≡ record { batch = batch; base = None; steps = 0 } }
     {
-        let course = Course {
+        let course = Progress {
             marks: Vec::new(alloc),
             changes: Changes::new(alloc),
             replies: Vec::new(alloc),

@@ -2,8 +2,8 @@
 //! operation, each on the rows that the earlier ones left, up to the first refusal.
 
 use crate::plain_rows::{
-    DOMAINS, IDS, PlainEntry, PlainRows, delete_users, domain_place, entry_number, entry_of,
-    free_users, has_similar, id_place, is_used, is_user, no_rows, prune, selectors_of,
+    DOMAINS, IDS, PlainEntry, PlainRows, delete_users, domain_index, entry_number, entry_of,
+    free_users, has_similar, id_index, is_used, is_user, no_rows, prune, selectors_of,
 };
 use std::alloc::Global;
 use std::test::Fail;
@@ -130,13 +130,13 @@ fn prunes(rows: &mut PlainRows, text: &mut String, words: &[&str]) -> Result<boo
 
 fn sets_agent(rows: &mut PlainRows, text: &mut String, words: &[&str]) -> Result<bool, Fail> {
     read(text, "agent", word(words, 1))?;
-    rows.agents[id_place(word(words, 1))] = Some(selectors_of(word(words, 2)));
+    rows.agents[id_index(word(words, 1))] = Some(selectors_of(word(words, 2)));
     Ok(true)
 }
 
 fn drops_agent(rows: &mut PlainRows, text: &mut String, words: &[&str]) -> Result<bool, Fail> {
     read(text, "agent", word(words, 1))?;
-    let place = id_place(word(words, 1));
+    let place = id_index(word(words, 1));
     let was_there = rows.agents[place].is_some();
     rows.agents[place] = None;
     Ok(was_there)
@@ -144,12 +144,12 @@ fn drops_agent(rows: &mut PlainRows, text: &mut String, words: &[&str]) -> Resul
 
 fn sets_bundle(rows: &mut PlainRows, text: &mut String, words: &[&str]) -> Result<bool, Fail> {
     read(text, "bundle", word(words, 1))?;
-    rows.bundles[domain_place(word(words, 1))] = true;
+    rows.bundles[domain_index(word(words, 1))] = true;
     Ok(true)
 }
 
 /// Changes the entries that name a dropped bundle's domain. Returns true if the bundle is dropped.
-fn lets_users_go(rows: &mut PlainRows, domain: usize, mode: &str) -> bool {
+fn change_users(rows: &mut PlainRows, domain: usize, mode: &str) -> bool {
     match mode {
         "delete" => delete_users(rows, domain),
         "dissociate" => free_users(rows, domain),
@@ -160,12 +160,12 @@ fn lets_users_go(rows: &mut PlainRows, domain: usize, mode: &str) -> bool {
 
 fn drops_bundle(rows: &mut PlainRows, text: &mut String, words: &[&str]) -> Result<bool, Fail> {
     read(text, "bundle", word(words, 1))?;
-    let domain = domain_place(word(words, 1));
+    let domain = domain_index(word(words, 1));
     if !rows.bundles[domain] {
         return Ok(false);
     }
     read(text, "users", word(words, 1))?;
-    if !lets_users_go(rows, domain, word(words, 2)) {
+    if !change_users(rows, domain, word(words, 2)) {
         return Ok(false);
     }
     rows.bundles[domain] = false;
@@ -221,7 +221,7 @@ fn least_unread(rows: &PlainRows, walk: &PlainWalk) -> Option<usize> {
 }
 
 /// Reads the children of the least identity that is left. Returns true if there is one.
-fn walks_on(rows: &PlainRows, text: &mut String, walk: &mut PlainWalk) -> Result<bool, Fail> {
+fn read_next(rows: &PlainRows, text: &mut String, walk: &mut PlainWalk) -> Result<bool, Fail> {
     let Some(identity) = least_unread(rows, walk) else {
         return Ok(false);
     };
@@ -242,7 +242,7 @@ fn read_walk(
     read(text, "children", "/spire/server")?;
     read(text, "children", agent)?;
     for _ in 0..9_usize {
-        if !walks_on(rows, text, walk)? {
+        if !read_next(rows, text, walk)? {
             break;
         }
     }
@@ -274,7 +274,7 @@ fn read_trusted(rows: &PlainRows, text: &mut String, walk: &PlainWalk) -> Result
 /// The reads of `authorised` or `trust`. Returns false if it is refused.
 fn walks(rows: &PlainRows, text: &mut String, words: &[&str]) -> Result<bool, Fail> {
     read(text, "agent", word(words, 1))?;
-    let agent = id_place(word(words, 1));
+    let agent = id_index(word(words, 1));
     let Some(selectors) = rows.agents[agent] else {
         return Ok(false);
     };

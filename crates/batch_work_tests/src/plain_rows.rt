@@ -54,7 +54,7 @@ pub fn entry_number(word: &str) -> usize
 }
 
 /// The index of an ID in `IDS`.
-pub fn id_place(word: &str) -> usize
+pub fn id_index(word: &str) -> usize
     ensures { result < 5 }
 {
     match word {
@@ -67,7 +67,7 @@ pub fn id_place(word: &str) -> usize
 }
 
 /// The index of a trust domain in `DOMAINS`; that of the own domain, which never has a bundle, is after them.
-pub fn domain_place(word: &str) -> usize
+pub fn domain_index(word: &str) -> usize
     ensures { result < 4 }
 {
     match word {
@@ -99,8 +99,8 @@ fn domains_of(words: &[&str]) -> [bool; 3] {
 /// The entry of these words, at this revision.
 pub fn entry_of(words: &[&str], revision: u64) -> Result<PlainEntry, Fail> {
     Ok(PlainEntry {
-        parent: id_place(word(words, 2)),
-        identity: id_place(word(words, 3)),
+        parent: id_index(word(words, 2)),
+        identity: id_index(word(words, 3)),
         selectors: selectors_of(word(words, 4)),
         expiry: word(words, 5).parse::<u64>()?,
         domains: domains_of(words),

@@ -8,7 +8,7 @@ use entry_book::Batch;
 use std::alloc::Global;
 use std::test::Fail;
 use test_batches::{add_mark, batch, marks_text, replies_text, reply_text};
-use test_support::where_done;
+use test_support::if_done;
 use test_works::{MOST, STEPS, begun, may_begin, next_of};
 use version_book::Version;
 
@@ -18,7 +18,7 @@ fn step(alloc: Global, work: &mut Work, text: &mut String) -> Result<bool, Fail>
         return Ok(false);
     }
     let mark = work.next_mark()?;
-    let mark = where_done(work.step(), mark)?;
+    let mark = if_done(work.step(), mark)?;
     let added = add_mark(alloc, text, &mark);
     drop(mark);
     added?;
@@ -68,7 +68,7 @@ fn run_and_ask(alloc: Global, window: &Window, work: &mut Work) -> Result<(), Fa
 pub fn ended(alloc: Global, window: &Window, text: &str) -> Result<Work, Fail> {
     let mut work = begun(alloc, window, batch(alloc, text)?)?;
     let run = run_and_ask(alloc, window, &mut work);
-    where_done(run, work)
+    if_done(run, work)
 }
 
 /// The outcome of a work, as text: it is ready, with these replies, or settled with this reply.

@@ -14,7 +14,7 @@ use std::alloc::Global;
 use std::process::Abort;
 use std::test::Fail;
 use test_batches::{batch, trust_domain};
-use test_support::{had, where_done};
+use test_support::{had, if_done};
 
 /// The calls up to this number are checked when an event is refused.
 const LAST: u64 = 8;
@@ -201,7 +201,7 @@ fn add_events(alloc: Global, events: &mut Vec<Event>, table: &str) -> Result<(),
 fn events_of(alloc: Global, table: &str) -> Result<Vec<Event>, Fail> {
     let mut events = Vec::new(alloc);
     let added = add_events(alloc, &mut events, table);
-    where_done(added, events)
+    if_done(added, events)
 }
 
 /// The answer to an event of a list. Out of memory is an error, so that no table has to handle it.

@@ -6,7 +6,7 @@ use Rattle.entry_book.specs.History.{books_of}
 use Rattle.batch_work.specs.Windows.{WindowRepresents}
 use Rattle.commit_head.specs.declared.item.Item.{Item}
 use Rattle.commit_head.specs.Heads.{newest_of}
-use Rattle.commit_head.specs.Journals.{Agrees, IsEnding, Leads, batches_of, empty_version}
+use Rattle.commit_head.specs.Journals.{Agrees, IsSuffix, Leads, batches_of, empty_version}
 use Rattle.commit_head.specs.Laws.{BeganExtends, BeganHere, BeganInside, BeganKept, BeganUnchanged, JournalKept, JournalUnchanged}
 use Rattle.commit_head.proofs.Journals.{leads_in_parts, leads_more, leads_to_one}
 
@@ -41,7 +41,7 @@ journal_kept items old new j k = record {
   shown = subst (λ w. WindowRepresents w (books_of (batches_of items))) (sym k.window) j.shown;
 }
 
-ending_more : (whole end : List Item) (item : Item) → IsEnding whole end → IsEnding (whole ++ item ∷ []) (end ++ item ∷ [])
+ending_more : (whole end : List Item) (item : Item) → IsSuffix whole end → IsSuffix (whole ++ item ∷ []) (end ++ item ∷ [])
 ending_more whole end item e = (e.0, ap (λ l. l ++ item ∷ []) e.1 ∙ append_assoc e.0 end (item ∷ []))
 
 agrees_more : (items kept : List Item) (item : Item) → Agrees items kept → Agrees (items ++ item ∷ []) (kept ++ item ∷ [])
@@ -57,7 +57,7 @@ began_extends (Some base) item old new b j a =
     )
 
 -- after the first n items of two parts are dropped, the rest and the second part agree
-dropped : (n : ℕ) (front items : List Item) → IsEnding (drop n (front ++ items)) items ⊎ IsEnding items (drop n (front ++ items))
+dropped : (n : ℕ) (front items : List Item) → IsSuffix (drop n (front ++ items)) items ⊎ IsSuffix items (drop n (front ++ items))
 dropped zero front items = inl (front, refl)
 dropped (suc n) [] items = inr (take (suc n) items, sym (take-append-drop (suc n) items))
 dropped (suc n) (x ∷ front) items = dropped n front items

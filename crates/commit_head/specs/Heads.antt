@@ -11,7 +11,7 @@ use Rattle.batch_work.specs.Working.{Base, Work, HasReplies, HasWrites, footprin
 use Rattle.commit_head.specs.declared.commit.Commit.{Commit}
 use Rattle.commit_head.specs.declared.commit.Commit.TheVariants.{Conflict, Full, Committed, NoMemory}
 use Rattle.commit_head.specs.declared.item.Item.{Item}
-use Rattle.commit_head.specs.Journals.{Joins, Leads, Agrees, IsEnding, batches_of, empty_version}
+use Rattle.commit_head.specs.Journals.{Joins, Leads, Agrees, IsSuffix, batches_of, empty_version}
 
 -- A head as contracts see it: the window on which works begin, the retained items of the journal, and the number of items for
 -- which it has room.
@@ -32,7 +32,7 @@ head_place h = h.window.newest.number
 -- the last of them, and the window represents the list of all their books.
 pub record IsJournal (items : List Item) (h : Head) : Type 0 where
   pub leads : Leads (empty_version h.window.newest.domain) items h.window.newest
-  pub ending : IsEnding items h.kept
+  pub ending : IsSuffix items h.kept
   pub shown : WindowRepresents h.window (books_of (batches_of items))
 
 -- some items are the head's journal

@@ -31,12 +31,12 @@ abbrev pub batches_of : List Item → List Batch
 batches_of items = map (λ item. item.batch) items
 
 -- the second list is a suffix of the first
-abbrev pub IsEnding : List Item → List Item → Type 0
-IsEnding whole end = (front : List Item) × (whole ≡ front ++ end)
+abbrev pub IsSuffix : List Item → List Item → Type 0
+IsSuffix whole end = (front : List Item) × (whole ≡ front ++ end)
 
 -- one list is a suffix of the other
 abbrev pub Agrees : List Item → List Item → Type 0
-Agrees items others = IsEnding items others ⊎ IsEnding others items
+Agrees items others = IsSuffix items others ⊎ IsSuffix others items
 
 -- ---- in relation to the specification
 

@@ -10,12 +10,12 @@ use Rattle.commit_head.specs.declared.commit.Commit.{Commit}
 use Rattle.commit_head.specs.declared.commit.Commit.TheVariants.{Conflict, Full, Committed, NoMemory}
 use Rattle.commit_head.specs.declared.item.Item.{Item}
 use Rattle.commit_head.specs.Heads.{BeganOn, Head, IsAppended, IsCommit, IsUnchangedHead, last_items, newest_of}
-use Rattle.commit_head.specs.Journals.{Agrees, IsEnding, Joins, Leads}
+use Rattle.commit_head.specs.Journals.{Agrees, IsSuffix, Joins, Leads}
 use Rattle.commit_head.proofs.Journals.{leads_more}
 
 -- ---- one more item
 
-ending_more : (whole end : List Item) (item : Item) → IsEnding whole end → IsEnding (whole ++ item ∷ []) (end ++ item ∷ [])
+ending_more : (whole end : List Item) (item : Item) → IsSuffix whole end → IsSuffix (whole ++ item ∷ []) (end ++ item ∷ [])
 ending_more whole end item e = (e.0, ap (λ l. l ++ item ∷ []) e.1 ∙ append_assoc e.0 end (item ∷ []))
 
 agrees_more : (items kept : List Item) (item : Item) → Agrees items kept → Agrees (items ++ item ∷ []) (kept ++ item ∷ [])

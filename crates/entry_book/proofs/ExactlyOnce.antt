@@ -16,7 +16,7 @@ use Rattle.entry_book.specs.Limits.{limit_passed}
 use Rattle.entry_book.specs.Batches.{Batch, IsMadeFor, is_query, past_place}
 use Rattle.entry_book.specs.History.{last_book, place_of, batch_writes, book_for, kept_under, adds_within, is_committed, Verdict, refuses, answers, adds, repeats, verdict, verdict_when, verdict_run, reply_with, reply_to, books_with, books_after, books_from, IsHistory}
 use Rattle.entry_book.specs.Lawful.{Lawful}
-use Rattle.entry_book.specs.Laws.{ArePagesAlone, AskForLast, CommittedOnce}
+use Rattle.entry_book.specs.Laws.{ArePagesAlone, ReadLastBook, CommittedOnce}
 use Rattle.entry_book.specs.Tokens.{token_key}
 use Rattle.entry_book.proofs.Faults.{asks_last, not_refused}
 use Rattle.entry_book.proofs.Keys.{at_row}
@@ -148,10 +148,10 @@ committed_keeps own_domain token batch books h s m k = of_verdict (IfCommitted b
 
 -- ---- each later batch with the token
 
-asks_only_last : (own_domain : Bytes) (batch : Batch) → IsMadeFor own_domain batch → past_place batch.ops ≡ None → AskForLast batch.ops
+asks_only_last : (own_domain : Bytes) (batch : Batch) → IsMadeFor own_domain batch → past_place batch.ops ≡ None → ReadLastBook batch.ops
 asks_only_last own_domain batch m n = of_ops batch.ops ((not_refused batch.domain batch.ops batch.token).0 m.no_fault).1 n
   where
-    of_ops : (ops : List Op) → ArePagesAlone ops → past_place ops ≡ None → AskForLast ops
+    of_ops : (ops : List Op) → ArePagesAlone ops → past_place ops ≡ None → ReadLastBook ops
     of_ops [] a n = λ q w. absurd w
     of_ops (op ∷ []) a n = asks_last (op ∷ []) (n, tt)
     of_ops (op ∷ other ∷ ops) a n = a (omega arith)

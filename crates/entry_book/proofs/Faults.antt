@@ -12,7 +12,7 @@ use Rattle.entry_book.specs.declared.fault.BatchRefusal.{BatchRefusal}
 use Rattle.entry_book.specs.declared.fault.BatchRefusal.TheVariants.{NoOps, TooManyOps, OfOp, PastPageNotAlone, TokenOnQuery}
 use Rattle.entry_book.specs.Rows.{Bytes}
 use Rattle.entry_book.specs.Batches.{batch_refusal, first_past_of_many, first_past, is_query, op_fault, ops_refusal, or_later, or_token, place_asked}
-use Rattle.entry_book.specs.Laws.{AreFaultless, ArePagesAlone, AskForLast, FaultAt, PastPageAt}
+use Rattle.entry_book.specs.Laws.{AreFaultless, ArePagesAlone, ReadLastBook, FaultAt, PastPageAt}
 
 abbrev NoneAtFault : Bytes → List Op → Type 0
 NoneAtFault domain ops = AllByRecursion (λ op. op_fault domain op ≡ None) ops
@@ -194,7 +194,7 @@ page_of (Page q) n h = record { query = q; is_page = refl; at = h }
 page_of op n h = cc
 
 -- no page of these operations gives the number of a book, in both definitions
-pub asks_last : (ops : List Op) → NoneAsks ops → AskForLast ops
+pub asks_last : (ops : List Op) → NoneAsks ops → ReadLastBook ops
 asks_last [] h = λ q w. absurd w
 asks_last (op ∷ ops) h = λ q w. ⊎_elim (λ e. ap place_asked (sym e) ∙ h.0) (λ v. asks_last ops h.1 q v) w
 
@@ -202,7 +202,7 @@ none_or_page : (op : Op) → ((q : PageQuery) → op ≡ Page q → q.at ≡ Non
 none_or_page (Page q) h = h q refl
 none_or_page op h = refl
 
-pub last_asks : (ops : List Op) → AskForLast ops → NoneAsks ops
+pub last_asks : (ops : List Op) → ReadLastBook ops → NoneAsks ops
 last_asks [] h = tt
 last_asks (op ∷ ops) h = (none_or_page op (λ q e. h q (inl e)), last_asks ops (λ q w. h q (inr w)))
 

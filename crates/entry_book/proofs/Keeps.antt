@@ -22,7 +22,7 @@ use Rattle.entry_book.specs.Lawful.{Lawful}
 use Rattle.entry_book.proofs.Changed.{after-append, after_freed_then, after_removed, after_removed_then, ascending_map, from_within_map}
 use Rattle.entry_book.proofs.Faultless.{fewer_domains, not_its_own}
 use Rattle.entry_book.proofs.Keys.{at_row}
-use Rattle.entry_book.proofs.LawfulRows.{AreMilder, Milder, lawful_agent, lawful_bundle, lawful_entry, lawful_milder, same_milder, wider}
+use Rattle.entry_book.proofs.LawfulRows.{AreMilder, MayReplace, lawful_agent, lawful_bundle, lawful_entry, lawful_milder, same_milder, wider}
 use Rattle.entry_book.proofs.Present.{not_similar, all_bundled}
 use Rattle.entry_book.proofs.Sets.{All-from_within, All-within, ascending_filter, from_any, from_within_filter}
 
@@ -102,7 +102,7 @@ none_pass : {X : Type 0} (p : X → Bool) (xs : List X) → ((x : X) → Within 
 none_pass p [] h = refl
 none_pass p (x ∷ xs) h = let q = h x (inl refl) in rw q (none_pass p xs (λ y w. h y (inr w)))
 
-milder_freed : (own_domain : Bytes) (m : ℕ) (k : Bytes) (e : Entry) → e.revision ≤ m → Milder own_domain (m + 1) e (dissociated k e)
+milder_freed : (own_domain : Bytes) (m : ℕ) (k : Bytes) (e : Entry) → e.revision ≤ m → MayReplace own_domain (m + 1) e (dissociated k e)
 milder_freed own_domain m k e h = record {
   id = refl;
   parent = refl;
@@ -127,7 +127,7 @@ freed_milder own_domain m b k l x w =
     let low = l.revisions r.0 r.1 in (
       r.0,
       r.1,
-      subst (Milder own_domain (m + 1) r.0) r.2 (elim (names k r.0) as (λ t. Milder own_domain (m + 1) r.0 (cond t (dissociated k r.0) r.0)) [
+      subst (MayReplace own_domain (m + 1) r.0) r.2 (elim (names k r.0) as (λ t. MayReplace own_domain (m + 1) r.0 (cond t (dissociated k r.0) r.0)) [
         | true ↦ milder_freed own_domain m k r.0 low
         | false ↦ same_milder own_domain (m + 1) b (wider (m + 1) (omega arith) l) r.0 r.1
       ]),

@@ -78,7 +78,7 @@ lawful_entry own_domain m b l k o n h =
 -- ---- entries that are removed, or changed
 
 -- The entry x may replace e in a lawful book: it has the same id, parent, identity and selectors, and no further domain.
-pub record Milder (own_domain : Bytes) (m : ℕ) (e x : Entry) : Type 0 where
+pub record MayReplace (own_domain : Bytes) (m : ℕ) (e x : Entry) : Type 0 where
   pub id : x.id ≡ e.id
   pub parent : x.parent ≡ e.parent
   pub identity : x.identity ≡ e.identity
@@ -88,12 +88,12 @@ pub record Milder (own_domain : Bytes) (m : ℕ) (e x : Entry) : Type 0 where
   pub no_fault : entry_fault own_domain (given_of e) ≡ None → entry_fault own_domain (given_of x) ≡ None
   pub low : x.revision ≤ m
 
-pub same_milder : (own_domain : Bytes) (m : ℕ) (b : Book) → Lawful own_domain m b → (e : Entry) → Within b.entries e → Milder own_domain m e e
+pub same_milder : (own_domain : Bytes) (m : ℕ) (b : Book) → Lawful own_domain m b → (e : Entry) → Within b.entries e → MayReplace own_domain m e e
 same_milder own_domain m b l e w = record { id = refl; parent = refl; identity = refl; selectors = refl; domains = λ d v. v; proper = λ p. p; no_fault = λ f. f; low = l.revisions e w }
 
 -- each of these rows may replace an entry of the book
 abbrev pub AreMilder : Bytes → ℕ → Book → List Entry → Type 0
-AreMilder own_domain m b rows = (x : Entry) → Within rows x → (e : Entry) × Within b.entries e × Milder own_domain m e x
+AreMilder own_domain m b rows = (x : Entry) → Within rows x → (e : Entry) × Within b.entries e × MayReplace own_domain m e x
 
 pub lawful_milder : (own_domain : Bytes) (m : ℕ) (b : Book) (rows : List Entry) → Lawful own_domain m b → Ascending entry_key rows → AreMilder own_domain m b rows → Lawful own_domain m (record b { entries = rows })
 lawful_milder own_domain m b rows l a from = record {

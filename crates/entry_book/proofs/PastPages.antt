@@ -6,7 +6,7 @@ use Rattle.entry_book.specs.declared.op.Op.TheVariants.{Page}
 use Rattle.entry_book.specs.declared.page.PageQuery.{PageQuery}
 use Rattle.entry_book.specs.Rows.{Bytes}
 use Rattle.entry_book.specs.Batches.{Batch, IsMadeFor, is_query, past_place}
-use Rattle.entry_book.specs.Laws.{ArePagesAlone, AskForLast}
+use Rattle.entry_book.specs.Laws.{ArePagesAlone, ReadLastBook}
 use Rattle.entry_book.proofs.Faults.{PageOf, last_asks, not_refused, page_of}
 
 pub record IsPastPage (batch : Batch) (n : ℕ) : Type 0 where
@@ -41,6 +41,6 @@ changes_newest own_domain batch m q = none_when batch (past_place batch.ops) ref
     none_when batch' (Some n) e = let a : true ≡ false = sym (past_asks own_domain batch n m e) ∙ q in cc
 
 -- operations whose pages give no book's number read no earlier book
-pub asks_newest : (ops : List Op) → AskForLast ops → past_place ops ≡ None
+pub asks_newest : (ops : List Op) → ReadLastBook ops → past_place ops ≡ None
 asks_newest [] h = refl
 asks_newest (op ∷ ops) h = (last_asks (op ∷ ops) h).0

@@ -14,7 +14,7 @@ use Rattle.entry_book.specs.declared.page.SelectorMatch.{SelectorMatch}
 use Rattle.entry_book.specs.declared.op.Op.TheVariants.{Create, Update, Delete, Show, ShowAgent, ShowBundle, Children, Page, Authorised, Trust, Prune, SetAgent, DropAgent, SetBundle, DropBundle}
 use Rattle.entry_book.specs.Rows.{Bytes, IsId, IsProperEntry, IsProperAgent}
 use Rattle.entry_book.specs.Faultless.{IsIdOf, IsAgentIdOf, FaultlessEntry, FaultlessAgent, FaultlessBundle, FaultlessOp, FaultlessPage}
-use Rattle.entry_book.specs.Batches.{entry_fault, parent_fault, asked_fault, agent_fault, own_fault, bundle_fault, op_fault, is_foreign, has_no_path, if_given, is_outside, page_fault, IsProperOp, IsProperPage}
+use Rattle.entry_book.specs.Batches.{entry_fault, parent_fault, agent_id_fault, agent_fault, own_domain_fault, bundle_fault, op_fault, is_foreign, has_no_path, if_given, is_outside, page_fault, IsProperOp, IsProperPage}
 use Rattle.entry_book.proofs.Ids.{not_false, some, id_of, from_id_of, agent_id_of, from_agent_id_of}
 use Rattle.entry_book.proofs.Servers.{apart_from}
 use Rattle.entry_book.proofs.Sets.{text_same}
@@ -151,8 +151,8 @@ page_faults own_domain q p = (
       (passed _ _ _ (not_either _ _ (not_more q.size 1 v.some_room) (not_more 500 q.size v.size)) refl))),
 )
 
-asked_faults : (own_domain id : Bytes) → IsId id → (asked_fault own_domain id ≡ None) ↔ IsAgentIdOf own_domain id
-unfolding asked_fault
+asked_faults : (own_domain id : Bytes) → IsId id → (agent_id_fault own_domain id ≡ None) ↔ IsAgentIdOf own_domain id
+unfolding agent_id_fault
 asked_faults own_domain id i = (
   λ h. let a = passes _ _ _ h in let b = passes _ _ _ a.1 in agent_id_of own_domain id i a.0 (not_false _ b.0),
   λ v. let r = from_agent_id_of own_domain id v in passed _ _ _ r.0 (passed _ _ _ (ap not r.1) refl),
@@ -169,8 +169,8 @@ agent_faults own_domain a p = (
 
 -- ---- a bundle
 
-own_faults : (own_domain domain : Bytes) → (own_fault own_domain domain ≡ None) ↔ (domain ≢ own_domain)
-unfolding own_fault
+own_faults : (own_domain domain : Bytes) → (own_domain_fault own_domain domain ≡ None) ↔ (domain ≢ own_domain)
+unfolding own_domain_fault
 own_faults own_domain domain = (λ h. differ domain own_domain (passes _ _ _ h).0, λ n. passed _ _ _ (apart_from domain own_domain n) refl)
 
 pub bundle_faults : (own_domain domain text : Bytes) → (bundle_fault own_domain domain text ≡ None) ↔ FaultlessBundle own_domain domain text

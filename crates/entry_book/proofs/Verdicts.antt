@@ -22,7 +22,7 @@ use Rattle.entry_book.specs.Runs.{RunEffect, RefusedOp, run}
 use Rattle.entry_book.specs.Limits.{limit_passed}
 use Rattle.entry_book.specs.Batches.{Batch, IsMadeFor, is_query, past_place}
 use Rattle.entry_book.specs.History.{last_book, last_or, place_of, among_last, batch_writes, book_for, kept_under, Verdict, refuses, verdict_again, verdict_when, verdict_run, verdict_over, verdict_on, verdict, reply_to, reply_with, books_with}
-use Rattle.entry_book.specs.Laws.{AskForLast, HasOutcome, IsTokenFree, RunsOn, asked_now, batch_now}
+use Rattle.entry_book.specs.Laws.{ReadLastBook, HasOutcome, IsTokenFree, RunsOn, as_newest_page, batch_now}
 use Rattle.entry_book.specs.Pages.{listed, next_of}
 use Rattle.entry_book.proofs.Histories.{verdict_answers, verdict_changes}
 use Rattle.entry_book.proofs.PastPages.{IsPastPage, asks_newest, past_page}
@@ -81,10 +81,10 @@ full_refused batch books t limit r h k l = comes_by batch books _ (runs_on batch
 again : (k : KeptBatch) (batch : Batch) (same : Bool) → ops_eq k.ops batch.ops ≡ same → (place : ℕ) (b : Book) → verdict_over (Some k) batch place b ≡ verdict_again same k
 again k batch same e place b = ap (λ x. verdict_again x k) e
 
-pub repeat_answered : (batch : Batch) (books : List Book) (k : KeptBatch) → AscendingBook (last_book books) → batch.after ≤ place_of books → AskForLast batch.ops → Within (last_book books).tokens k → batch.token ≡ Some k.token → k.ops ≡ batch.ops → HasOutcome batch books (record { place = k.place; outcome = Repeated k.replies }) books
+pub repeat_answered : (batch : Batch) (books : List Book) (k : KeptBatch) → AscendingBook (last_book books) → batch.after ≤ place_of books → ReadLastBook batch.ops → Within (last_book books).tokens k → batch.token ≡ Some k.token → k.ops ≡ batch.ops → HasOutcome batch books (record { place = k.place; outcome = Repeated k.replies }) books
 repeat_answered batch books k a h n w e s = comes_by batch books _ (on_newest batch books (Some k) h (asks_newest batch.ops n) (row_found batch.token k (last_book books) a w e) ∙ again k batch true ((same_ops k.ops batch.ops).1 s) (place_of books) (last_book books))
 
-pub reuse_refused : (batch : Batch) (books : List Book) (k : KeptBatch) → AscendingBook (last_book books) → batch.after ≤ place_of books → AskForLast batch.ops → Within (last_book books).tokens k → batch.token ≡ Some k.token → (k.ops ≡ batch.ops → ⊥) → HasOutcome batch books (record { place = place_of books; outcome = Refused TokenReused }) books
+pub reuse_refused : (batch : Batch) (books : List Book) (k : KeptBatch) → AscendingBook (last_book books) → batch.after ≤ place_of books → ReadLastBook batch.ops → Within (last_book books).tokens k → batch.token ≡ Some k.token → (k.ops ≡ batch.ops → ⊥) → HasOutcome batch books (record { place = place_of books; outcome = Refused TokenReused }) books
 reuse_refused batch books k a h n w e s = comes_by batch books _ (on_newest batch books (Some k) h (asks_newest batch.ops n) (row_found batch.token k (last_book books) a w e) ∙ again k batch false (⊎_elim (λ t. absurd (s ((same_ops k.ops batch.ops).0 t))) (λ t. t) (cases_Bool (ops_eq k.ops batch.ops))) (place_of books) (last_book books))
 
 -- ---- earlier books
@@ -126,7 +126,7 @@ abbrev page_now : (batch : Batch) (n : ℕ) → IsPastPage batch n → Batch
 page_now batch n p = record batch { ops = Page (record p.query { at = None }) ∷ []; after = 0; token = None }
 
 now_is : (batch : Batch) (n : ℕ) → (p : IsPastPage batch n) → batch_now batch ≡ page_now batch n p
-now_is batch n p = ap (λ ops. record batch { ops = map asked_now ops; after = 0 }) p.ops ∙ ap (λ t. record batch { ops = Page (record p.query { at = None }) ∷ []; after = 0; token = t }) p.token
+now_is batch n p = ap (λ ops. record batch { ops = map as_newest_page ops; after = 0 }) p.ops ∙ ap (λ t. record batch { ops = Page (record p.query { at = None }) ∷ []; after = 0; token = t }) p.token
 
 -- the reply to a page, at any place
 outcome_now : (batch : Batch) (n place : ℕ) (books : List Book) (b : Book) → (p : IsPastPage batch n) → last_book books ≡ b → (reply_with place (verdict_run batch place b)).outcome ≡ (reply_to (batch_now batch) books).outcome

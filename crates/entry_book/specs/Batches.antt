@@ -112,8 +112,8 @@ page_fault domain q =
     None)))
 
 -- the fault of an agent that is queried or dropped
-unfoldable pub asked_fault : Bytes → Bytes → Option OpFault
-asked_fault domain id =
+unfoldable pub agent_id_fault : Bytes → Bytes → Option OpFault
+agent_id_fault domain id =
     refuse_if (is_foreign domain id) ForeignId (
     refuse_if (not (is_agent_path (path_of id))) AgentPath
     None)
@@ -127,8 +127,8 @@ agent_fault domain a =
     None))
 
 -- the fault of a bundle that is dropped
-unfoldable pub own_fault : Bytes → Bytes → Option OpFault
-own_fault domain d =
+unfoldable pub own_domain_fault : Bytes → Bytes → Option OpFault
+own_domain_fault domain d =
     refuse_if (bytes_eq d domain) OwnDomainBundle
     None
 
@@ -145,17 +145,17 @@ op_fault domain (Create e) = entry_fault domain e
 op_fault domain (Update e expected) = entry_fault domain e
 op_fault domain (Delete k expected) = None
 op_fault domain (Show k) = None
-op_fault domain (ShowAgent k) = asked_fault domain k
+op_fault domain (ShowAgent k) = agent_id_fault domain k
 op_fault domain (ShowBundle d) = None
 op_fault domain (Children p) = parent_fault domain p
 op_fault domain (Page q) = page_fault domain q
-op_fault domain (Authorised k) = asked_fault domain k
-op_fault domain (Trust k) = asked_fault domain k
+op_fault domain (Authorised k) = agent_id_fault domain k
+op_fault domain (Trust k) = agent_id_fault domain k
 op_fault domain (Prune moment) = None
 op_fault domain (SetAgent a) = agent_fault domain a
-op_fault domain (DropAgent k) = asked_fault domain k
+op_fault domain (DropAgent k) = agent_id_fault domain k
 op_fault domain (SetBundle d text) = bundle_fault domain d text
-op_fault domain (DropBundle d mode) = own_fault domain d
+op_fault domain (DropBundle d mode) = own_domain_fault domain d
 
 -- the fault of operation n, if it has one; otherwise `later`
 abbrev pub or_later : Option OpFault → ℕ → Option BatchRefusal → Option BatchRefusal

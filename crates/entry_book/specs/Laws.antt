@@ -263,8 +263,8 @@ pub record AreFaultless (domain : Bytes) (ops : List Op) : Type 0 where
   pub none : AllByRecursion (λ op. op_fault domain op ≡ None) ops
 
 -- no page of these operations gives the number of a book
-abbrev pub AskForLast : List Op → Type 0
-AskForLast ops = (q : PageQuery) → Within ops (Page q) → q.at ≡ None
+abbrev pub ReadLastBook : List Op → Type 0
+ReadLastBook ops = (q : PageQuery) → Within ops (Page q) → q.at ≡ None
 
 -- Operation n is the first page that gives the number of a book.
 pub record PastPageAt (ops : List Op) (n : ℕ) : Type 0 where
@@ -273,13 +273,13 @@ pub record PastPageAt (ops : List Op) (n : ℕ) : Type 0 where
   pub rest : List Op
   pub split : ops ≡ front ++ Page query ∷ rest
   pub index : n ≡ length front
-  pub none_before : AskForLast front
+  pub none_before : ReadLastBook front
   pub place : ℕ
   pub asked : query.at ≡ Some place
 
 -- no page that gives the number of a book comes together with another operation
 abbrev pub ArePagesAlone : List Op → Type 0
-ArePagesAlone ops = 1 < length ops → AskForLast ops
+ArePagesAlone ops = 1 < length ops → ReadLastBook ops
 
 -- a batch is refused for page n exactly if no operation has a fault, there are several, and page n is the first that gives
 -- a book's number
@@ -318,8 +318,8 @@ abbrev pub OthersLeave : Type 0
 OthersLeave = (batch : Batch) (books : List Book) → commits batch books ≡ false → (books_after batch books ≡ books) × (is_repeated (reply_to batch books).outcome ≡ false → (reply_to batch books).place ≡ place_of books)
 
 -- a query is never committed
-abbrev pub QueriesOnlyAsk : Type 0
-QueriesOnlyAsk = (batch : Batch) (books : List Book) → is_query batch.ops ≡ true → commits batch books ≡ false
+abbrev pub QueriesNeverCommit : Type 0
+QueriesNeverCommit = (batch : Batch) (books : List Book) → is_query batch.ops ≡ true → commits batch books ≡ false
 
 -- the reply to a batch on some books, and the books after it
 abbrev pub HasOutcome : Batch → List Book → Reply → List Book → Type 0
@@ -332,7 +332,7 @@ IsTokenFree token b = IfSome token (λ t. (k : KeptBatch) → Within b.tokens k 
 -- It may run at this place, no page of it gives the number of a book, and the last book stores no batch under its token.
 pub record RunsOn (batch : Batch) (books : List Book) : Type 0 where
   pub reached : batch.after ≤ place_of books
-  pub newest : AskForLast batch.ops
+  pub newest : ReadLastBook batch.ops
   pub not_kept : IsTokenFree batch.token (last_book books)
 
 -- a batch whose minimum place isn't reached is refused for this, before any other check, and the books stay
@@ -359,13 +359,13 @@ FullRefused = (batch : Batch) (books : List Book) (t : RunEffect) (limit : Limit
 -- ---- earlier books
 
 -- the same page without the number of a book
-abbrev pub asked_now : Op → Op
-asked_now (Page q) = Page (record q { at = None })
-asked_now op = op
+abbrev pub as_newest_page : Op → Op
+as_newest_page (Page q) = Page (record q { at = None })
+as_newest_page op = op
 
 -- the same batch without the number of a book and without a minimum place
 abbrev pub batch_now : Batch → Batch
-batch_now batch = record batch { ops = map asked_now batch.ops; after = 0 }
+batch_now batch = record batch { ops = map as_newest_page batch.ops; after = 0 }
 
 -- a page of book n, one of the last 64, gets the reply that it got when book n was the last, and the books stay
 abbrev pub PastAnswered : Type 0
@@ -409,11 +409,11 @@ KeptCommitted = (own_domain : Bytes) (batches : List Batch) (books : List Book) 
 
 -- a batch whose token is in use gets the stored reply if it has the same operations; the books stay
 abbrev pub RepeatAnswered : Type 0
-RepeatAnswered = (batch : Batch) (books : List Book) (k : KeptBatch) → AscendingBook (last_book books) → batch.after ≤ place_of books → AskForLast batch.ops → Within (last_book books).tokens k → batch.token ≡ Some k.token → k.ops ≡ batch.ops → HasOutcome batch books (record { place = k.place; outcome = Repeated k.replies }) books
+RepeatAnswered = (batch : Batch) (books : List Book) (k : KeptBatch) → AscendingBook (last_book books) → batch.after ≤ place_of books → ReadLastBook batch.ops → Within (last_book books).tokens k → batch.token ≡ Some k.token → k.ops ≡ batch.ops → HasOutcome batch books (record { place = k.place; outcome = Repeated k.replies }) books
 
 -- with other operations, it is refused
 abbrev pub ReuseRefused : Type 0
-ReuseRefused = (batch : Batch) (books : List Book) (k : KeptBatch) → AscendingBook (last_book books) → batch.after ≤ place_of books → AskForLast batch.ops → Within (last_book books).tokens k → batch.token ≡ Some k.token → (k.ops ≡ batch.ops → ⊥) → HasOutcome batch books (record { place = place_of books; outcome = Refused TokenReused }) books
+ReuseRefused = (batch : Batch) (books : List Book) (k : KeptBatch) → AscendingBook (last_book books) → batch.after ≤ place_of books → ReadLastBook batch.ops → Within (last_book books).tokens k → batch.token ≡ Some k.token → (k.ops ≡ batch.ops → ⊥) → HasOutcome batch books (record { place = place_of books; outcome = Refused TokenReused }) books
 
 -- Once a batch is committed with a token, no other batch is committed with it. Later, after any batches, one with the same
 -- operations gets the same replies and place, and one with other operations is refused, if its minimum place is reached.

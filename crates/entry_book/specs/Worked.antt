@@ -226,5 +226,5 @@ abbrev pub LifetimesKept : Type 0
 LifetimesKept = replies_from first_books (worked_batch (Create (web_for 3600 60) ∷ []) ∷ worked_batch (Create (record (web_for 1 2) { id = worked_uuid 2 }) ∷ []) ∷ worked_batch (Update (web_for 0 0) None ∷ []) ∷ []) ≡ committed 1 (replied.Entry (web_at 3600 60 0)) ∷ refused 1 0 (Similar (worked_uuid 1)) ∷ committed 2 (replied.Entry (web_at 0 0 1)) ∷ []
 
 -- no query adds a book
-abbrev pub QuestionsOnlyAsk : Type 0
-QuestionsOnlyAsk = replies_from first_books (worked_batch (SetAgent plain_agent ∷ []) ∷ worked_batch (ShowAgent agent_id ∷ []) ∷ worked_batch (ShowBundle other_domain ∷ []) ∷ worked_batch (Trust agent_id ∷ []) ∷ worked_batch (page_of_all None ∷ []) ∷ []) ≡ committed 1 (replied.Agent plain_agent) ∷ worked_answer 1 (replied.AgentShown (Some plain_agent)) ∷ worked_answer 1 (replied.BundleShown None) ∷ worked_answer 1 (replied.Bundles []) ∷ paged 1 [] None ∷ []
+abbrev pub WorkedQueriesAddNoBook : Type 0
+WorkedQueriesAddNoBook = replies_from first_books (worked_batch (SetAgent plain_agent ∷ []) ∷ worked_batch (ShowAgent agent_id ∷ []) ∷ worked_batch (ShowBundle other_domain ∷ []) ∷ worked_batch (Trust agent_id ∷ []) ∷ worked_batch (page_of_all None ∷ []) ∷ []) ≡ committed 1 (replied.Agent plain_agent) ∷ worked_answer 1 (replied.AgentShown (Some plain_agent)) ∷ worked_answer 1 (replied.BundleShown None) ∷ worked_answer 1 (replied.Bundles []) ∷ paged 1 [] None ∷ []

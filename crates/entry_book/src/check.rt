@@ -1,7 +1,7 @@
 //! Are these operations a valid batch for a trust domain?
 
 ghost use Rattle.std.specs.Prelude.{◌≡◌, bytes_eq};
-ghost use Rattle.entry_book.specs.Batches.{agent_fault, asked_fault, batch_refusal, first_past_of_many, bundle_fault, entry_fault, first_past, has_no_path, if_given, is_agent_path, is_foreign, is_outside, is_query, op_fault, ops_refusal, or_token, own_fault, page_fault, parent_fault};
+ghost use Rattle.entry_book.specs.Batches.{agent_fault, agent_id_fault, batch_refusal, first_past_of_many, bundle_fault, entry_fault, first_past, has_no_path, if_given, is_agent_path, is_foreign, is_outside, is_query, op_fault, ops_refusal, or_token, own_domain_fault, page_fault, parent_fault};
 ghost use Rattle.spiffe_name.specs.Id.{path_of, server_text};
 
 use crate::agent::Agent;
@@ -96,13 +96,13 @@ fn op_fault(domain: &TrustDomain, op: &Op) -> Option<OpFault>
         Op::Create(new) | Op::Update(new, _) => entry_fault(domain, new.get()),
         Op::Delete(_, _) | Op::Show(_) | Op::ShowBundle(_) | Op::Prune(_) => None,
         Op::ShowAgent(agent) | Op::Authorised(agent) | Op::Trust(agent) | Op::DropAgent(agent) => {
-            asked_fault(domain, agent.get())
+            agent_id_fault(domain, agent.get())
         }
         Op::Children(parent) => parent_fault(domain, parent.get()),
         Op::Page(query) => page_fault(domain, query.get()),
         Op::SetAgent(agent) => agent_fault(domain, agent),
         Op::SetBundle(of, text) => bundle_fault(domain, of.get(), text.get()),
-        Op::DropBundle(of, _) => own_fault(domain, of.get()),
+        Op::DropBundle(of, _) => own_domain_fault(domain, of.get()),
     }
 }
 
@@ -200,9 +200,9 @@ fn is_given_outside(given: &Option<SelectorMatch>) -> bool
 }
 
 /// Returns the fault of an agent that is queried or dropped.
-#[tactic(auto, unfolding(crate::specs::Batches::asked_fault))]
-fn asked_fault(domain: &TrustDomain, agent: &SpiffeId) -> Option<OpFault>
-    ensures { result ≡ asked_fault domain.now agent.now }
+#[tactic(auto, unfolding(crate::specs::Batches::agent_id_fault))]
+fn agent_id_fault(domain: &TrustDomain, agent: &SpiffeId) -> Option<OpFault>
+    ensures { result ≡ agent_id_fault domain.now agent.now }
 {
     if is_foreign(domain, agent) {
         return Some(OpFault::ForeignId);
@@ -246,9 +246,9 @@ fn bundle_fault(domain: &TrustDomain, of: &TrustDomain, text: &Text) -> Option<O
 }
 
 /// Returns the fault of a bundle that is dropped.
-#[tactic(auto, unfolding(crate::specs::Batches::own_fault))]
-fn own_fault(domain: &TrustDomain, of: &TrustDomain) -> Option<OpFault>
-    ensures { result ≡ own_fault domain.now of.now }
+#[tactic(auto, unfolding(crate::specs::Batches::own_domain_fault))]
+fn own_domain_fault(domain: &TrustDomain, of: &TrustDomain) -> Option<OpFault>
+    ensures { result ≡ own_domain_fault domain.now of.now }
 {
     if of == domain {
         return Some(OpFault::OwnDomainBundle);

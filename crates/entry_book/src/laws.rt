@@ -3,10 +3,10 @@
 //! Each function has an empty body. Its contract is a theorem about the definitions, stated in `specs/Laws.antt`; a caller
 //! may rely on the theorem after the call.
 
-ghost use Rattle.entry_book.specs.Laws.{AcceptedAsSaid, AgentFaults, AliasIsHeld, AllLawful, AllWithinLimits, AuthorisedEffect, AuthorisedInOrder, BatchFits, BatchKeeps, BundleFaults, ChangesCommit, ChildIsAuthorised, ChildrenEffect, CommitAdds, CountOfBooks, CreateEffect, DeleteEffect, DropAgentEffect, DropBundleEffect, EarlyRefused, EndsOfChains, EntryFaults, ExactlyOnce, FirstFault, FirstLimit, FullRefused, GoneRefused, HeldIsAuthorised, HistoryBounded, HistoryExtends, KeptCommitted, LawfulHistory, MatchesAsSaid, NoFault, NoOpsRefused, NoneIsPassed, OneList, OneMore, OneMoreCommits, OnePage, OpFaults, OpRefuses, OpsCompared, OthersDontMatter, OthersLeave, PageAsSaid, PageEffect, PagesListAll, PagesListOnce, PassesAsSaid, PastAnswered, PastPageRefused, PruneEffect, QueriesAnswered, QueriesOnlyAsk, QueryWrites, RefusedAsSaid, RepeatAnswered, ReuseRefused, RunFits, RunExtends, RunKeeps, RunOfNone, RunReplies, RunStops, SetAgentEffect, SetBundleEffect, ShowAgentEffect, ShowBundleEffect, ShowEffect, TokenRefused, TokensWritten, TooManyRefused, TrustEffect, UpdateEffect, WithinIsContains, WritesNamed, WritesOnce};
+ghost use Rattle.entry_book.specs.Laws.{AcceptedAsSaid, AgentFaults, AliasIsHeld, AllLawful, AllWithinLimits, AuthorisedEffect, AuthorisedInOrder, BatchFits, BatchKeeps, BundleFaults, ChangesCommit, ChildIsAuthorised, ChildrenEffect, CommitAdds, CountOfBooks, CreateEffect, DeleteEffect, DropAgentEffect, DropBundleEffect, EarlyRefused, EndsOfChains, EntryFaults, ExactlyOnce, FirstFault, FirstLimit, FullRefused, GoneRefused, HeldIsAuthorised, HistoryBounded, HistoryExtends, KeptCommitted, LawfulHistory, MatchesAsSaid, NoFault, NoOpsRefused, NoneIsPassed, OneList, OneMore, OneMoreCommits, OnePage, OpFaults, OpRefuses, OpsCompared, OthersDontMatter, OthersLeave, PageAsSaid, PageEffect, PagesListAll, PagesListOnce, PassesAsSaid, PastAnswered, PastPageRefused, PruneEffect, QueriesAnswered, QueriesNeverCommit, QueryWrites, RefusedAsSaid, RepeatAnswered, ReuseRefused, RunFits, RunExtends, RunKeeps, RunOfNone, RunReplies, RunStops, SetAgentEffect, SetBundleEffect, ShowAgentEffect, ShowBundleEffect, ShowEffect, TokenRefused, TokensWritten, TooManyRefused, TrustEffect, UpdateEffect, WithinIsContains, WritesNamed, WritesOnce};
 ghost use Rattle.entry_book.specs.Rows.{agent_key, bundle_key, entry_key};
 ghost use Rattle.entry_book.specs.Tokens.{token_key};
-ghost use Rattle.entry_book.specs.Worked.{AliasHeld, AliasHeldWithMore, AliasNotHeld, AliasNotHeldWithNone, AliasOfAnother, CycleIsAuthorised, EarlierBooksRead, EmptyRefuses, FirstBatches, FreedInOneBatch, LaterBatchWaits, LifetimesKept, NothingKept, PrunesBefore, QuestionsOnlyAsk, RefusedTokenFree, SequencesCount, StaleDelete, TokenKeepsReplies};
+ghost use Rattle.entry_book.specs.Worked.{AliasHeld, AliasHeldWithMore, AliasNotHeld, AliasNotHeldWithNone, AliasOfAnother, CycleIsAuthorised, EarlierBooksRead, EmptyRefuses, FirstBatches, FreedInOneBatch, LaterBatchWaits, LifetimesKept, NothingKept, PrunesBefore, WorkedQueriesAddNoBook, RefusedTokenFree, SequencesCount, StaleDelete, TokenKeepsReplies};
 
 /// `Within` and `Contains` agree on lists of texts; lists of rows in order with the same members are equal.
 pub fn membership()
@@ -92,7 +92,7 @@ pub fn faults()
 pub fn histories()
     ensures adds { CommitAdds }
     ensures leaves { OthersLeave }
-    ensures queries { QueriesOnlyAsk }
+    ensures queries { QueriesNeverCommit }
     ensures early { EarlyRefused }
     ensures refused { OpRefuses }
     ensures answered { QueriesAnswered }
@@ -154,5 +154,5 @@ pub fn worked_batches()
     ensures token { TokenKeepsReplies }
     ensures token_free { RefusedTokenFree }
     ensures lifetimes { LifetimesKept }
-    ensures questions { QuestionsOnlyAsk }
+    ensures questions { WorkedQueriesAddNoBook }
 {}

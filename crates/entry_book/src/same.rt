@@ -91,11 +91,11 @@ fn is_same_filter(filter: &Filter, other: &Filter) -> bool
     filter.parent == other.parent
         && filter.identity == other.identity
         && filter.domain == other.domain
-        && is_same_question(&filter.selectors, &other.selectors)
+        && is_same_condition(&filter.selectors, &other.selectors)
 }
 
 /// Returns true if both have the same condition on selectors, or neither has one.
-fn is_same_question(question: &Option<SelectorMatch>, other: &Option<SelectorMatch>) -> bool
+fn is_same_condition(question: &Option<SelectorMatch>, other: &Option<SelectorMatch>) -> bool
     ensures { result ≡ option_eq match_eq question.now other.now }
 {
     match (question, other) {

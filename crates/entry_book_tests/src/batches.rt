@@ -7,7 +7,7 @@ use spiffe_name::{Failure, TrustDomain};
 use std::alloc::Global;
 use std::process::Abort;
 use std::test::Fail;
-use test_support::{copy, where_done};
+use test_support::{copy, if_done};
 
 /// The number of operations of a copy of the batch.
 fn count_in_copy(batch: Batch) -> Result<usize, Fail> {
@@ -69,7 +69,7 @@ fn add_questions(alloc: Global, ops: &mut Sequence<Op>, count: u64) -> Result<()
 fn questions(alloc: Global, count: u64) -> Result<Sequence<Op>, Fail> {
     let mut ops = Sequence::empty(alloc);
     let added = add_questions(alloc, &mut ops, count);
-    where_done(added, ops)
+    if_done(added, ops)
 }
 
 /// The result of `fault` for a batch of the given number of queries.
@@ -121,7 +121,7 @@ fn add_behind_a_question(alloc: Global, ops: &mut Sequence<Op>, as_text: &str) -
 fn behind_a_question(alloc: Global, as_text: &str) -> Result<Sequence<Op>, Fail> {
     let mut ops = Sequence::empty(alloc);
     let added = add_behind_a_question(alloc, &mut ops, as_text);
-    where_done(added, ops)
+    if_done(added, ops)
 }
 
 /// A copy of the batch of a query and the operation of a text.

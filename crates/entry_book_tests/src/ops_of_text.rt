@@ -8,7 +8,7 @@ use entry_book::{
 use spiffe_name::SpiffeId;
 use std::alloc::{AllocError, Global};
 use std::test::Fail;
-use test_support::where_done;
+use test_support::if_done;
 use uuid::Uuid;
 
 fn words<'a>(alloc: Global, as_text: &'a str) -> Result<Vec<&'a str>, AllocError> {
@@ -71,7 +71,7 @@ fn plain_entry(alloc: Global, words: &[&str]) -> Result<NewEntry, Fail> {
 fn entry(alloc: Global, words: &[&str]) -> Result<Shared<NewEntry>, Fail> {
     let mut new = plain_entry(alloc, words)?;
     let set = set_parts(alloc, &mut new, words);
-    Ok(Shared::of(alloc, where_done(set, new)?)?)
+    Ok(Shared::of(alloc, if_done(set, new)?)?)
 }
 
 /// The entry that the operation of a text creates.
@@ -122,7 +122,7 @@ fn page(alloc: Global, words: &[&str]) -> Result<Op, Fail> {
         },
     };
     let asked = ask_for_parts(alloc, &mut query, words);
-    Ok(Op::Page(Shared::of(alloc, where_done(asked, query)?)?))
+    Ok(Op::Page(Shared::of(alloc, if_done(asked, query)?)?))
 }
 
 /// The revision that an operation expects: none if there is no word for it.
@@ -198,5 +198,5 @@ fn add_all(alloc: Global, ops: &mut Sequence<Op>, as_text: &str) -> Result<(), F
 pub fn ops(alloc: Global, as_text: &str) -> Result<Sequence<Op>, Fail> {
     let mut ops = Sequence::empty(alloc);
     let added = add_all(alloc, &mut ops, as_text);
-    where_done(added, ops)
+    if_done(added, ops)
 }

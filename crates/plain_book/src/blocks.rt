@@ -129,7 +129,7 @@ fn push_rows<T: Drop>(
 }
 
 /// Returns the blocks in which these rows replace those at the cut.
-pub(crate) fn mended<T: Drop>(
+pub(crate) fn with_rows_at<T: Drop>(
     alloc: Global,
     cut: &Cut<T>,
     rows: Vec<T>,

@@ -8,7 +8,7 @@ ghost use Rattle.std.specs.Prelude.{◌≡◌, ◌≤◌, ◌+◌, ◌++◌, IfO
 ghost use Rattle.std.specs.List.{AllByRecursion};
 ghost use Rattle.plain_book.specs.Blocks.{IsBlock, joined};
 
-use crate::blocks::{Block, Cut, cut_at, mended};
+use crate::blocks::{Block, Cut, cut_at, with_rows_at};
 use crate::row::{BookRow, push_all, row_of, with_row, without_row};
 use entry_book::{Sequence, Shared};
 use std::alloc::{AllocError, Global};
@@ -146,7 +146,7 @@ fn changed<T: Drop>(
     let Some(count) = (count - cut.rows.len()).checked_add(rows.len()) else {
         return Err(AllocError);
     };
-    let blocks = mended(alloc, cut, rows)?;
+    let blocks = with_rows_at(alloc, cut, rows)?;
     Ok(Rows {
         blocks: Shared::of(alloc, Sequence::of(blocks))?,
         count,

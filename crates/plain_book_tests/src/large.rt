@@ -9,7 +9,7 @@ use std::alloc::Global;
 use std::process::Abort;
 use std::test::Fail;
 use test_batches::kind_at_place;
-use test_support::where_done;
+use test_support::if_done;
 
 /// The number of entries: for each of 4 parents one of each of 9 identities and of 16 sets of selectors. Their numbers begin at
 /// 0.
@@ -188,7 +188,7 @@ fn fill_all(rt: &impl Abort, alloc: Global, book: &mut PlainBook) -> Result<(), 
 fn large_book(rt: &impl Abort, alloc: Global) -> Result<PlainBook, Fail> {
     let mut book = first_book(alloc)?;
     let filled = fill_all(rt, alloc, &mut book);
-    where_done(filled, book)
+    if_done(filled, book)
 }
 
 /// The number of selectors of the agent.

@@ -10,7 +10,7 @@ use spiffe_name::{Selector, SelectorSet, SpiffeId, TrustDomain};
 use std::alloc::Global;
 use std::test::Fail;
 use test_batches::{number, number_behind, trust_domain, word, words};
-use test_support::{add, add_copy, pair_with, where_done};
+use test_support::{add, add_copy, if_done, pair_with};
 use uuid::Uuid;
 
 /// The number in a word, or none for `-`.
@@ -211,7 +211,7 @@ fn add_lines(alloc: Global, ops: &mut Vec<Op>, lines: &str) -> Result<(), Fail> 
 fn ops_of(alloc: Global, lines: &str) -> Result<Vec<Op>, Fail> {
     let mut ops = Vec::new(alloc);
     let added = add_lines(alloc, &mut ops, lines);
-    where_done(added, ops)
+    if_done(added, ops)
 }
 
 /// The batch of lines, some with more words.

@@ -10,7 +10,7 @@ use std::alloc::Global;
 use std::process::Abort;
 use std::test::Fail;
 use test_batches::{kind_at_place, reply_text, trust_domain};
-use test_support::{pair_with, where_done};
+use test_support::{if_done, pair_with};
 
 pub fn first_book(alloc: Global) -> Result<PlainBook, Fail> {
     Ok(PlainBook::new(alloc, trust_domain(alloc, "ex.org")?)?)
@@ -94,7 +94,7 @@ pub fn answer_to(alloc: Global, book: &mut PlainBook, text: &str) -> Result<Answ
 pub fn asked(alloc: Global, book: &mut PlainBook, text: &str) -> Result<Answer, Fail> {
     let answer = answer_to(alloc, book, text)?;
     let answered = answer.is_answered();
-    where_done(answered, answer)
+    if_done(answered, answer)
 }
 
 /// The book's reply to the batch of a text, as text.

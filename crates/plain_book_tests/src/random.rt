@@ -13,7 +13,7 @@ use plain_book::PlainBook;
 use std::alloc::Global;
 use std::process::Abort;
 use std::test::Fail;
-use test_support::{pair_with, where_done};
+use test_support::{if_done, pair_with};
 use uuid::Uuid;
 
 /// What must occur.
@@ -310,7 +310,7 @@ fn judged_rows(
     let rows = rows_of(alloc, book)?;
     holds(rt, are_right(answer, &rows, past), as_text);
     let judged = judge(rt, alloc, book, &rows, came);
-    where_done(judged, rows)
+    if_done(judged, rows)
 }
 
 /// Checks the reply to a request at a place, and returns it as text, with the rows of the resulting book.
@@ -384,7 +384,7 @@ fn all_rounds(rt: &impl Abort, alloc: Global, book: &mut PlainBook) -> Result<St
     let mut past = past_of(alloc, rows_of(alloc, book)?)?;
     let done = rounds(rt, alloc, book, &mut past, &mut came);
     drop(past);
-    where_done(done, came)
+    if_done(done, came)
 }
 
 /// Asserts that everything occurred that must occur.

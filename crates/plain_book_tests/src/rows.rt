@@ -6,7 +6,7 @@ use entry_book::{Agent, Bundle, Entry, Op, OpReply};
 use plain_book::PlainBook;
 use std::alloc::Global;
 use std::test::Fail;
-use test_support::{add_copy, where_done};
+use test_support::{add_copy, if_done};
 
 /// Queries all rows that there can be, and the bundle of the server's own domain.
 const KEYS: &str = "\
@@ -71,7 +71,7 @@ fn keep_all(rows: &mut BookRows, ops: &[Op], replies: &[OpReply]) -> Result<(), 
 fn shown_rows(alloc: Global, shown: &Answer) -> Result<BookRows, Fail> {
     let mut rows = empty(alloc);
     let kept = keep_all(&mut rows, shown.ops(), shown.replies());
-    where_done(kept, rows)
+    if_done(kept, rows)
 }
 
 /// The rows of the book, each queried by its key, and with that key.

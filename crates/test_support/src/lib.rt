@@ -3,7 +3,7 @@
 //! If a function over concrete types dropped a value on an early return, the prover would have to show for each of its parts that
 //! it may be dropped. These functions do it for a type parameter, of which nothing more is known.
 //!
-//! - [`where_done`], [`pair_with`], [`unless`], [`had`]: a value that is returned if a step succeeded, and dropped otherwise.
+//! - [`if_done`], [`pair_with`], [`unless`], [`had`]: a value that is returned if a step succeeded, and dropped otherwise.
 //! - [`copy`]: a clone of a value.
 //! - [`one`], [`add`], [`add_copy`], [`add_some`]: vectors.
 //!
@@ -15,4 +15,4 @@
 
 mod values;
 
-pub use values::{add, add_copy, add_some, copy, had, one, pair_with, unless, where_done};
+pub use values::{add, add_copy, add_some, copy, had, if_done, one, pair_with, unless};

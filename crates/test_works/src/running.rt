@@ -14,7 +14,7 @@ use batch_work::{Status, Window, Work};
 use entry_book::Batch;
 use std::alloc::{AllocError, Global};
 use std::test::Fail;
-use test_support::{pair_with, where_done};
+use test_support::{if_done, pair_with};
 use uuid::Uuid;
 use version_book::{Changes, Mark, Version, laws};
 
@@ -39,7 +39,7 @@ pub fn begun(alloc: Global, window: &Window, batch: Batch) -> Result<Work, Fail>
     }
     let mut work = Work::new(alloc, batch);
     let begun = work.begin(window);
-    Ok(where_done(begun, work)?)
+    Ok(if_done(begun, work)?)
 }
 
 /// Returns a work of the batch, begun on the version.
@@ -65,7 +65,7 @@ fn run_to_end(work: &mut Work) -> Result<(), AllocError> {
 pub fn ended(alloc: Global, version: &Version, batch: Batch) -> Result<Work, Fail> {
     let mut work = begun_on_version(alloc, version, batch)?;
     let ended = run_to_end(&mut work);
-    Ok(where_done(ended, work)?)
+    Ok(if_done(ended, work)?)
 }
 
 fn has_token(version: &Version, token: Uuid) -> Result<bool, AllocError>

@@ -16,7 +16,7 @@ pub mod Places
 pub mod Ranges
 pub mod Replaced
 pub mod Rooms
-pub mod RowPlaces
+pub mod RowRanks
 pub mod RowShelves
 pub mod Same
 pub mod Shelves

@@ -5,6 +5,6 @@ pub mod Laws
 pub mod Marks
 pub mod CommittedRows
 pub mod Room
-pub mod RowPlaces
+pub mod RowRanks
 pub mod Stores
 pub mod Written

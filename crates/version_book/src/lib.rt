@@ -43,7 +43,7 @@
 //! The definitions are in `specs/`. `Marks` defines what marks read and which writes hit them, `CommittedRows` the rows of
 //! versions, and `History` how versions follow one another. `Applying` defines which writes may be applied, `Room` how many
 //! rows a version may have, and `Written` the writes of [`Changes`] with the places that are set in them. `Index`,
-//! `Stores` and `RowPlaces` are for this crate's own contracts. No other crate depends on how the rows are stored:
+//! `Stores` and `RowRanks` are for this crate's own contracts. No other crate depends on how the rows are stored:
 //!
 //! - `store`: the sets of rows of a version; `entries` and `row_shelf`: the shelves of a set; `index` and `key`: how an index
 //!   is stored and ordered; `parent`: the bounds of a parent's keys; `committed_row`: rows with their commit numbers.

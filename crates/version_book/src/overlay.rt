@@ -6,7 +6,7 @@ ghost use Rattle.entry_book.specs.Order.{Ascending, is_before, with_row};
 ghost use Rattle.entry_book.specs.Writes.{after, after_write};
 ghost use Rattle.entry_book.specs.Tokens.{token_key};
 ghost use Rattle.version_book.specs.Marks.{kept_if, names_token, seen};
-ghost use Rattle.version_book.specs.RowPlaces.{IsPlace};
+ghost use Rattle.version_book.specs.RowRanks.{IsRowRank};
 ghost use Rattle.version_book.specs.Written.{HasOwnKey, write_of};
 
 use crate::changes::{Changes, RowWrite, TokenWrite};
@@ -164,9 +164,9 @@ fn after_writes(
 }
 
 /// Returns the index of the row with this key, or as an error the index at which it belongs. It is a binary search.
-fn place_of<T: BookRow>(rows: &[T], key: &[u8]) -> Result<usize, usize>
+fn rank_of<T: BookRow>(rows: &[T], key: &[u8]) -> Result<usize, usize>
     requires order { Ascending T.key rows.now }
-    ensures { IsPlace T.key rows.now key.now result }
+    ensures { IsRowRank T.key rows.now key.now result }
 {
     rows.binary_search_by(|row| row.key().cmp(key))
 }
@@ -177,7 +177,7 @@ fn put<T: BookRow>(rows: &mut Vec<T>, key: &[u8], new: Option<T>) -> Result<(), 
     requires order { Ascending T.key rows.old.items }
     ensures { OnOk result (rows.new.items ≡ with_row T.key key.now new rows.old.items) }
 {
-    match place_of(rows.as_slice(), key) {
+    match rank_of(rows.as_slice(), key) {
         Ok(index) => match new {
             Some(new) => rows[index] = new,
             None => drop(rows.remove(index)),

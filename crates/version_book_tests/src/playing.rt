@@ -10,7 +10,7 @@ use std::alloc::{AllocError, Global};
 use std::process::Abort;
 use std::test::Fail;
 use test_batches::{Failed, batch, number, trust_domain, word, words};
-use test_support::{add_some, one, pair_with, where_done};
+use test_support::{add_some, if_done, one, pair_with};
 use test_works::{ended, next_of};
 use version_book::{Changes, Mark, RowCounts, Version};
 
@@ -160,7 +160,7 @@ fn is_cloned(copy: &Mark, mark: &Mark) -> Result<(), Fail> {
 fn same_mark(mark: &Mark) -> Result<Mark, Fail> {
     let copy = mark.clone()?;
     let cloned = is_cloned(&copy, mark);
-    where_done(cloned, copy)
+    if_done(cloned, copy)
 }
 
 /// What a version reads at a mark, as owned rows.

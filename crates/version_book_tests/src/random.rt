@@ -10,7 +10,7 @@ use std::alloc::{AllocError, Global};
 use std::process::Abort;
 use std::test::Fail;
 use test_batches::{number, word, words};
-use test_support::{add, pair_with, where_done};
+use test_support::{add, if_done, pair_with};
 use version_book::{Changes, Mark, Version};
 
 const MARKS: &str = "\
@@ -79,7 +79,7 @@ fn add_named_marks(alloc: Global, marks: &mut Vec<NamedMark>) -> Result<(), Fail
 fn all_marks(alloc: Global) -> Result<Vec<NamedMark>, Fail> {
     let mut marks = Vec::new(alloc);
     let added = add_named_marks(alloc, &mut marks);
-    where_done(added, marks)
+    if_done(added, marks)
 }
 
 /// Runs random batches until there are this many versions after the first.
@@ -98,7 +98,7 @@ fn go_on_to(alloc: Global, steps: &mut Vec<Step>, seed: u64, count: usize) -> Re
 fn versions(alloc: Global, seed: u64, count: usize) -> Result<Vec<Step>, Fail> {
     let mut steps = first_step(alloc)?;
     let gone_on = go_on_to(alloc, &mut steps, seed, count);
-    where_done(gone_on, steps)
+    if_done(gone_on, steps)
 }
 
 /// A history of this many versions after the first, and all marks.
@@ -405,7 +405,7 @@ fn append_copy(changes: &mut Changes, more: &Changes) -> Result<(), AllocError> 
 fn both(middle: &Changes, newer: &Changes) -> Result<Changes, AllocError> {
     let mut changes = middle.clone()?;
     let appended = append_copy(&mut changes, newer);
-    where_done(appended, changes)
+    if_done(appended, changes)
 }
 
 /// Asserts that a mark read through writes gives what a newer version gives. Places of newer commits aren't known yet and

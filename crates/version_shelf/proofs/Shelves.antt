@@ -25,7 +25,7 @@ new_shelf cmp inners count order counted room leaves are = record {
   counted = counted;
   room = omega arith;
   are_leaves = leaves;
-  are_middles = are;
+  are_inners = are;
   size = few_middles inners leaves are (omega arith) (length inners) refl;
 }
 

@@ -52,7 +52,7 @@ pub record IsShelf {K V : Type 0} (cmp : K → K → Ordering) (inners : List (L
   pub counted : count ≡ length (flatten (flatten inners))
   pub room : length (flatten (flatten inners)) ≤ most_rows
   pub are_leaves : AreNodes least_rows (flatten inners)
-  pub are_middles : AreNodes least_leaves inners
+  pub are_inners : AreNodes least_leaves inners
   pub size : length inners ≤ most_inners
 
 -- ---- search
@@ -94,7 +94,7 @@ pub record CutsAt {X : Type 0} (passes : X → Bool) (below : List (List X)) (pa
 -- the path from the root to a leaf: the inner nodes cut at one, and the leaves of that inner node cut at one; all leaves have the
 -- sizes of nodes, and there are at most `most_inners` inner nodes
 pub record IsPath {X : Type 0} (inners inners_below : List (List (List X))) (leaves : List (List X)) (inners_above : List (List (List X))) (below : List (List X)) (rows : List X) (above : List (List X)) : Type 0 where
-  pub cut_middles : Cuts least_leaves inners inners_below leaves inners_above
+  pub cut_inners : Cuts least_leaves inners inners_below leaves inners_above
   pub cut_leaves : Cuts least_rows leaves below rows above
   pub are_leaves : AreNodes least_rows (flatten inners)
   pub size : length inners ≤ most_inners

@@ -1,6 +1,6 @@
 use Rattle.std.proofs.Common.{◌≡◌, ◌∙◌, IfSome, subst, sym}
 use Rattle.version_shelf.proofs.Above.{equal_from}
-use Rattle.version_book.proofs.RowPlaces.{equal}
+use Rattle.version_book.proofs.RowRanks.{equal}
 use Rattle.version_book.proofs.overlay.is_keyed.Goals as goal
 
 pub returns-in-Some : goal.returns-in-Some

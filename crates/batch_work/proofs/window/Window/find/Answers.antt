@@ -1,8 +1,8 @@
 use Rattle.std.proofs.Common.{ℕ, ◌-◌, List, length, Option, ap, ◌∙◌, arith, slice_get}
 use Rattle.version_book.specs.CommittedRows.{VersionState}
-use Rattle.batch_work.specs.WindowPlaces.{held}
+use Rattle.batch_work.specs.WindowSlots.{held}
 use Rattle.batch_work.specs.Windows.{Window, version_at}
-use Rattle.batch_work.proofs.WindowPlaces.{held_count}
+use Rattle.batch_work.proofs.WindowSlots.{held_count}
 use Rattle.batch_work.proofs.Windows.{at_gone, at_later, at_newest, at_older}
 use Rattle.batch_work.proofs.window.Window.find.Goals as goal
 

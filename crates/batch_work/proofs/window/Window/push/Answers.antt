@@ -1,8 +1,8 @@
 use Rattle.std.proofs.Common.{ap, sym, subst, ◌∙◌}
 use Rattle.version_book.specs.CommittedRows.{VersionState}
-use Rattle.batch_work.specs.WindowPlaces.{held}
+use Rattle.batch_work.specs.WindowSlots.{held}
 use Rattle.batch_work.specs.Windows.{IsNextVersion, Window, pushed}
-use Rattle.batch_work.proofs.WindowPlaces.{still_kept, window_is, with_place}
+use Rattle.batch_work.proofs.WindowSlots.{still_kept, window_is, with_place}
 use Rattle.batch_work.proofs.window.Window.push.Goals as goal
 
 pub invariant_of-self : goal.invariant_of-self

@@ -1,7 +1,7 @@
 use Rattle.std.proofs.Common.{Option, List, ap, sym, ◌∙◌, subst}
 use Rattle.version_book.specs.CommittedRows.{VersionState}
-use Rattle.batch_work.specs.WindowPlaces.{AreKept, held}
-use Rattle.batch_work.proofs.WindowPlaces.{same_places}
+use Rattle.batch_work.specs.WindowSlots.{AreKept, held}
+use Rattle.batch_work.proofs.WindowSlots.{same_places}
 use Rattle.batch_work.proofs.window.WindowClone.clone.Goals as goal
 
 pub invariant_of-result : goal.invariant_of-result

@@ -4,4 +4,4 @@ use Rattle.version_shelf.proofs.shelf.Shelf.new.Goals as goal
 
 pub invariant_of-result : goal.invariant_of-result
 unfolding IsStrictlySortedBy
-invariant_of-result g c = record { order = tt; counted = refl; room = omega arith; are_leaves = tt; are_middles = tt; size = omega arith }
+invariant_of-result g c = record { order = tt; counted = refl; room = omega arith; are_leaves = tt; are_inners = tt; size = omega arith }

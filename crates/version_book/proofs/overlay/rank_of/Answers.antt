@@ -2,8 +2,8 @@ use Rattle.std.proofs.Common.{of_calls, rules}
 use Rattle.std.specs.Ordering.{nat_cmp}
 use Rattle.std.specs.Cmp.Lexicographic.{slice_cmp}
 use Rattle.std.proofs.lemmas.Fn.{always_returns_same}
-use Rattle.version_book.proofs.RowPlaces.{searched}
-use Rattle.version_book.proofs.overlay.place_of.Goals as goal
+use Rattle.version_book.proofs.RowRanks.{searched}
+use Rattle.version_book.proofs.overlay.rank_of.Goals as goal
 
 pub returns : goal.returns
 returns g c =

@@ -1,5 +1,5 @@
 use Rattle.plain_book.proofs.Cuts.{mended_is}
-use Rattle.plain_book.proofs.blocks.mended.Goals as goal
+use Rattle.plain_book.proofs.blocks.with_rows_at.Goals as goal
 
 pub returns-clause-rows : goal.returns-clause-rows
 returns-clause-rows g c =

@@ -13,7 +13,7 @@ use Rattle.std.proofs.lemmas.List.Sorted.{searchable_from_sorted}
 use Rattle.entry_book.specs.Rows.{Bytes}
 use Rattle.entry_book.specs.Order.{Within, Ascending, is_before, with_row}
 use Rattle.entry_book.proofs.Sets.{All-within, before-irrefl, before-trans, from_any, within_any, from_within_append, from_within_filter, text_is, text_same}
-use Rattle.version_book.specs.RowPlaces.{IsPlace}
+use Rattle.version_book.specs.RowRanks.{IsRowRank}
 
 -- ---- the items before the first that fails a test, and those after
 
@@ -107,7 +107,7 @@ module _ {X : Type 0} (key : X → Bytes) where
         (rw b (ap (λ l. x ∷ l) r.0), rw f r.1)
 
     -- the result of a binary search is the key's index
-    pub searched : (xs : List X) (r : Result ℕ ℕ) → Ascending key xs → IsSearchInRange r (length xs) → IsBinarySearchResult (λ y. slice_cmp nat_cmp (key y) k) xs r → IsPlace key xs k r
+    pub searched : (xs : List X) (r : Result ℕ ℕ) → Ascending key xs → IsSearchInRange r (length xs) → IsBinarySearchResult (λ y. slice_cmp nat_cmp (key y) k) xs r → IsRowRank key xs k r
     searched xs (Ok n) a h p =
         let e : HoldsAt (λ x. key x ≡ k) xs n = λ d. equal (key (get_or xs n d)) k (p d) in
         let r = there xs n a h e in
@@ -119,13 +119,13 @@ module _ {X : Type 0} (key : X → Bytes) where
 
     -- ---- whether the key is there
 
-    pub is_there : (xs : List X) (n : ℕ) → IsPlace key xs k (Ok n) → list_any (λ y. bytes_eq (key y) k) xs ≡ true
+    pub is_there : (xs : List X) (n : ℕ) → IsRowRank key xs k (Ok n) → list_any (λ y. bytes_eq (key y) k) xs ≡ true
     is_there [] n p = let h = p.0 in absurd (omega arith)
     is_there (x ∷ xs) n p =
         let y = get_or (x ∷ xs) n x in
         within_any (λ y. bytes_eq (key y) k) (x ∷ xs) y (within_at (x ∷ xs) n x p.0) (text_same (key y) k (p.1 x))
 
-    pub is_missing : (xs : List X) (n : ℕ) → IsPlace key xs k (Err n) → list_any (λ y. bytes_eq (key y) k) xs ≡ false
+    pub is_missing : (xs : List X) (n : ℕ) → IsRowRank key xs k (Err n) → list_any (λ y. bytes_eq (key y) k) xs ≡ false
     is_missing xs n p = ⊎_elim
         (λ t.
         let v = from_any (λ y. bytes_eq (key y) k) xs t in
@@ -140,24 +140,24 @@ module _ {X : Type 0} (key : X → Bytes) where
 
     -- ---- a row that is put at the index
 
-    pub put_at : (xs : List X) (n : ℕ) (x : X) → IsPlace key xs k (Ok n) → set xs n x ≡ with_row key k (Some x) xs
+    pub put_at : (xs : List X) (n : ℕ) (x : X) → IsRowRank key xs k (Ok n) → set xs n x ≡ with_row key k (Some x) xs
     unfolding with_row
     put_at xs n x p = set_split xs n x p.0 ∙ (ap (λ l. l ++ x ∷ drop (suc n) xs) p.2 ∙ ap (λ l. filter (λ x. is_before (key x) k) xs ++ x ∷ l) p.3)
 
-    pub put_in : (xs : List X) (n : ℕ) (x : X) → IsPlace key xs k (Err n) → insert xs n x ≡ with_row key k (Some x) xs
+    pub put_in : (xs : List X) (n : ℕ) (x : X) → IsRowRank key xs k (Err n) → insert xs n x ≡ with_row key k (Some x) xs
     unfolding with_row
     put_in xs n x p = ap (λ l. l ++ x ∷ drop n xs) p.1 ∙ ap (λ l. filter (λ x. is_before (key x) k) xs ++ x ∷ l) p.2
 
     -- ---- the row at the index that is removed, and a row that isn't there
 
-    pub taken_out : (xs : List X) (n : ℕ) → IsPlace key xs k (Ok n) → take n xs ++ drop (n + 1) xs ≡ with_row key k None xs
+    pub taken_out : (xs : List X) (n : ℕ) → IsRowRank key xs k (Ok n) → take n xs ++ drop (n + 1) xs ≡ with_row key k None xs
     unfolding with_row
     taken_out xs n p =
         let below = p.2 in
         let above = ap (λ m. drop m xs) (next n) ∙ p.3 in
         λ i. below i ++ above i
 
-    pub not_there : (xs : List X) (n : ℕ) → IsPlace key xs k (Err n) → xs ≡ with_row key k None xs
+    pub not_there : (xs : List X) (n : ℕ) → IsRowRank key xs k (Err n) → xs ≡ with_row key k None xs
     unfolding with_row
     not_there xs n p =
         let below = p.1 in

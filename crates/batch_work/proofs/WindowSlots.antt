@@ -5,7 +5,7 @@ use Rattle.std.specs.List.{AllZip}
 use Rattle.std.proofs.lemmas.List.Elements.{same_from_all_zip}
 use Rattle.std.proofs.lemmas.List.{drop-map, length-map, map-append}
 use Rattle.version_book.specs.CommittedRows.{VersionState}
-use Rattle.batch_work.specs.WindowPlaces.{AreKept, held}
+use Rattle.batch_work.specs.WindowSlots.{AreKept, held}
 use Rattle.batch_work.specs.Windows.{Counted, IsNextVersion, Window, ending, pushed, versions}
 use Rattle.batch_work.proofs.Windows.{counted_pushed}
 
