@@ -244,7 +244,7 @@ module _ (log : List Happened) (s : MachineState) (sound : Sound s) (tied : Tied
     strict a b la lb e =
         let x = listed_row a la in
         let y = listed_row b lb in
-        let k = reply_kept e.reply_number a e.logged e.reply in
+        let k = reply_kept e.reply_number a e.reply_done e.reply in
         let same : k.0 ≡ x.0 = same_call s.calls k.0 x.0 sound.numbers k.1 x.1 (k.2 ∙ sym x.2) in
         let replied : x.0.replied ≡ Some e.reply_number = ap (λ (c : Call). c.replied) (sym same) ∙ k.3 in
         let i = tied.kept e.invoke.0 _ e.invoke.2 in

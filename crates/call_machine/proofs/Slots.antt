@@ -255,7 +255,7 @@ state_rests : (own_domain : Bytes) (items : List Item) (batch : Batch) (w : Work
 state_rests own_domain items batch w s rests same kept = ⊎_elim (λ e. subst (StateRests own_domain items batch) (sym e) (rests, same)) (λ i. over_rests own_domain items batch s i) kept
 
 pub slot_begun : (h : Head) (old later : Slot) (w work : Work) (turn : ℕ) (status : Status) → HasWholeJournal h → SlotRests (head_domain h) h.kept old → old.state ≡ Open w → status_of w ≡ New → work ≡ record w { base = Some (base_in w.batch h.window) } → stage_of_slot later ≡ stage_kept (Open work) → AnsweredWhenSettled later.state → (later.state ≡ Open work) ⊎ IsOverSlot later.state → later.batch ≡ old.batch → later.invoked ≡ old.invoked → later.turn ≡ turn → later.replied ≡ old.replied → status ≡ status_at (stage_of_slot later) → SlotBegins h old turn status later
-slot_begun h old later w work turn status whole rests is_open fresh made stage has kept b i t p logged =
+slot_begun h old later w work turn status whole rests is_open fresh made stage has kept b i t p reported =
     let there = open_rests (head_domain h) h.kept old.batch old.state w rests.state is_open in
     let no_base = new_is w fresh in
     let base = base_in w.batch h.window in
@@ -266,7 +266,7 @@ slot_begun h old later w work turn status whole rests is_open fresh made stage h
     record {
       in_turn = ap stage_kept is_open ∙ ap (λ o. stage_from o w.batch w.steps) no_base;
       stage = stage ∙ (on ∙ (stage_is w.batch base (books_of (take (head_place h) (journal_of h))) 0 began.is_on ∙ λ j. stage_after (there.1 j) (journal_of h) (number j) 0));
-      logged = logged;
+      status_is = reported;
       batch = b;
       invoked = i;
       turn_is = t;
@@ -288,7 +288,7 @@ next_read : (w : Work) (base : Base) (mark : MarkKind) → w.base ≡ Some base 
 next_read w base mark e r = rw e at r
 
 pub slot_stepped : (own_domain : Bytes) (items : List Item) (old later : Slot) (w work : Work) (mark : MarkKind) (status : Status) → SlotRests own_domain items old → old.state ≡ Open w → status_of w ≡ Running → IsNextRead w mark → work ≡ record w { steps = w.steps + 1 } → stage_of_slot later ≡ stage_kept (Open work) → AnsweredWhenSettled later.state → (later.state ≡ Open work) ⊎ IsOverSlot later.state → later.batch ≡ old.batch → later.invoked ≡ old.invoked → later.turn ≡ old.turn → later.replied ≡ old.replied → status ≡ status_at (stage_of_slot later) → SlotSteps own_domain items old mark status later
-slot_stepped own_domain items old later w work mark status rests is_open runs read made stage has kept b i t p logged =
+slot_stepped own_domain items old later w work mark status rests is_open runs read made stage has kept b i t p reported =
     let there = open_rests own_domain items old.batch old.state w rests.state is_open in
     let reading = reading_is w runs in
     let base = reading.base in
@@ -301,7 +301,7 @@ slot_stepped own_domain items old later w work mark status rests is_open runs re
       in_turn = ap stage_kept is_open ∙ reading.stage;
       mark_is = ap (λ x. slice_get (footprint_of x books) w.steps) (sym there.1) ∙ (ap (λ l. slice_get l w.steps) (sym began.is_on.reads) ∙ next_read w base mark reading.base_is read);
       stage = stage ∙ (on ∙ (stage_is w.batch base books (w.steps + 1) began.is_on ∙ ap (λ x. stage_on x books base.newest.number (w.steps + 1)) there.1));
-      logged = logged;
+      status_is = reported;
       batch = b;
       invoked = i;
       turn = t;

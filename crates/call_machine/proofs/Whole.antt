@@ -27,13 +27,13 @@ pub record LogInvariant (log : List Happened) (s : MachineState) : Type 0 where
 
 pub runs_keep_invariant : (events : List Event) (answers : List EventAnswer) (log : List Happened) (s t : MachineState) → LogInvariant log s → Runs s events answers t → LogInvariant (log ++ accepted events answers) t
 runs_keep_invariant [] [] log s t h r = subst (λ l. LogInvariant l t) (sym (append-nil log)) (subst (LogInvariant log) r h)
-runs_keep_invariant [] (a ∷ logged) log s t h r = absurd r
+runs_keep_invariant [] (a ∷ answers) log s t h r = absurd r
 runs_keep_invariant (e ∷ es) [] log s t h r = absurd r
-runs_keep_invariant (e ∷ es) (Ok d ∷ logged) log s t h r =
+runs_keep_invariant (e ∷ es) (Ok d ∷ answers) log s t h r =
     let i : Happened = record { event = e; done = d } in
-    subst (λ l. LogInvariant l t) (append_assoc log (i ∷ []) (accepted es logged))
-    (runs_keep_invariant es logged (log ++ i ∷ []) r.0 t (record { sound = accepts_sound s e d r.0 h.sound r.1; tied = accepts_tied log s e d r.0 h.sound h.tied r.1 }) r.2)
-runs_keep_invariant (e ∷ es) (Err x ∷ logged) log s t h r = runs_keep_invariant es logged log r.0 t (subst (LogInvariant log) (sym r.1.1) h) r.2
+    subst (λ l. LogInvariant l t) (append_assoc log (i ∷ []) (accepted es answers))
+    (runs_keep_invariant es answers (log ++ i ∷ []) r.0 t (record { sound = accepts_sound s e d r.0 h.sound r.1; tied = accepts_tied log s e d r.0 h.sound h.tied r.1 }) r.2)
+runs_keep_invariant (e ∷ es) (Err x ∷ answers) log s t h r = runs_keep_invariant es answers log r.0 t (subst (LogInvariant log) (sym r.1.1) h) r.2
 
 pub headline_holds : HeadlineHolds
 headline_holds own_domain events answers s order r o =

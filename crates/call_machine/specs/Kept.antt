@@ -196,7 +196,7 @@ SlotRefuses in_turn r = ((r ≡ NotNow) × (in_turn ≡ false)) ⊎ ((r ≡ NoMe
 pub record SlotBegins (h : Head) (old : Slot) (turn : ℕ) (status : Status) (later : Slot) : Type 0 where
   pub in_turn : stage_of_slot old ≡ waiting
   pub stage : stage_of_slot later ≡ stage_after old.batch (journal_of h) (length (journal_of h)) 0
-  pub logged : status ≡ status_at (stage_of_slot later)
+  pub status_is : status ≡ status_at (stage_of_slot later)
   pub batch : later.batch ≡ old.batch
   pub invoked : later.invoked ≡ old.invoked
   pub turn_is : later.turn ≡ turn
@@ -209,7 +209,7 @@ pub record SlotSteps (own_domain : Bytes) (items : List Item) (old : Slot) (mark
   pub in_turn : stage_of_slot old ≡ running base made
   pub mark_is : slice_get (footprint_of old.batch (books_of (take base (batches_of items)))) made ≡ Some mark
   pub stage : stage_of_slot later ≡ stage_after old.batch (batches_of items) base (made + 1)
-  pub logged : status ≡ status_at (stage_of_slot later)
+  pub status_is : status ≡ status_at (stage_of_slot later)
   pub batch : later.batch ≡ old.batch
   pub invoked : later.invoked ≡ old.invoked
   pub turn : later.turn ≡ old.turn

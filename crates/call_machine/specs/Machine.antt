@@ -164,6 +164,6 @@ Applies s event (Err r) t = Refuses s event r × (t ≡ s)
 -- the events, one after another, get these answers and lead to state t
 abbrev pub Runs : MachineState → List Event → List EventAnswer → MachineState → Type 0
 Runs s [] [] t = s ≡ t
-Runs s [] (a ∷ logged) t = ⊥
+Runs s [] (a ∷ answers) t = ⊥
 Runs s (e ∷ es) [] t = ⊥
-Runs s (e ∷ es) (a ∷ logged) t = (u : MachineState) × Applies s e a u × Runs u es logged t
+Runs s (e ∷ es) (a ∷ answers) t = (u : MachineState) × Applies s e a u × Runs u es answers t

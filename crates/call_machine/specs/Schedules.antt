@@ -68,10 +68,10 @@ IsListed log c = ((place : ℕ) × CommittedAsBook log c place) ⊎ ((reply : Re
 pub record EndedBefore (log : List Happened) (first second : ℕ) : Type 0 where
   pub reply_number : ℕ
   pub invoke_number : ℕ
-  pub logged : Done
+  pub reply_done : Done
   pub batch : Batch
   pub done : Done
-  pub reply : EventAt log reply_number (on.Reply first) logged
+  pub reply : EventAt log reply_number (on.Reply first) reply_done
   pub invoke : EventAt log invoke_number (Invoke second batch) done
   pub earlier : reply_number < invoke_number
 

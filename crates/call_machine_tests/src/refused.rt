@@ -50,7 +50,7 @@ fn is_same_event(alloc: Global, first: &Event, second: &Event) -> Result<bool, F
 }
 
 /// Returns true if it is the event of a text.
-fn is_as_text(alloc: Global, as_text: &str, refused: &Event) -> Result<bool, Fail> {
+fn is_event_of_text(alloc: Global, as_text: &str, refused: &Event) -> Result<bool, Fail> {
     let event = event(alloc, as_text)?;
     let is_same = is_same_event(alloc, &event, refused);
     drop(event);
@@ -76,7 +76,7 @@ fn check_refused(
     refused: &Event,
     (last, before): (u64, &str),
 ) -> Result<(), Fail> {
-    holds(rt, is_as_text(alloc, as_text, refused)?, as_text);
+    holds(rt, is_event_of_text(alloc, as_text, refused)?, as_text);
     let after = machine_text(alloc, machine, last)?;
     is_text(rt, after.as_str(), before, as_text);
     Ok(())

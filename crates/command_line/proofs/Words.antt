@@ -21,7 +21,7 @@ use Rattle.spiffe_name.specs.Failures.{FailsBy}
 use Rattle.spiffe_name.specs.declared.Failure.{Failure}
 use Rattle.spiffe_name.specs.declared.Failure.TheVariants as name
 use Rattle.spiffe_name.specs.declared.IdRefusal.{IdRefusal}
-use Rattle.command_line.specs.CommandLine.{AsksServer, AsksWell, IsFaultOf, ParsesNoSeed, domain_word, line_faults, option_asked, option_in, program_asked, program_in, program_name, regd_command, seed_text}
+use Rattle.command_line.specs.CommandLine.{AsksServer, AsksWell, IsFaultOf, IsNoSeed, domain_word, line_faults, option_asked, option_in, program_asked, program_in, program_name, regd_command, seed_text}
 use Rattle.command_line.specs.CommandLinePrivate.{IsServerFault}
 use Rattle.command_line.specs.declared.program.Program.{Program}
 use Rattle.command_line.specs.declared.program.Program.TheVariants.{Serve}
@@ -87,9 +87,9 @@ IsFaultOf-domain words text (name.Refused refusal) taken is fails = (taken, subs
 
 -- a text that represents no seed, in words that the parser accepts and whose domain is valid
 pub IsFaultOf-seed : (words : List Text) (domain seed : Text) → line_faults words ≡ [] → domain ≡ unwrap_or (domain_word words) [] → domain_refusal domain ≡ None
-    → seed ≡ seed_text words → ParsesNoSeed seed → IsFaultOf words Seed
+    → seed ≡ seed_text words → IsNoSeed seed → IsFaultOf words Seed
 IsFaultOf-seed words domain seed taken is fine parsed none =
-    (taken, subst (λ (t : Text). domain_refusal t ≡ None) is fine, subst (λ (t : Text). ParsesNoSeed t) parsed none)
+    (taken, subst (λ (t : Text). domain_refusal t ≡ None) is fine, subst (λ (t : Text). IsNoSeed t) parsed none)
 
 -- a text that is a domain was given: the empty text isn't one
 pub domain_word-given : (word : Option Text) (domain : Text) → domain ≡ unwrap_or word [] → domain_refusal domain ≡ None → word ≡ Some domain
@@ -151,13 +151,13 @@ asks_server met program (Domain refusal) is = absurd is
 
 -- the options of a server are refused, in words that the parser accepts and whose domain and seed are valid
 pub IsFaultOf-server : (app : App) (words : List Text) (m : ArgMatches) (program : Program) (fault : LineFault) (domain seed : Text) → app ≡ regd_command → HasMatchesOf app words m
-    → line_faults words ≡ [] → program ≡ program_in (subcommand_rows_of m) → domain ≡ unwrap_or (domain_word words) [] → domain_refusal domain ≡ None → seed ≡ seed_text words → (ParsesNoSeed seed → ⊥)
+    → line_faults words ≡ [] → program ≡ program_in (subcommand_rows_of m) → domain ≡ unwrap_or (domain_word words) [] → domain_refusal domain ≡ None → seed ≡ seed_text words → (IsNoSeed seed → ⊥)
     → IsServerFault (subcommand_rows_of m) program fault → IsFaultOf words fault
 IsFaultOf-server app words m program fault domain seed is has taken e d fine s parsed fails =
     let well : AsksWell words = record {
       taken = taken;
       asked = sym (program_in-parse app words m program is has e) ∙ asks_server (subcommand_rows_of m) program fault fails;
       domain = subst (λ (t : Text). domain_refusal t ≡ None) d fine;
-      seed = subst (λ (t : Text). ParsesNoSeed t → ⊥) s parsed;
+      seed = subst (λ (t : Text). IsNoSeed t → ⊥) s parsed;
     } in
     server_fault words program fault well (subst (λ met. IsServerFault met program fault) (met-parse app words m is has) fails)

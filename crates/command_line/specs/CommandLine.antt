@@ -150,8 +150,8 @@ abbrev pub seed_text : List Text → Text
 seed_text words = unwrap_or (seed_word words) first_seed
 
 -- no 32 bytes have this text
-abbrev pub ParsesNoSeed : Text → Type 0
-ParsesNoSeed text = (seed : List ℕ) → length seed ≡ 32 → IsBytes seed → encode_lower seed ≢ text
+abbrev pub IsNoSeed : Text → Type 0
+IsNoSeed text = (seed : List ℕ) → length seed ≡ 32 → IsBytes seed → encode_lower seed ≢ text
 
 -- ---- a server
 
@@ -184,12 +184,12 @@ abbrev pub ParsesAddress : Text → Type 0
 ParsesAddress text = (a : SocketAddrV4) × IsSocketV4Text text a
 
 -- the text isn't an address
-abbrev pub ParsesNoAddress : Text → Type 0
-ParsesNoAddress text = (a : SocketAddrV4) → IsSocketV4Text text a → ⊥
+abbrev pub IsNoAddress : Text → Type 0
+IsNoAddress text = (a : SocketAddrV4) → IsSocketV4Text text a → ⊥
 
 -- the words don't give a number of workers in its range, or not one of connections
-abbrev pub ParsesNoNumbers : Option (Text × List Row) → Type 0
-ParsesNoNumbers met = ((n : ℕ) → ParsesNumber most_workers (server_word (codes "workers") met) n → ⊥) ⊎ ((n : ℕ) → ParsesNumber most_connections (server_word (codes "connections") met) n → ⊥)
+abbrev pub AreNoNumbers : Option (Text × List Row) → Type 0
+AreNoNumbers met = ((n : ℕ) → ParsesNumber most_workers (server_word (codes "workers") met) n → ⊥) ⊎ ((n : ℕ) → ParsesNumber most_connections (server_word (codes "connections") met) n → ⊥)
 
 -- ---- the faults of a command line
 
@@ -198,7 +198,7 @@ pub record AsksWell (words : List Text) : Type 0 where
   pub taken : line_faults words ≡ []
   pub asked : program_asked words ≡ Serve
   pub domain : domain_refusal (unwrap_or (domain_word words) []) ≡ None
-  pub seed : ParsesNoSeed (seed_text words) → ⊥
+  pub seed : IsNoSeed (seed_text words) → ⊥
 
 -- The words have this fault: the parser refuses them; or it accepts them, and their domain (the empty text if there is none)
 -- isn't a trust domain; or it is one, and the text of the seed isn't a seed; or it is one, and the words request a server without
@@ -209,8 +209,8 @@ IsFaultOf words (Refused error) = IsAmong (kind_of error) (line_faults words)
 IsFaultOf words (Domain refusal) =
     (line_faults words ≡ []) × (domain_refusal (unwrap_or (domain_word words) []) ≡ Some refusal)
 IsFaultOf words Seed =
-    (line_faults words ≡ []) × (domain_refusal (unwrap_or (domain_word words) []) ≡ None) × ParsesNoSeed (seed_text words)
-IsFaultOf words Address = AsksWell words × ParsesNoAddress (server_word (codes "listen") (subcommand_of regd_command words))
-IsFaultOf words Number = AsksWell words × ParsesAddress (server_word (codes "listen") (subcommand_of regd_command words)) × ParsesNoNumbers (subcommand_of regd_command words)
+    (line_faults words ≡ []) × (domain_refusal (unwrap_or (domain_word words) []) ≡ None) × IsNoSeed (seed_text words)
+IsFaultOf words Address = AsksWell words × IsNoAddress (server_word (codes "listen") (subcommand_of regd_command words))
+IsFaultOf words Number = AsksWell words × ParsesAddress (server_word (codes "listen") (subcommand_of regd_command words)) × AreNoNumbers (subcommand_of regd_command words)
 IsFaultOf words NotText = ⊥
 IsFaultOf words NoMemory = ⊤

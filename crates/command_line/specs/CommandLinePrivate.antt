@@ -6,7 +6,7 @@ use Rattle.command_line.specs.declared.settings.ServerPlan.{ServerPlan}
 use Rattle.clap.specs.Words.{Row, Text}
 use Rattle.command_line.specs.declared.fault.LineFault.{LineFault}
 use Rattle.command_line.specs.declared.fault.LineFault.TheVariants.{Address, Number}
-use Rattle.command_line.specs.CommandLine.{server_word, ParsesAddress, ParsesNoAddress, ParsesNoNumbers}
+use Rattle.command_line.specs.CommandLine.{server_word, ParsesAddress, IsNoAddress, AreNoNumbers}
 
 -- there is a plan exactly if a server is requested, and the plan has a worker
 abbrev pub HasServer : Program → Option ServerPlan → Type 0
@@ -17,6 +17,6 @@ HasServer program None = ⊤
 
 -- the options of a requested server have this fault
 abbrev pub IsServerFault : Option (Text × List Row) → Program → LineFault → Type 0
-IsServerFault met program Address = (program ≡ Serve) × ParsesNoAddress (server_word (codes "listen") met)
-IsServerFault met program Number = (program ≡ Serve) × ParsesAddress (server_word (codes "listen") met) × ParsesNoNumbers met
+IsServerFault met program Address = (program ≡ Serve) × IsNoAddress (server_word (codes "listen") met)
+IsServerFault met program Number = (program ≡ Serve) × ParsesAddress (server_word (codes "listen") met) × AreNoNumbers met
 IsServerFault met program fault = ⊥

@@ -2,7 +2,7 @@
 
 ghost use Rattle.std.specs.Prelude.{◌≡◌, IfNone, IfSome};
 ghost use Rattle.hex.specs.Hex.{encode_lower};
-ghost use Rattle.command_line.specs.CommandLine.{ParsesNoSeed};
+ghost use Rattle.command_line.specs.CommandLine.{IsNoSeed};
 
 use hex::FromHex;
 
@@ -13,8 +13,8 @@ pub const FIRST_SEED: &str = "00000000000000000000000000000000000000000000000000
 /// such digits.
 pub fn seed_of(text: &str) -> Option<[u8; 32]>
     ensures seed { IfSome result (λ seed. encode_lower seed ≡ text.now) }
-    ensures parsed { IfSome result (λ _. ParsesNoSeed text.now → ⊥) }
-    ensures none { IfNone result (ParsesNoSeed text.now) }
+    ensures parsed { IfSome result (λ _. IsNoSeed text.now → ⊥) }
+    ensures none { IfNone result (IsNoSeed text.now) }
 {
     let seed = <[u8; 32] as FromHex>::from_hex(text).ok()?;
     if digits_of(seed).as_slice() == text.as_bytes() {

@@ -22,7 +22,7 @@ use Rattle.line_engines.specs.declared.audit_engine.Over.{Over}
 use Rattle.line_engines.specs.declared.audit_engine.Over.TheVariants.{Denied, NoMemory}
 use Rattle.line_engines.specs.declared.fault.RunFault.{RunFault}
 use Rattle.line_engines.specs.declared.fault.RunFault.TheVariants as fault
-use Rattle.line_engines.specs.declared.outcome.RunEnd.{RunEnd}
+use Rattle.line_engines.specs.declared.run_end.RunEnd.{RunEnd}
 use Rattle.line_engines.proofs.Driving.{memory_input}
 
 -- ---- one line

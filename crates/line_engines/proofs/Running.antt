@@ -6,7 +6,7 @@ use Rattle.line_devices.specs.Lines.{stored_part, IsLine}
 use Rattle.line_devices.specs.Stream.{OutputState}
 use Rattle.line_reading.proofs.Kept.{kept_spells}
 use Rattle.line_engines.specs.Answers.{Answers, Running, refused, replied, not_read, not_run}
-use Rattle.line_engines.specs.AnswersPrivate.{AnswersLine, Keeping, PlainRepresents}
+use Rattle.line_engines.specs.AnswersPrivate.{AnswersLine, PlainKept, PlainRepresents}
 use Rattle.line_engines.specs.Driver.{AnswersKept}
 
 same_state : (a b : Running) → a.books ≡ b.books → a.ids ≡ b.ids → a.calls ≡ b.calls → a.lines ≡ b.lines → a ≡ b
@@ -25,7 +25,7 @@ of_kept domain now line next reply is (not_read n r) = not_read n r
 of_kept domain now line next reply is (not_run request ids e n r) = not_run request ids (sym (kept_spells domain now.ids line is) ∙ e) n r
 
 -- the line of which these bytes are kept was answered
-pub reported : (domain : List ℕ) (before after : Keeping) (now : Running) (bytes : List ℕ) (old out : OutputState) → PlainRepresents before now → AnswersLine domain (record { books = now.books; ids = before.ids; calls = before.calls; lines = before.lines }) bytes old out after.book after.ids after.calls → after.lines ≡ before.lines + 1 → AnswersKept (Answers domain) (λ _. false) (PlainRepresents after) now bytes old out true
+pub reported : (domain : List ℕ) (before after : PlainKept) (now : Running) (bytes : List ℕ) (old out : OutputState) → PlainRepresents before now → AnswersLine domain (record { books = now.books; ids = before.ids; calls = before.calls; lines = before.lines }) bytes old out after.book after.ids after.calls → after.lines ≡ before.lines + 1 → AnswersKept (Answers domain) (λ _. false) (PlainRepresents after) now bytes old out true
 reported domain before after now bytes old out s a l =
     let e = same_state (record { books = now.books; ids = before.ids; calls = before.calls; lines = before.lines }) now refl (sym s.1) (sym s.2) (sym s.3) in
     let P : Running → Type 0 = λ r. AnswersLine domain r bytes old out after.book after.ids after.calls in

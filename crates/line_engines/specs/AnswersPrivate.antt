@@ -23,12 +23,12 @@ pub an_answer : (domain : List ℕ) (now : Running) (line : List ℕ) → (next 
 an_answer domain now line = (plain_skips now, as_line (no_memory_json (now.lines + 1)), not_read refl refl)
 
 -- the state that the engine `plain` stores
-pub record Keeping : Type 0 where
+pub record PlainKept : Type 0 where
   pub book : PlainState
   pub ids : ChaCha
   pub calls : ℕ
   pub lines : ℕ
 
 -- it represents this state of a run
-abbrev pub PlainRepresents : Keeping → Running → Type 0
+abbrev pub PlainRepresents : PlainKept → Running → Type 0
 PlainRepresents kept now = RepresentsBooks kept.book now.books × (now.ids ≡ kept.ids) × (now.calls ≡ kept.calls) × (now.lines ≡ kept.lines)

@@ -17,8 +17,8 @@ use Rattle.line_engines.specs.declared.audit_engine.Over.{Over}
 use Rattle.line_engines.specs.declared.audit_engine.Over.TheVariants.{Denied, NoMemory}
 use Rattle.line_engines.specs.declared.fault.RunFault.{RunFault}
 use Rattle.line_engines.specs.declared.fault.RunFault.TheVariants as fault
-use Rattle.line_engines.specs.declared.outcome.RunEnd.{RunEnd}
-use Rattle.line_engines.specs.declared.outcome.RunEnd.TheVariants as outcome
+use Rattle.line_engines.specs.declared.run_end.RunEnd.{RunEnd}
+use Rattle.line_engines.specs.declared.run_end.RunEnd.TheVariants as outcome
 
 -- The state of a run: the records that were accepted, and why it accepts no more, if so.
 pub record Audited : Type 0 where

@@ -5,8 +5,8 @@ use Rattle.call_audit.specs.Audits.{judged}
 use Rattle.call_audit.specs.Represents.{AuditState, RepresentsRecords}
 use Rattle.line_engines.specs.declared.audit_engine.Over.{Over}
 use Rattle.line_engines.specs.declared.audit_engine.Over.TheVariants.{Denied, NoMemory}
-use Rattle.line_engines.specs.declared.outcome.RunEnd.{RunEnd}
-use Rattle.line_engines.specs.declared.outcome.RunEnd.TheVariants as outcome
+use Rattle.line_engines.specs.declared.run_end.RunEnd.{RunEnd}
+use Rattle.line_engines.specs.declared.run_end.RunEnd.TheVariants as outcome
 use Rattle.line_engines.specs.Audited.{Audited, AnswersRecord, lacks_memory_now, past}
 
 -- Each line has a result in every state: at least that for out of memory.

@@ -14,5 +14,5 @@ pub record RecordKept : Type 0 where
   pub lost : ℕ
 
 -- it represents this state of a run
-abbrev pub KeepsRecording : RecordKept → Recording → Type 0
-KeepsRecording kept now = ScheduleRepresents kept.schedule now.scheduled × (now.lost ≡ kept.lost)
+abbrev pub RecordRepresents : RecordKept → Recording → Type 0
+RecordRepresents kept now = ScheduleRepresents kept.schedule now.scheduled × (now.lost ≡ kept.lost)

@@ -8,7 +8,7 @@ ghost use Rattle.line_engines.specs.AuditedPrivate.{AuditsLine};
 
 use crate::driver::{LineHandler, run_lines};
 use crate::fault::RunFault;
-use crate::outcome::RunEnd;
+use crate::run_end::RunEnd;
 use call_audit::{AuditVerdict, Auditor, Cause};
 use line_devices::{Input, Output, Sink, Source};
 use reg_lines::print_line;

@@ -12,7 +12,7 @@
 //! contracts.
 //!
 //! - `driver`: runs of any line handler; `plain_engine`, `schedule_engine`, `record_engine`, `audit_engine`: the four engines,
-//!   each a line handler; `outcome` and `fault`: the result of a run; `laws`: the theorem.
+//!   each a line handler; `run_end` and `fault`: the result of a run; `laws`: the theorem.
 //!
 //! `docs/GLOSSARY.md` explains the terms.
 #![tactic(auto)]
@@ -21,16 +21,16 @@ mod audit_engine;
 mod driver;
 mod fault;
 mod laws;
-mod outcome;
 mod plain_engine;
 mod record_engine;
+mod run_end;
 mod schedule_engine;
 
 pub use audit_engine::audit;
 pub use driver::{LineHandler, run_lines};
 pub use fault::RunFault;
 pub use laws::recorded_runs_are_confirmed;
-pub use outcome::RunEnd;
 pub use plain_engine::plain;
 pub use record_engine::record_schedule;
+pub use run_end::RunEnd;
 pub use schedule_engine::schedule;

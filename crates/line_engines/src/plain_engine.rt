@@ -49,9 +49,9 @@ struct PlainRun {
 
 impl Model for PlainRun {
     ghost use Rattle.std.specs.Prelude.{◌≤◌};
-    ghost use Rattle.line_engines.specs.AnswersPrivate.{Keeping};
+    ghost use Rattle.line_engines.specs.AnswersPrivate.{PlainKept};
 
-    ghost Value = { Keeping };
+    ghost Value = { PlainKept };
 
     ghost view = { λ r. record { book = r.book; ids = r.ids; calls = r.calls; lines = r.lines } };
 
@@ -80,7 +80,7 @@ impl PlainRun {
 impl LineHandler for PlainRun {
     ghost use Rattle.std.specs.Prelude.{ℕ, List, false, ⊤, ◌+◌, refl};
     ghost use Rattle.line_engines.specs.Answers.{Answers, ClosesWithNothing, Running};
-    ghost use Rattle.line_engines.specs.AnswersPrivate.{Keeping, PlainRepresents, an_answer};
+    ghost use Rattle.line_engines.specs.AnswersPrivate.{PlainKept, PlainRepresents, an_answer};
 
     ghost State = { Running };
 

@@ -63,11 +63,11 @@ impl Model for RecordRun {
 impl RecordRun {
     ghost use Rattle.std.specs.Prelude.{◌≡◌, IfOk};
     ghost use Rattle.line_engines.specs.Recorded.{first_recording};
-    ghost use Rattle.line_engines.specs.RecordedPrivate.{KeepsRecording};
+    ghost use Rattle.line_engines.specs.RecordedPrivate.{RecordRepresents};
 
     /// The state before the first line. The error is out of memory.
     fn new(alloc: Global, domain: TrustDomain, seed: [u8; 32]) -> Result<RecordRun, AllocError>
-        ensures represents { IfOk result (λ run. KeepsRecording run (first_recording domain seed)) }
+        ensures represents { IfOk result (λ run. RecordRepresents run (first_recording domain seed)) }
         ensures domain { IfOk result (λ run. run.schedule.machine.domain ≡ domain) }
         ensures lines { IfOk result (λ run. run.schedule.lines ≡ 0) }
     {
@@ -88,7 +88,7 @@ impl RecordRun {
 impl LineHandler for RecordRun {
     ghost use Rattle.std.specs.Prelude.{ℕ, List, false, ⊤};
     ghost use Rattle.line_engines.specs.Recorded.{ClosesRecording, Recording, RecordsLine};
-    ghost use Rattle.line_engines.specs.RecordedPrivate.{KeepsRecording, a_line_recorded};
+    ghost use Rattle.line_engines.specs.RecordedPrivate.{RecordRepresents, a_line_recorded};
 
     ghost State = { Recording };
 
@@ -96,7 +96,7 @@ impl LineHandler for RecordRun {
 
     ghost setting = { λ r. r.schedule.machine.domain };
 
-    ghost represents = { KeepsRecording };
+    ghost represents = { RecordRepresents };
 
     ghost lines = { λ r. r.schedule.lines };
 

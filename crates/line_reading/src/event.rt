@@ -145,7 +145,7 @@ fn event_in(
 
 /// Reads the event of the line. On an error the ids are unchanged. The checks that take no memory come first.
 #[tactic(auto, unfolding(crate::specs::Events::spelled_event))]
-fn drawn_event(
+fn event_of_line(
     alloc: Global,
     domain: &TrustDomain,
     ids: &mut Ids,
@@ -183,7 +183,7 @@ pub fn read_event(
     ensures memory { IfErr result (λ refusal. IsNoMemory refusal.failure → NeedsMemory line.now) }
     ensures domain { IfOk result (IsFor domain.now) }
 {
-    match drawn_event(alloc, domain, ids, line) {
+    match event_of_line(alloc, domain, ids, line) {
         Ok(event) => Ok(event),
         Err(failure) => Err(LineRefusal {
             line: number,

@@ -123,7 +123,7 @@ fn request_in(
 
 /// Reads the request of the line. On an error the ids are unchanged. The checks that take no memory come first.
 #[tactic(auto, unfolding(crate::specs::Requests::spelled))]
-fn drawn(
+fn request_of_line(
     alloc: Global,
     domain: &TrustDomain,
     ids: &mut Ids,
@@ -161,7 +161,7 @@ pub fn read_request(
     ensures memory { IfErr result (λ refusal. IsNoMemory refusal.failure → NeedsMemory line.now) }
     ensures domain { IfOk result (λ request. request.batch.domain ≡ domain.now) }
 {
-    match drawn(alloc, domain, ids, line) {
+    match request_of_line(alloc, domain, ids, line) {
         Ok(request) => Ok(request),
         Err(failure) => Err(LineRefusal {
             line: number,

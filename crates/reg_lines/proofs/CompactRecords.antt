@@ -15,7 +15,7 @@ use Rattle.entry_book.specs.declared.page.PageQuery.{PageQuery}
 use Rattle.entry_book.specs.declared.page.SelectorMatch.{SelectorMatch}
 use Rattle.reg_lines.specs.Json.{list_json, option_json, text_json}
 use Rattle.reg_lines.specs.RecordLines.{batch_json, children_json, delete_json, drop_bundle_json, entry_op_json, given_member, keyed_op_json, leading_member, match_json, match_member, op_json, page_op_json, record_json, selectors_member, set_agent_json, set_bundle_json}
-use Rattle.reg_lines.specs.RecordValues.{BatchesAreCompact, BatchesHaveNoFloat, RecordsAreCompact, RecordsHaveNoFloat, asked_data, batch_data, children_data, delete_data, drop_bundle_data, entry_op_data, keyed_op_data, match_data, op_data, page_op_data, set_agent_data, set_bundle_data}
+use Rattle.reg_lines.specs.RecordValues.{BatchesAreCompact, BatchesHaveNoFloat, RecordsAreCompact, RecordsHaveNoFloat, selectors_data, batch_data, children_data, delete_data, drop_bundle_data, entry_op_data, keyed_op_data, match_data, op_data, page_op_data, set_agent_data, set_bundle_data}
 use Rattle.reg_lines.specs.Replies.{given_lifetime, lifetime_member, reply_json, selector_json, uuid_json, uuid_text}
 use Rattle.reg_lines.specs.Values.{if_due, list_data, option_data, selector_data, uuid_data, whole}
 use Rattle.reg_lines.proofs.Compact.{left-right, right, list_json-is, list-no_float, option_json-is, option-no_float, reply_json-is, reply-no_float, selectors-are, selectors-no_float, text_json-is, texts-are, texts-no_float}
@@ -126,35 +126,35 @@ leading-is key before t f (Some x) ms e h b = rw (put-front key (f x) ms b) (rw 
 
 -- the members after the optional keys: the operation's name, and those after it in the order of bytes
 abbrev page_tail : Option (List ℕ) → Option SelectorMatch → ℕ → Members
-page_tail parent question size =
+page_tail parent condition size =
     put (codes "op") (string (codes "page")) (
     if_due (codes "parent") string parent (
-    if_due (codes "selectors") asked_data question (
+    if_due (codes "selectors") selectors_data condition (
     put (codes "size") (whole size)
     no_members)))
 
-tail-before : (key : List ℕ) (parent : Option (List ℕ)) (question : Option SelectorMatch) (size : ℕ) → slice_cmp nat_cmp key (codes "op") ≡ Less → IsBefore key (page_tail parent question size)
+tail-before : (key : List ℕ) (parent : Option (List ℕ)) (condition : Option SelectorMatch) (size : ℕ) → slice_cmp nat_cmp key (codes "op") ≡ Less → IsBefore key (page_tail parent condition size)
 tail-before key None None size l = l
 tail-before key None (Some m) size l = l
 tail-before key (Some p) None size l = l
 tail-before key (Some p) (Some m) size l = l
 
 abbrev tail_parts : Option (List ℕ) → Option SelectorMatch → ℕ → List (List ℕ)
-tail_parts parent question size =
+tail_parts parent condition size =
     codes "\"op\":\"page\""
     ∷ given_member (codes ",\"parent\":") text_json parent
-    ∷ selectors_member question
+    ∷ selectors_member condition
     ∷ codes ",\"size\":" ∷ decimal size
     ∷ codes "}" ∷ []
 
-tail-is : (parent : Option (List ℕ)) (question : Option SelectorMatch) (size : ℕ) → right (tail_parts parent question size) ≡ members_text false (page_tail parent question size)
+tail-is : (parent : Option (List ℕ)) (condition : Option SelectorMatch) (size : ℕ) → right (tail_parts parent condition size) ≡ members_text false (page_tail parent condition size)
 unfolding serde_json_on_literals
 tail-is None None size = refl
 tail-is None (Some m) size = simp (append_assoc, selectors-are) refl
 tail-is (Some p) None size = simp (append_assoc, text_json-is) refl
 tail-is (Some p) (Some m) size = simp (append_assoc, text_json-is, selectors-are) refl
 
-match-leading : (question : Option SelectorMatch) → match_member question ≡ leading_member (codes "\"match\":") (λ m. match_json m.mode) question
+match-leading : (condition : Option SelectorMatch) → match_member condition ≡ leading_member (codes "\"match\":") (λ m. match_json m.mode) condition
 match-leading None = refl
 match-leading (Some m) = refl
 
@@ -339,7 +339,7 @@ due-no_float : {A : Type 0} (key : List ℕ) (f : A → Data) (o : Option A) (ms
 due-no_float key f None ms h b e = e
 due-no_float key f (Some x) ms h b e = rw (put-front key (f x) ms b) (rw (h x) e)
 
-tail-no_float : (parent : Option (List ℕ)) (question : Option SelectorMatch) (size : ℕ) → members_have_float (page_tail parent question size) ≡ false
+tail-no_float : (parent : Option (List ℕ)) (condition : Option SelectorMatch) (size : ℕ) → members_have_float (page_tail parent condition size) ≡ false
 tail-no_float None None size = refl
 tail-no_float None (Some m) size = simp selectors-no_float refl
 tail-no_float (Some p) None size = refl

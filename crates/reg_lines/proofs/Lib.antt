@@ -2,7 +2,7 @@ pub mod Escapes
 pub mod Items
 pub mod MarkTexts
 pub mod Lifetimes
-pub mod Rows
+pub mod JoinedTexts
 pub mod Compact
 pub mod CompactEvents
 pub mod CompactSeats
@@ -11,8 +11,8 @@ pub mod ReadBack
 pub mod ReadBackOps
 pub mod ReadBackRecords
 pub mod LineTokens
-pub mod FloatFree
-pub mod FloatFreeValues
+pub mod Canonical
+pub mod CanonicalValues
 pub mod Typed
 pub mod OneLine
 pub mod Spelled

@@ -21,7 +21,7 @@ use Rattle.line_reading.specs.declared.fault.Key.{Key}
 use Rattle.line_reading.specs.Codes.{key_name}
 use Rattle.line_reading.specs.Fields.{optional, unless_null, text_at, text_in, optional_text_at, mode_in, optional_mode_at, match_in, optional_match_at, number_in, number_at, optional_number_at, id_at, id_in, optional_id_at, domain_at, domain_in, optional_domain_at, uuid_in, uuid_at, optional_uuid_at, selector_in, selectors_in, selectors_at, selector_set_in, optional_selectors_at, domains_in, domain_set_in, optional_domains_at, is_known_key, least_other, lesser}
 use Rattle.reg_lines.specs.RecordLines.{match_text, mode_text}
-use Rattle.reg_lines.specs.RecordValues.{asked_data, match_data}
+use Rattle.reg_lines.specs.RecordValues.{selectors_data, match_data}
 use Rattle.reg_lines.specs.ReadBack.{AreDomains, AreSelectors, IsDomainText, IsIdText, IsSelector, IsUuid}
 use Rattle.reg_lines.specs.Replies.{given_lifetime, uuid_text}
 use Rattle.reg_lines.specs.Values.{if_due, list_data, selector_data, uuid_data, whole}
@@ -203,14 +203,14 @@ pub selectors-back : (k : Key) (d : Data) (ss : List SelectorPair) → get (key_
 unfolding selectors_at
 selectors-back k d ss e h = rw e (rw (selectors_given k ss h.0) (rw h.1 refl))
 
-selectors_of_question : (k : Key) (o : Option SelectorMatch) → IfSome o (λ m. AreSelectors m.selectors) → optional (selector_set_in k) (option_and_then unless_null (option_map asked_data o)) ≡ Ok (option_map (λ m. m.selectors) o)
+selectors_of_condition : (k : Key) (o : Option SelectorMatch) → IfSome o (λ m. AreSelectors m.selectors) → optional (selector_set_in k) (option_and_then unless_null (option_map selectors_data o)) ≡ Ok (option_map (λ m. m.selectors) o)
 unfolding selector_set_in
-selectors_of_question k None h = refl
-selectors_of_question k (Some m) h = rw (selectors_given k m.selectors h.0) (rw h.1 refl)
+selectors_of_condition k None h = refl
+selectors_of_condition k (Some m) h = rw (selectors_given k m.selectors h.0) (rw h.1 refl)
 
-pub asked-back : (k : Key) (d : Data) (o : Option SelectorMatch) → get (key_name k) d ≡ option_map asked_data o → IfSome o (λ m. AreSelectors m.selectors) → optional_selectors_at k d ≡ Ok (option_map (λ m. m.selectors) o)
+pub condition_selectors-back : (k : Key) (d : Data) (o : Option SelectorMatch) → get (key_name k) d ≡ option_map selectors_data o → IfSome o (λ m. AreSelectors m.selectors) → optional_selectors_at k d ≡ Ok (option_map (λ m. m.selectors) o)
 unfolding optional_selectors_at
-asked-back k d o e h = rw e (selectors_of_question k o h)
+condition_selectors-back k d o e h = rw e (selectors_of_condition k o h)
 
 domains_given : (k : Key) (ds : List (List ℕ)) → AllByRecursion IsDomainText ds → domains_in k (items_of (map string ds)) ≡ Ok ds
 unfolding domain_in text_in

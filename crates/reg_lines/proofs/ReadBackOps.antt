@@ -22,11 +22,11 @@ use Rattle.line_reading.specs.Codes.{key_name}
 use Rattle.line_reading.specs.Fields.{◌>>=◌, with_ids, uuid_in, text_in, uuid_or_drawn_at, new_uuid_at, is_known_key, least_other, no_others}
 use Rattle.line_reading.specs.Operations.{agent_in, authorised_in, children_in, create_in, delete_in, drop_agent_in, drop_bundle_in, entry_in, filter_in, named_op, op_in, page_in, prune_in, selector_match, set_agent_in, set_bundle_in, show_agent_in, show_bundle_in, show_in, trust_in, update_in}
 use Rattle.reg_lines.specs.RecordLines.{mode_text}
-use Rattle.reg_lines.specs.RecordValues.{asked_data, entry_op_data, match_data, op_data, page_op_data}
+use Rattle.reg_lines.specs.RecordValues.{selectors_data, entry_op_data, match_data, op_data, page_op_data}
 use Rattle.reg_lines.specs.ReadBack.{IsDomainText, IsIdText, IsUuid, IsWrittenAgent, IsWrittenEntry, IsWrittenPage, OpsReadBack}
 use Rattle.reg_lines.specs.Replies.{given_lifetime}
 use Rattle.reg_lines.specs.Values.{if_due, list_data, selector_data, uuid_data, whole}
-use Rattle.reg_lines.proofs.ReadBack.{Due, asked-back, domain-back, domains-back, due-map, found, id-back, known, lifetime-back, match-back, members_due, mode-back, number-back, optional_domain-back, optional_id-back, optional_number-back, optional_text-back, optional_uuid-back, or_none, selectors-back, text-back, uuid-back}
+use Rattle.reg_lines.proofs.ReadBack.{Due, condition_selectors-back, domain-back, domains-back, due-map, found, id-back, known, lifetime-back, match-back, members_due, mode-back, number-back, optional_domain-back, optional_id-back, optional_number-back, optional_text-back, optional_uuid-back, or_none, selectors-back, text-back, uuid-back}
 
 both_true : (a b : Bool) → (a && b) ≡ true → (a ≡ true) × (b ≡ true)
 both_true true b e = (refl, e)
@@ -326,9 +326,9 @@ drop_bundle-back m ids domain mode h =
 
 -- ---- pages
 
-question-back : (o : Option SelectorMatch) → selector_match (option_map (λ m. m.selectors) o) (option_map (λ m. m.mode) o) ≡ Ok o
-question-back None = refl
-question-back (Some m) = refl
+condition-back : (o : Option SelectorMatch) → selector_match (option_map (λ m. m.selectors) o) (option_map (λ m. m.mode) o) ≡ Ok o
+condition-back None = refl
+condition-back (Some m) = refl
 
 record IsPageAt (d : Data) (q : PageQuery) : Type 0 where
   size : get (key_name key.Size) d ≡ Some (whole q.size)
@@ -337,7 +337,7 @@ record IsPageAt (d : Data) (q : PageQuery) : Type 0 where
   parent : get (key_name key.Parent) d ≡ option_map string q.filter.parent
   identity : get (key_name key.Identity) d ≡ option_map string q.filter.identity
   domain : get (key_name key.Domain) d ≡ option_map string q.filter.domain
-  selectors : get (key_name key.Selectors) d ≡ option_map asked_data q.filter.selectors
+  selectors : get (key_name key.Selectors) d ≡ option_map selectors_data q.filter.selectors
   match : get (key_name key.Match) d ≡ option_map match_data q.filter.selectors
 
 filter-back : (d : Data) (q : PageQuery) → IsWrittenPage q → IsPageAt d q → filter_in d ≡ Ok q.filter
@@ -346,9 +346,9 @@ filter-back d q w a =
     rw (optional_id-back key.Parent d q.filter.parent a.parent w.parent)
     (rw (optional_id-back key.Identity d q.filter.identity a.identity w.identity)
     (rw (optional_domain-back key.Domain d q.filter.domain a.domain w.domain)
-    (rw (asked-back key.Selectors d q.filter.selectors a.selectors w.selectors)
+    (rw (condition_selectors-back key.Selectors d q.filter.selectors a.selectors w.selectors)
     (rw (match-back key.Match d q.filter.selectors a.match)
-    (rw (question-back q.filter.selectors) refl)))))
+    (rw (condition-back q.filter.selectors) refl)))))
 
 abbrev page_keys : List Key
 page_keys = key.Op ∷ key.Size ∷ key.At ∷ key.From ∷ key.Parent ∷ key.Identity ∷ key.Domain ∷ key.Selectors ∷ key.Match ∷ []
@@ -370,7 +370,7 @@ page_due q =
     ∷ (codes "match", option_map match_data q.filter.selectors)
     ∷ (codes "op", Some (string (codes "page")))
     ∷ (codes "parent", option_map string q.filter.parent)
-    ∷ (codes "selectors", option_map asked_data q.filter.selectors)
+    ∷ (codes "selectors", option_map selectors_data q.filter.selectors)
     ∷ (codes "size", Some (whole q.size))
     ∷ []
 
@@ -384,7 +384,7 @@ page-due q =
     next-due (codes "match") match_data q.filter.selectors _ _ (
     next-put (codes "op") (string (codes "page")) _ _ (
     next-due (codes "parent") string q.filter.parent _ _ (
-    next-due (codes "selectors") asked_data q.filter.selectors _ _ refl))))))))
+    next-due (codes "selectors") selectors_data q.filter.selectors _ _ refl))))))))
 
 page-at : (q : PageQuery) → IsPageAt (object (members_due (page_due q))) q
 page-at q = record {

@@ -26,8 +26,8 @@ use Rattle.reg_lines.proofs.Typed.{typed-put}
 use Rattle.reg_lines.specs.Spelled.{BatchesAreSpelled, OpsAreSpelled, batch_of_one, FitsInLine, IsTyped, IsWrittenBatch, IsWrittenCall, RecordsAreSpelled}
 use Rattle.reg_lines.specs.Values.{list_data, option_data, reply_data, whole}
 use Rattle.reg_lines.proofs.CompactRecords.{batch_json-is, record_json-is}
-use Rattle.reg_lines.proofs.FloatFree.{IsFloatFree, line-utf8, read-line}
-use Rattle.reg_lines.proofs.FloatFreeValues.{batch-float_free, record-float_free}
+use Rattle.reg_lines.proofs.Canonical.{IsCanonical, line-utf8, read-line}
+use Rattle.reg_lines.proofs.CanonicalValues.{batch-canonical, record-canonical}
 use Rattle.reg_lines.proofs.ReadBack.{Due, found, members_due, or_none}
 use Rattle.reg_lines.proofs.ReadBackOps.{only}
 use Rattle.reg_lines.proofs.ReadBackRecords.{batch-due, batch_due, listed-back, ops-back, record-back}
@@ -61,8 +61,8 @@ framed-text xs h = rw (stripped xs) (rw (not_over xs h) (rw (ends xs) refl))
 
 -- ---- the value of a line
 
-value-text : (n : ℕ) (d : Data) → IsFloatFree n d → n ≤ max_depth → IsTyped d → value_in (compact_text d ++ 10 ∷ []) ≡ Ok d
-value-text n d float_free shallow typed = value_in-text _ _ (line-utf8 n d float_free typed) (read-line n d shallow float_free typed)
+value-text : (n : ℕ) (d : Data) → IsCanonical n d → n ≤ max_depth → IsTyped d → value_in (compact_text d ++ 10 ∷ []) ≡ Ok d
+value-text n d canonical shallow typed = value_in-text _ _ (line-utf8 n d canonical typed) (read-line n d shallow canonical typed)
 
 -- ---- a batch
 
@@ -104,7 +104,7 @@ spelled-text domain ids line d f v = rw f (rw v refl)
 pub batch-spelled : BatchesAreSpelled
 batch-spelled batch ids w fits =
     spelled-text batch.domain ids (batch_json batch ++ 10 ∷ []) (batch_data batch) (framed-text (batch_json batch) fits)
-    (ap (λ s. value_in (s ++ 10 ∷ [])) (batch_json-is batch) ∙ value-text 4 (batch_data batch) (batch-float_free batch) (omega arith) w.typed)
+    (ap (λ s. value_in (s ++ 10 ∷ [])) (batch_json-is batch) ∙ value-text 4 (batch_data batch) (batch-canonical batch) (omega arith) w.typed)
     ∙ value-back batch ids w
 
 -- ---- a record
@@ -134,7 +134,7 @@ record-spelled batch call invoked replied reply w c fits =
     let d : Data = record_data batch call invoked replied reply in
     let typed : IsTyped d = record-typed batch call invoked replied reply w.typed c in
     record-text batch.domain (record_json batch call invoked replied reply ++ 10 ∷ []) d (framed-text (record_json batch call invoked replied reply) fits)
-    (ap (λ s. value_in (s ++ 10 ∷ [])) (record_json-is batch call invoked replied reply) ∙ value-text 7 d (record-float_free batch call invoked replied reply) (omega arith) typed)
+    (ap (λ s. value_in (s ++ 10 ∷ [])) (record_json-is batch call invoked replied reply) ∙ value-text 7 d (record-canonical batch call invoked replied reply) (omega arith) typed)
     ∙ record-back batch call invoked replied reply w.ops w.token w.no_fault
 
 -- ---- an operation alone

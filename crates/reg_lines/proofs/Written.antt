@@ -13,7 +13,7 @@ use Rattle.entry_book.specs.declared.page.SelectorMatch.{SelectorMatch}
 use Rattle.entry_book.specs.declared.reply.OpReply.{OpReply}
 use Rattle.entry_book.specs.declared.reply.Refusal.{Refusal}
 use Rattle.reg_lines.specs.RecordLines.{match_text, mode_text}
-use Rattle.reg_lines.specs.RecordValues.{asked_data, children_data, delete_data, drop_bundle_data, keyed_op_data, match_data, page_op_data, set_bundle_data}
+use Rattle.reg_lines.specs.RecordValues.{selectors_data, children_data, delete_data, drop_bundle_data, keyed_op_data, match_data, page_op_data, set_bundle_data}
 use Rattle.reg_lines.specs.Spelled.{IsTyped, MembersAreTyped}
 use Rattle.reg_lines.specs.Values.{detail, done_data, if_due, list_data, op_reply_data, option_data, refused_data, uuid_data, whole}
 use Rattle.reg_lines.proofs.Typed.{typed-put}
@@ -46,14 +46,14 @@ match_mode-text Any = IsUtf8-are_ascii _ refl
 match_mode-text Superset = IsUtf8-are_ascii _ refl
 match_mode-text Subset = IsUtf8-are_ascii _ refl
 
-match-typed : (question : Option SelectorMatch) → IsTyped (option_data match_data question)
+match-typed : (condition : Option SelectorMatch) → IsTyped (option_data match_data condition)
 match-typed None = tt
-match-typed (Some question) = match_mode-text question.mode
+match-typed (Some condition) = match_mode-text condition.mode
 
-pub page-typed : (q : PageQuery) → IsTyped (whole q.size) → IsTyped (option_data whole q.at) → IsTyped (option_data uuid_data q.from) → IsTyped (option_data string q.filter.parent) → IsTyped (option_data string q.filter.identity) → IsTyped (option_data string q.filter.domain) → IsTyped (option_data asked_data q.filter.selectors) → IsTyped (page_op_data q)
+pub page-typed : (q : PageQuery) → IsTyped (whole q.size) → IsTyped (option_data whole q.at) → IsTyped (option_data uuid_data q.from) → IsTyped (option_data string q.filter.parent) → IsTyped (option_data string q.filter.identity) → IsTyped (option_data string q.filter.domain) → IsTyped (option_data selectors_data q.filter.selectors) → IsTyped (page_op_data q)
 page-typed q size at from parent identity domain selectors =
     let with_size : Members = put (codes "size") (whole q.size) no_members in
-    let with_selectors : Members = if_due (codes "selectors") asked_data q.filter.selectors with_size in
+    let with_selectors : Members = if_due (codes "selectors") selectors_data q.filter.selectors with_size in
     let with_parent : Members = if_due (codes "parent") string q.filter.parent with_selectors in
     let with_op : Members = put (codes "op") (string (codes "page")) with_parent in
     let with_match : Members = if_due (codes "match") match_data q.filter.selectors with_op in
@@ -67,7 +67,7 @@ page-typed q size at from parent identity domain selectors =
     (typed-due (codes "match") match_data q.filter.selectors with_op (match-typed q.filter.selectors)
     (typed-put (codes "op") (string (codes "page")) with_parent (IsUtf8-are_ascii _ refl)
     (typed-due (codes "parent") string q.filter.parent with_selectors parent
-    (typed-due (codes "selectors") asked_data q.filter.selectors with_size selectors
+    (typed-due (codes "selectors") selectors_data q.filter.selectors with_size selectors
     (typed-put (codes "size") (whole q.size) no_members size tt))))))))
 
 pub set_bundle-typed : (domain text : List ℕ) → IsUtf8 domain → IsUtf8 text → IsTyped (set_bundle_data domain text)

@@ -85,11 +85,11 @@ children_json parent = codes "{\"op\":\"children\",\"parent\":" ++ text_json par
 -- the match mode, with a comma after it, if the page has a condition on selectors
 abbrev pub match_member : Option SelectorMatch → List ℕ
 match_member None = []
-match_member (Some question) = codes "\"match\":" ++ match_json question.mode ++ codes ","
+match_member (Some condition) = codes "\"match\":" ++ match_json condition.mode ++ codes ","
 
 abbrev pub selectors_member : Option SelectorMatch → List ℕ
 selectors_member None = []
-selectors_member (Some question) = codes ",\"selectors\":" ++ list_json selector_json question.selectors
+selectors_member (Some condition) = codes ",\"selectors\":" ++ list_json selector_json condition.selectors
 
 unfoldable pub page_op_json : PageQuery → List ℕ
 page_op_json q =

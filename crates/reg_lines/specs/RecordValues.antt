@@ -49,10 +49,10 @@ children_data parent = object (
     no_members))
 
 abbrev pub match_data : SelectorMatch → Data
-match_data question = string (match_text question.mode)
+match_data condition = string (match_text condition.mode)
 
-abbrev pub asked_data : SelectorMatch → Data
-asked_data question = list_data selector_data question.selectors
+abbrev pub selectors_data : SelectorMatch → Data
+selectors_data condition = list_data selector_data condition.selectors
 
 abbrev pub page_op_data : PageQuery → Data
 page_op_data q = object (
@@ -63,7 +63,7 @@ page_op_data q = object (
     if_due (codes "match") match_data q.filter.selectors (
     put (codes "op") (string (codes "page")) (
     if_due (codes "parent") string q.filter.parent (
-    if_due (codes "selectors") asked_data q.filter.selectors (
+    if_due (codes "selectors") selectors_data q.filter.selectors (
     put (codes "size") (whole q.size)
     no_members)))))))))
 

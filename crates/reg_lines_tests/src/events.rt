@@ -1,6 +1,6 @@
 //! Which events do lines represent?
 
-use crate::tables::{ReadAs, reads_at, reads_in_a_row, reads_table};
+use crate::tables::{ReadAs, asserts_at, asserts_in_a_row, asserts_table};
 use std::test::Fail;
 
 /// Lines, and the event of each.
@@ -112,7 +112,7 @@ const TABLE: &str = r#"
 
 #[test]
 fn the_keys_of_events_are_read_in_their_turn(rt: HostRuntime) -> Result<(), Fail> {
-    reads_table(&rt, rt.alloc(), ReadAs::Event, TABLE)
+    asserts_table(&rt, rt.alloc(), ReadAs::Event, TABLE)
 }
 
 /// Lines with the ids of the all-zero seed, and the event of each.
@@ -134,7 +134,7 @@ const DRAWN: &str = r#"
 
 #[test]
 fn only_batches_that_are_handed_in_draw_ids(rt: HostRuntime) -> Result<(), Fail> {
-    reads_in_a_row(&rt, rt.alloc(), ReadAs::Event, DRAWN)
+    asserts_in_a_row(&rt, rt.alloc(), ReadAs::Event, DRAWN)
 }
 
 /// Lines that aren't framed correctly, and lines of the maximum length and longer; each is the seventh line.
@@ -148,5 +148,5 @@ const FRAMES: &str = r#"
 
 #[test]
 fn an_event_is_framed_as_any_line(rt: HostRuntime) -> Result<(), Fail> {
-    reads_at(&rt, rt.alloc(), ReadAs::Event, 7, FRAMES)
+    asserts_at(&rt, rt.alloc(), ReadAs::Event, 7, FRAMES)
 }

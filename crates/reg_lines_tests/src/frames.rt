@@ -1,6 +1,6 @@
 //! Which bytes are a line, and which lines are a valid JSON text?
 
-use crate::tables::{ReadAs, reads_at, reads_line, reads_table};
+use crate::tables::{ReadAs, asserts_at, asserts_line, asserts_table};
 use std::test::Fail;
 
 /// A batch without operations, ten bytes, and spaces up to the limit and past it; each is the second line.
@@ -15,7 +15,7 @@ const LENGTHS: &str = r#"
 
 #[test]
 fn the_limit_counts_the_bytes_before_the_lf(rt: HostRuntime) -> Result<(), Fail> {
-    reads_at(&rt, rt.alloc(), ReadAs::Reply, 2, LENGTHS)
+    asserts_at(&rt, rt.alloc(), ReadAs::Reply, 2, LENGTHS)
 }
 
 const FIRST: &str =
@@ -32,7 +32,7 @@ fn each_beginning_of_a_line_is_truncated(rt: HostRuntime) -> Result<(), Fail> {
     let bytes = FIRST.as_bytes();
     for len in 1..bytes.len() + 1 {
         let front = bytes.split_at(len).0;
-        reads_line(
+        asserts_line(
             &rt,
             rt.alloc(),
             ReadAs::Reply,
@@ -41,7 +41,7 @@ fn each_beginning_of_a_line_is_truncated(rt: HostRuntime) -> Result<(), Fail> {
             (FIRST, TRUNCATED),
         )?;
     }
-    reads_table(&rt, rt.alloc(), ReadAs::Reply, WHOLE)
+    asserts_table(&rt, rt.alloc(), ReadAs::Reply, WHOLE)
 }
 
 /// Lines that aren't valid UTF-8 or JSON, and nested lists up to the limit and past it.
@@ -61,7 +61,7 @@ const TEXTS: &str = r#"
 
 #[test]
 fn lines_are_utf8_and_not_too_deep(rt: HostRuntime) -> Result<(), Fail> {
-    reads_table(&rt, rt.alloc(), ReadAs::Reply, TEXTS)
+    asserts_table(&rt, rt.alloc(), ReadAs::Reply, TEXTS)
 }
 
 /// A last part without LF is truncated, whatever it contains; a line of the same bytes isn't a JSON text.
@@ -76,5 +76,5 @@ const PARTS: &str = r#"
 
 #[test]
 fn a_last_part_that_is_no_text_is_truncated(rt: HostRuntime) -> Result<(), Fail> {
-    reads_table(&rt, rt.alloc(), ReadAs::Reply, PARTS)
+    asserts_table(&rt, rt.alloc(), ReadAs::Reply, PARTS)
 }

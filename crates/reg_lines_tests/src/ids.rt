@@ -1,6 +1,6 @@
 //! Which lines draw an id, and which id do they get?
 
-use crate::tables::{ReadAs, reads_in_a_row, reads_with};
+use crate::tables::{ReadAs, asserts_in_a_row, asserts_with};
 use line_reading::{Ids, ids_law};
 use std::test::Fail;
 
@@ -31,7 +31,7 @@ const IN_A_ROW: &str = r#"
 
 #[test]
 fn only_creates_without_an_id_in_accepted_lines_draw_one(rt: HostRuntime) -> Result<(), Fail> {
-    reads_in_a_row(&rt, rt.alloc(), ReadAs::Request, IN_A_ROW)
+    asserts_in_a_row(&rt, rt.alloc(), ReadAs::Request, IN_A_ROW)
 }
 
 /// A create without an id.
@@ -44,7 +44,7 @@ fn another_seed_gives_other_ids(rt: HostRuntime) -> Result<(), Fail> {
     seed[31] = 1;
     let expected =
         r#"1; create "4540f05a-9f1f-4296-9773-6e7b208e3c96" "spiffe://ex.org/a" "spiffe://ex.org/b" ["u:1"] "" [] 0"#;
-    reads_with(
+    asserts_with(
         &rt,
         rt.alloc(),
         ReadAs::Request,
@@ -59,7 +59,7 @@ fn another_stream_gives_other_ids(rt: HostRuntime) -> Result<(), Fail> {
     ids_law();
     let expected =
         r#"1; create "76b8e0ad-a0f1-4d90-805d-6ae55386bd28" "spiffe://ex.org/a" "spiffe://ex.org/b" ["u:1"] "" [] 0"#;
-    reads_with(
+    asserts_with(
         &rt,
         rt.alloc(),
         ReadAs::Request,
@@ -68,7 +68,7 @@ fn another_stream_gives_other_ids(rt: HostRuntime) -> Result<(), Fail> {
     )?;
     let expected =
         r#"1; create "ef3fdfd6-c615-48fb-b5cf-35bd3dd33b80" "spiffe://ex.org/a" "spiffe://ex.org/b" ["u:1"] "" [] 0"#;
-    reads_with(
+    asserts_with(
         &rt,
         rt.alloc(),
         ReadAs::Request,

@@ -1,6 +1,6 @@
 //! Which keys does each operation have, and what do they mean?
 
-use crate::tables::{ReadAs, reads_table};
+use crate::tables::{ReadAs, asserts_table};
 use std::test::Fail;
 
 /// Lines of operations on entries, and the request of each.
@@ -221,12 +221,12 @@ const AGENTS_AND_BUNDLES: &str = r#"
 
 #[test]
 fn operations_on_entries_are_read_key_by_key(rt: HostRuntime) -> Result<(), Fail> {
-    reads_table(&rt, rt.alloc(), ReadAs::Request, ENTRIES)
+    asserts_table(&rt, rt.alloc(), ReadAs::Request, ENTRIES)
 }
 
 #[test]
 fn operations_on_agents_and_bundles_are_read_key_by_key(rt: HostRuntime) -> Result<(), Fail> {
-    reads_table(&rt, rt.alloc(), ReadAs::Request, AGENTS_AND_BUNDLES)
+    asserts_table(&rt, rt.alloc(), ReadAs::Request, AGENTS_AND_BUNDLES)
 }
 
 /// Lines with texts of 1,024 and of 65,536 bytes, written as escapes, and with one more character each.
@@ -239,7 +239,7 @@ const LONG_TEXTS: &str = r#"
 
 #[test]
 fn lengths_of_texts_are_of_bytes_after_escapes(rt: HostRuntime) -> Result<(), Fail> {
-    reads_table(&rt, rt.alloc(), ReadAs::Request, LONG_TEXTS)
+    asserts_table(&rt, rt.alloc(), ReadAs::Request, LONG_TEXTS)
 }
 
 /// Lines with long names, written as escapes.
@@ -258,5 +258,5 @@ const LONG_NAMES: &str = r#"
 
 #[test]
 fn lengths_of_names_are_of_bytes_after_escapes(rt: HostRuntime) -> Result<(), Fail> {
-    reads_table(&rt, rt.alloc(), ReadAs::Request, LONG_NAMES)
+    asserts_table(&rt, rt.alloc(), ReadAs::Request, LONG_NAMES)
 }

@@ -1,6 +1,6 @@
 //! Which keys does a page have, what do they mean, and what is printed for its reply?
 
-use crate::tables::{ReadAs, reads_table};
+use crate::tables::{ReadAs, asserts_table};
 use std::test::Fail;
 
 /// Lines of pages, and the request of each.
@@ -73,7 +73,7 @@ const PAGES: &str = r#"
 
 #[test]
 fn pages_are_read_key_by_key(rt: HostRuntime) -> Result<(), Fail> {
-    reads_table(&rt, rt.alloc(), ReadAs::Request, PAGES)
+    asserts_table(&rt, rt.alloc(), ReadAs::Request, PAGES)
 }
 
 /// Pages of no entries, and of one entry each, on an empty book.
@@ -84,5 +84,5 @@ const PRINTED: &str = r#"
 
 #[test]
 fn the_id_after_which_the_next_page_begins_is_printed_or_null(rt: HostRuntime) -> Result<(), Fail> {
-    reads_table(&rt, rt.alloc(), ReadAs::Reply, PRINTED)
+    asserts_table(&rt, rt.alloc(), ReadAs::Reply, PRINTED)
 }

@@ -3,7 +3,7 @@
 use crate::lines::line_of;
 use crate::printed::add;
 use crate::tables::{
-    ReadAs, new_book, reads_at, reads_in_a_row, reads_line, reads_table, reply_of,
+    ReadAs, asserts_at, asserts_in_a_row, asserts_line, asserts_table, new_book, reply_of,
 };
 use crate::wanted::is_text;
 use call_answers::{CallAnswer, KnownCall};
@@ -35,17 +35,17 @@ const RECORDS: &str = r#"
 "#;
 
 /// Asserts that the record parses and prints as itself.
-fn reads_itself(rt: &impl Abort, alloc: Global, record: &str) -> Result<(), Fail> {
+fn asserts_itself(rt: &impl Abort, alloc: Global, record: &str) -> Result<(), Fail> {
     let line = line_of(alloc, record)?;
-    reads_line(rt, alloc, ReadAs::Record, 1, &line, (record, record))
+    asserts_line(rt, alloc, ReadAs::Record, 1, &line, (record, record))
 }
 
 #[test]
 fn a_record_is_printed_and_reads_as_itself(rt: HostRuntime) -> Result<(), Fail> {
-    reads_in_a_row(&rt, rt.alloc(), ReadAs::Call, RECORDS)?;
+    asserts_in_a_row(&rt, rt.alloc(), ReadAs::Call, RECORDS)?;
     for case in RECORDS.lines() {
         if let Some((_, record)) = case.split_once(" => ") {
-            reads_itself(&rt, rt.alloc(), record)?;
+            asserts_itself(&rt, rt.alloc(), record)?;
         }
     }
     Ok(())
@@ -99,7 +99,7 @@ fn a_call_has_a_record_once_it_has_a_reply(rt: HostRuntime) -> Result<(), Fail> 
     add_first_records(rt.alloc(), &mut text, &batch(rt.alloc(), "prune 7")?)?;
     let first = text.as_str().strip_suffix(", none, none").unwrap_or("");
     is_text(&rt, first, NOT_REPLIED, text.as_str());
-    reads_itself(&rt, rt.alloc(), NOT_REPLIED)
+    asserts_itself(&rt, rt.alloc(), NOT_REPLIED)
 }
 
 /// Lines that aren't records, and the refusal of each.
@@ -138,8 +138,8 @@ const CUT: &str = r#"
 
 #[test]
 fn a_line_that_is_no_record_is_refused(rt: HostRuntime) -> Result<(), Fail> {
-    reads_table(&rt, rt.alloc(), ReadAs::Record, REFUSED)?;
-    reads_at(&rt, rt.alloc(), ReadAs::Record, 12, CUT)
+    asserts_table(&rt, rt.alloc(), ReadAs::Record, REFUSED)?;
+    asserts_at(&rt, rt.alloc(), ReadAs::Record, 12, CUT)
 }
 
 /// A record with its keys in another order, and without the optional keys of its batch.
@@ -149,5 +149,5 @@ const SHUFFLED: &str = r#"
 
 #[test]
 fn a_record_is_read_in_any_order_of_its_keys(rt: HostRuntime) -> Result<(), Fail> {
-    reads_table(&rt, rt.alloc(), ReadAs::Record, SHUFFLED)
+    asserts_table(&rt, rt.alloc(), ReadAs::Record, SHUFFLED)
 }

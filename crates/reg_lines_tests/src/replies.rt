@@ -1,6 +1,6 @@
 //! What is printed for each reply and each refusal?
 
-use crate::tables::{ReadAs, add_reply, new_book, reads_at, reads_in_a_row, reads_table};
+use crate::tables::{ReadAs, add_reply, asserts_at, asserts_in_a_row, asserts_table, new_book};
 use crate::wanted::is_text;
 use entry_book::Batch;
 use std::alloc::Global;
@@ -57,9 +57,9 @@ const PLACES: &str = r#"
 
 #[test]
 fn batches_are_answered_by_the_book(rt: HostRuntime) -> Result<(), Fail> {
-    reads_in_a_row(&rt, rt.alloc(), ReadAs::Reply, RUN)?;
-    reads_in_a_row(&rt, rt.alloc(), ReadAs::Reply, PLACES)?;
-    reads_table(&rt, rt.alloc(), ReadAs::Reply, ANSWERS)
+    asserts_in_a_row(&rt, rt.alloc(), ReadAs::Reply, RUN)?;
+    asserts_in_a_row(&rt, rt.alloc(), ReadAs::Reply, PLACES)?;
+    asserts_table(&rt, rt.alloc(), ReadAs::Reply, ANSWERS)
 }
 
 /// Creates whose ids are forms of one id, and invalid ids.
@@ -77,7 +77,7 @@ const FORMS: &str = r#"
 
 #[test]
 fn an_id_is_read_in_each_of_its_forms(rt: HostRuntime) -> Result<(), Fail> {
-    reads_table(&rt, rt.alloc(), ReadAs::Reply, FORMS)
+    asserts_table(&rt, rt.alloc(), ReadAs::Reply, FORMS)
 }
 
 /// Batches of 64 and of 65 operations, each the ninth line.
@@ -90,7 +90,7 @@ const COUNTS: &str = r#"
 
 #[test]
 fn a_batch_has_at_most_64_operations(rt: HostRuntime) -> Result<(), Fail> {
-    reads_at(&rt, rt.alloc(), ReadAs::Reply, 9, COUNTS)
+    asserts_at(&rt, rt.alloc(), ReadAs::Reply, 9, COUNTS)
 }
 
 /// A selector of 512 bytes, written as escapes, and one of 514.
@@ -101,7 +101,7 @@ const ESCAPES: &str = r#"
 
 #[test]
 fn the_length_of_a_text_is_that_of_its_bytes_after_escapes(rt: HostRuntime) -> Result<(), Fail> {
-    reads_table(&rt, rt.alloc(), ReadAs::Reply, ESCAPES)
+    asserts_table(&rt, rt.alloc(), ReadAs::Reply, ESCAPES)
 }
 
 /// Appends the reply to a batch, on an empty book, as that to the call with the largest number.
@@ -130,7 +130,7 @@ refused 7 3 no-bundle 2 b.org => {"call":7,"code":"O5","detail":"b.org","op":2,"
 
 #[test]
 fn a_refusal_made_without_a_line_is_printed(rt: HostRuntime) -> Result<(), Fail> {
-    reads_table(&rt, rt.alloc(), ReadAs::Value, WITHOUT_BUNDLE)
+    asserts_table(&rt, rt.alloc(), ReadAs::Value, WITHOUT_BUNDLE)
 }
 
 const DOMAINS_AND_MEMORY: &str = r#"
@@ -140,7 +140,7 @@ no-memory 12 => {"code":"L6","line":12}
 
 #[test]
 fn domains_and_out_of_memory_are_printed(rt: HostRuntime) -> Result<(), Fail> {
-    reads_table(&rt, rt.alloc(), ReadAs::Value, DOMAINS_AND_MEMORY)
+    asserts_table(&rt, rt.alloc(), ReadAs::Value, DOMAINS_AND_MEMORY)
 }
 
 const OF_THE_WHOLE_BATCH: &str = r#"
@@ -152,7 +152,7 @@ refused 3 5 token-reused => {"call":3,"code":"O9","place":5,"result":"refused"}
 
 #[test]
 fn a_refusal_of_the_whole_batch_names_no_operation(rt: HostRuntime) -> Result<(), Fail> {
-    reads_table(&rt, rt.alloc(), ReadAs::Value, OF_THE_WHOLE_BATCH)
+    asserts_table(&rt, rt.alloc(), ReadAs::Value, OF_THE_WHOLE_BATCH)
 }
 
 const VERSION_GONE: &str = r#"
@@ -161,5 +161,5 @@ refused 3 70 gone 0 => {"call":3,"code":"O8","op":0,"place":70,"result":"refused
 
 #[test]
 fn a_book_that_is_gone_is_reported_for_its_page(rt: HostRuntime) -> Result<(), Fail> {
-    reads_table(&rt, rt.alloc(), ReadAs::Value, VERSION_GONE)
+    asserts_table(&rt, rt.alloc(), ReadAs::Value, VERSION_GONE)
 }

@@ -1,6 +1,6 @@
 //! Which fault of a line is reported, and which operations do lines represent?
 
-use crate::tables::{ReadAs, reads_table};
+use crate::tables::{ReadAs, asserts_table};
 use line_reading::unknown_keys_law;
 use std::test::Fail;
 
@@ -173,7 +173,7 @@ true => {"code":"L4","line":1}
 #[test]
 fn lines_are_read_in_the_order_of_the_format(rt: HostRuntime) -> Result<(), Fail> {
     unknown_keys_law();
-    reads_table(&rt, rt.alloc(), ReadAs::Request, TABLE)
+    asserts_table(&rt, rt.alloc(), ReadAs::Request, TABLE)
 }
 
 /// Lines with 64 operations, and with more: 65 are too many, which is checked after all of them were read.
@@ -190,5 +190,5 @@ const MANY: &str = r#"
 
 #[test]
 fn one_operation_too_many_is_reported_after_a_refused_one(rt: HostRuntime) -> Result<(), Fail> {
-    reads_table(&rt, rt.alloc(), ReadAs::Request, MANY)
+    asserts_table(&rt, rt.alloc(), ReadAs::Request, MANY)
 }

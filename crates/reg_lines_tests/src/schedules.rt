@@ -1,7 +1,7 @@
 //! What is printed for the lines of a schedule?
 
 use crate::printed::add;
-use crate::tables::{ReadAs, reads_in_a_row, reads_table, reply_of};
+use crate::tables::{ReadAs, asserts_in_a_row, asserts_table, reply_of};
 use batch_work::Status;
 use call_answers::{CallAnswer, Done};
 use call_events::Event;
@@ -21,7 +21,7 @@ marks entry 1; group spiffe://ex.org/spire/agent/n1 spiffe://ex.org/web; childre
 #[test]
 fn a_mark_is_printed_in_words(rt: HostRuntime) -> Result<(), Fail> {
     printed_events_law();
-    reads_table(&rt, rt.alloc(), ReadAs::Value, MARKS)
+    asserts_table(&rt, rt.alloc(), ReadAs::Value, MARKS)
 }
 
 const BEGINS: &str = r#"
@@ -34,7 +34,7 @@ begun 18446744073709551615 18446744073709551615 settled => {"call":1844674407370
 
 #[test]
 fn a_begin_reports_its_place(rt: HostRuntime) -> Result<(), Fail> {
-    reads_table(&rt, rt.alloc(), ReadAs::Value, BEGINS)
+    asserts_table(&rt, rt.alloc(), ReadAs::Value, BEGINS)
 }
 
 const STEPS: &str = r#"
@@ -45,7 +45,7 @@ stepped 5 settled expiring 0 => {"call":5,"read":"expiring 0","state":"settled"}
 
 #[test]
 fn a_step_reports_what_it_read(rt: HostRuntime) -> Result<(), Fail> {
-    reads_table(&rt, rt.alloc(), ReadAs::Value, STEPS)
+    asserts_table(&rt, rt.alloc(), ReadAs::Value, STEPS)
 }
 
 const DECISIONS: &str = r#"
@@ -60,7 +60,7 @@ decided 6 7 tokens => {"call":6,"code":"W6","commit":"full","place":7}
 
 #[test]
 fn a_commit_reports_its_outcome(rt: HostRuntime) -> Result<(), Fail> {
-    reads_table(&rt, rt.alloc(), ReadAs::Value, DECISIONS)
+    asserts_table(&rt, rt.alloc(), ReadAs::Value, DECISIONS)
 }
 
 const CONFLICTS: &str = r#"
@@ -70,7 +70,7 @@ conflict 8 9 => {"call":8,"place":9,"result":"conflict"}
 
 #[test]
 fn a_conflict_is_a_reply_too(rt: HostRuntime) -> Result<(), Fail> {
-    reads_table(&rt, rt.alloc(), ReadAs::Value, CONFLICTS)
+    asserts_table(&rt, rt.alloc(), ReadAs::Value, CONFLICTS)
 }
 
 const REFUSED: &str = r#"
@@ -83,7 +83,7 @@ refused-event 5 no-memory => {"code":"E5","line":5}
 
 #[test]
 fn a_refused_event_reports_its_line(rt: HostRuntime) -> Result<(), Fail> {
-    reads_table(&rt, rt.alloc(), ReadAs::Value, REFUSED)
+    asserts_table(&rt, rt.alloc(), ReadAs::Value, REFUSED)
 }
 
 const ORDERS: &str = r#"
@@ -93,7 +93,7 @@ order 30 4 18446744073709551615 => {"order":[30,4,18446744073709551615]}
 
 #[test]
 fn an_order_lists_its_calls(rt: HostRuntime) -> Result<(), Fail> {
-    reads_table(&rt, rt.alloc(), ReadAs::Value, ORDERS)
+    asserts_table(&rt, rt.alloc(), ReadAs::Value, ORDERS)
 }
 
 /// The book's reply to the batch that was invoked.
@@ -139,6 +139,6 @@ const SCHEDULE: &str = r#"
 
 #[test]
 fn a_small_schedule_is_read_and_printed(rt: HostRuntime) -> Result<(), Fail> {
-    reads_in_a_row(&rt, rt.alloc(), ReadAs::Scheduled, SCHEDULE)?;
-    reads_table(&rt, rt.alloc(), ReadAs::Value, "order 1 => {\"order\":[1]}")
+    asserts_in_a_row(&rt, rt.alloc(), ReadAs::Scheduled, SCHEDULE)?;
+    asserts_table(&rt, rt.alloc(), ReadAs::Value, "order 1 => {\"order\":[1]}")
 }

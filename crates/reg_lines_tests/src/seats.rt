@@ -1,6 +1,6 @@
 //! What is printed if a seat of a shared registry has no answer?
 
-use crate::tables::{ReadAs, reads_table};
+use crate::tables::{ReadAs, asserts_table};
 use reg_lines::printed_seats_law;
 use std::test::Fail;
 
@@ -12,5 +12,5 @@ refused-seat 5 no-entry => {"code":"L8","line":5}
 #[test]
 fn a_seat_with_no_answer_reports_the_line(rt: HostRuntime) -> Result<(), Fail> {
     printed_seats_law();
-    reads_table(&rt, rt.alloc(), ReadAs::Value, REFUSED)
+    asserts_table(&rt, rt.alloc(), ReadAs::Value, REFUSED)
 }

@@ -240,7 +240,7 @@ fn comes_first(
 }
 
 /// Asserts the result of this line, as the line of this number and the first call.
-pub(crate) fn reads_line(
+pub(crate) fn asserts_line(
     rt: &impl Abort,
     alloc: Global,
     asked: ReadAs,
@@ -252,7 +252,7 @@ pub(crate) fn reads_line(
 }
 
 /// Asserts the result of the line of a text with these ids, as the first line.
-pub(crate) fn reads_with(
+pub(crate) fn asserts_with(
     rt: &impl Abort,
     alloc: Global,
     asked: ReadAs,
@@ -265,7 +265,7 @@ pub(crate) fn reads_with(
 
 /// Asserts the result of each line of the table, as the line of this number and the first call, with the ids of the all-zero
 /// seed.
-pub(crate) fn reads_at(
+pub(crate) fn asserts_at(
     rt: &impl Abort,
     alloc: Global,
     asked: ReadAs,
@@ -275,24 +275,24 @@ pub(crate) fn reads_at(
     for case in table.lines() {
         if let Some(case) = case.split_once(" => ") {
             let line = line_of(alloc, case.0)?;
-            reads_line(rt, alloc, asked, number, &line, case)?;
+            asserts_line(rt, alloc, asked, number, &line, case)?;
         }
     }
     Ok(())
 }
 
 /// Asserts the result of each line of the table, as the first line.
-pub(crate) fn reads_table(
+pub(crate) fn asserts_table(
     rt: &impl Abort,
     alloc: Global,
     asked: ReadAs,
     table: &str,
 ) -> Result<(), Fail> {
-    reads_at(rt, alloc, asked, 1, table)
+    asserts_at(rt, alloc, asked, 1, table)
 }
 
 /// Asserts the result of a line of the table, and advances to the next one.
-fn reads_next(
+fn asserts_next(
     rt: &impl Abort,
     alloc: Global,
     asked: ReadAs,
@@ -306,7 +306,7 @@ fn reads_next(
     Ok(())
 }
 
-fn reads_all(
+fn asserts_all(
     rt: &impl Abort,
     alloc: Global,
     asked: ReadAs,
@@ -315,19 +315,19 @@ fn reads_all(
 ) -> Result<(), Fail> {
     for case in table.lines() {
         if let Some(case) = case.split_once(" => ") {
-            reads_next(rt, alloc, asked, reading, case)?;
+            asserts_next(rt, alloc, asked, reading, case)?;
         }
     }
     Ok(())
 }
 
 /// Asserts the results of the lines of the table, one after another: lines and calls are counted from 1.
-pub(crate) fn reads_in_a_row(
+pub(crate) fn asserts_in_a_row(
     rt: &impl Abort,
     alloc: Global,
     asked: ReadAs,
     table: &str,
 ) -> Result<(), Fail> {
     let mut reading = Reading::new(alloc, first_ids(), 1)?;
-    reads_all(rt, alloc, asked, &mut reading, table)
+    asserts_all(rt, alloc, asked, &mut reading, table)
 }

@@ -1,6 +1,6 @@
 //! What is printed for texts, numbers and lists?
 
-use crate::tables::{ReadAs, reads_table};
+use crate::tables::{ReadAs, asserts_table};
 use std::test::Fail;
 
 /// Texts, with characters that aren't letters: of one byte, of two, three and four.
@@ -15,7 +15,7 @@ text «7f»«c2»«80»ü«e2»«80»«a8»😀 => "«7f»«c2»«80»ü«e2»«
 
 #[test]
 fn texts_have_the_escapes_of_their_kind(rt: HostRuntime) -> Result<(), Fail> {
-    reads_table(&rt, rt.alloc(), ReadAs::Value, TEXTS)
+    asserts_table(&rt, rt.alloc(), ReadAs::Value, TEXTS)
 }
 
 const OTHERS: &str = "
@@ -30,5 +30,5 @@ none => null
 
 #[test]
 fn numbers_lists_and_nothing_are_printed_compactly(rt: HostRuntime) -> Result<(), Fail> {
-    reads_table(&rt, rt.alloc(), ReadAs::Value, OTHERS)
+    asserts_table(&rt, rt.alloc(), ReadAs::Value, OTHERS)
 }

@@ -1,6 +1,6 @@
 //! What do the keys `after` and `token` of a line mean, and what do they require of its operations?
 
-use crate::tables::{ReadAs, reads_in_a_row, reads_table};
+use crate::tables::{ReadAs, asserts_in_a_row, asserts_table};
 use std::test::Fail;
 
 /// Lines, and the request of each.
@@ -67,7 +67,7 @@ const TABLE: &str = r#"
 
 #[test]
 fn the_least_place_and_the_token_are_read_in_their_turn(rt: HostRuntime) -> Result<(), Fail> {
-    reads_table(&rt, rt.alloc(), ReadAs::Request, TABLE)
+    asserts_table(&rt, rt.alloc(), ReadAs::Request, TABLE)
 }
 
 /// Lines that are read one after another with the ids of the all-zero seed, and the request of each: the one with a token draws
@@ -80,5 +80,5 @@ const IN_A_ROW: &str = r#"
 
 #[test]
 fn a_line_with_a_token_draws_no_id(rt: HostRuntime) -> Result<(), Fail> {
-    reads_in_a_row(&rt, rt.alloc(), ReadAs::Request, IN_A_ROW)
+    asserts_in_a_row(&rt, rt.alloc(), ReadAs::Request, IN_A_ROW)
 }

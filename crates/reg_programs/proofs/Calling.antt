@@ -43,7 +43,7 @@ entered domain s u t is_unchanged may is =
         learnt = after_call.learnt;
         own = may.own;
       };
-      heard = learnt;
+      seen_learnt = learnt;
     })
 
 -- ---- a line that has its answer already

@@ -10,8 +10,8 @@ use Rattle.reg_programs.specs.declared.serve_fault.ServeFault.{ServeFault}
 use Rattle.reg_programs.specs.declared.serve_fault.ServeFault.TheVariants as serve
 use Rattle.command_line.specs.declared.fault.LineFault.{LineFault}
 use Rattle.command_line.specs.declared.fault.LineFault.TheVariants as line
-use Rattle.line_engines.specs.declared.outcome.RunEnd.{RunEnd}
-use Rattle.line_engines.specs.declared.outcome.RunEnd.TheVariants.{Denied, Done}
+use Rattle.line_engines.specs.declared.run_end.RunEnd.{RunEnd}
+use Rattle.line_engines.specs.declared.run_end.RunEnd.TheVariants.{Denied, Done}
 use Rattle.reg_programs.specs.declared.exit_message.ExitMessage.{ExitMessage}
 use Rattle.reg_programs.specs.declared.exit_message.ExitMessage.TheVariants as exit_message
 

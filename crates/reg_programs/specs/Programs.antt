@@ -6,8 +6,8 @@ use Rattle.line_engines.specs.Audited.{RunsAudit}
 use Rattle.line_engines.specs.Recorded.{RunsRecord}
 use Rattle.line_engines.specs.Schedules.{RunsSchedule}
 use Rattle.line_engines.specs.declared.fault.RunFault.{RunFault}
-use Rattle.line_engines.specs.declared.outcome.RunEnd.{RunEnd}
-use Rattle.line_engines.specs.declared.outcome.RunEnd.TheVariants.{Done}
+use Rattle.line_engines.specs.declared.run_end.RunEnd.{RunEnd}
+use Rattle.line_engines.specs.declared.run_end.RunEnd.TheVariants.{Done}
 use Rattle.command_line.specs.declared.program.Program.{Program}
 use Rattle.command_line.specs.declared.program.Program.TheVariants.{Audit, Plain, Record, Schedule, Serve}
 

@@ -15,7 +15,7 @@ use Rattle.line_devices.specs.Stream.{InputState, OutputState}
 use Rattle.line_reading.specs.declared.fault.Fault.{Fault}
 use Rattle.reg_lines.specs.declared.printing.seats.SeatRefusal.TheVariants.{Spent, NoEntry as NotAdmitted}
 use Rattle.line_reading.specs.declared.request.Request.{Request}
-use Rattle.shared_registry.specs.Outcomes.{HasHeard, IsSubmitted}
+use Rattle.shared_registry.specs.Outcomes.{HasSeenLearnt, IsSubmitted}
 use Rattle.shared_registry.specs.Seated.{AfterCall, CaughtUp, Seated, SawNothingNew}
 use Rattle.shared_registry.specs.declared.outcome.Outcome.{Outcome}
 use Rattle.shared_registry.specs.declared.outcome.Outcome.TheVariants.{Committed, Repeated, Refused, Conflict, NoMemory, NoEntry}
@@ -66,7 +66,7 @@ submit_json call line NoEntry = seat_refusal_json line NotAdmitted
 pub data AnswersCall (domain : Bytes) (s : Seated) (request : Request) (line : ℕ) (t : Seated) (text : List ℕ) : Type 0 where
   replied : is_query request.batch.ops ≡ true → CaughtUp domain s t → t.own ≡ s.own → text ≡ reply_json t.calls (reply_to request.batch (books_of (batches_of t.seen))) → AnswersCall domain s request line t text
   no_reply : (why : NoAnswer) → is_query request.batch.ops ≡ true → SawNothingNew domain s t → t.own ≡ s.own → text ≡ no_answer_json line why → AnswersCall domain s request line t text
-  submitted : (outcome : Outcome) → is_query request.batch.ops ≡ false → AfterCall domain s t → HasHeard s t outcome → IsSubmitted s t request.batch request.tries outcome → text ≡ submit_json t.calls line outcome → AnswersCall domain s request line t text
+  submitted : (outcome : Outcome) → is_query request.batch.ops ≡ false → AfterCall domain s t → HasSeenLearnt s t outcome → IsSubmitted s t request.batch request.tries outcome → text ≡ submit_json t.calls line outcome → AnswersCall domain s request line t text
 
 -- ---- a line, and its reply
 

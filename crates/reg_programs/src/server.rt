@@ -57,28 +57,28 @@ pub fn serve<
 >(rt: &R, alloc: Global, server: Server<'_>) -> Result<(), ServeFault>
     requires { 0 < server.plan.workers }
 {
-    let kept = server.domain.clone()?;
-    serve_history::<Brand, _>(rt, alloc, NewHistory::new(), kept, server)
+    let registry_domain = server.domain.clone()?;
+    serve_registry::<Brand, _>(rt, alloc, NewHistory::new(), registry_domain, server)
 }
 
-/// Serves the connections through a registry of this history. `kept` is a copy of the trust domain, which the registry owns.
-fn serve_history<
+/// Serves the connections through a registry of this history. `registry_domain` is a copy of the trust domain, which the registry owns.
+fn serve_registry<
     J: RegistryId + Send + Sync,
     R: Threads + Wait + Clock + Print + Net<Listener = TcpListener, Stream = TcpStream> + Sync,
 >(
     rt: &R,
     alloc: Global,
     new_history: NewHistory,
-    kept: TrustDomain,
+    registry_domain: TrustDomain,
     server: Server<'_>,
 ) -> Result<(), ServeFault>
     requires history { new_history.seen.book ≡ J.history }
-    requires kept { kept ≡ J.domain }
+    requires registry_domain { registry_domain ≡ J.domain }
     requires domain { server.domain.now ≡ J.domain }
     requires workers { 0 < server.plan.workers }
 {
     let Server { domain, seed, plan } = server;
-    let registry = Registry::<J>::new(alloc, new_history, kept)?;
+    let registry = Registry::<J>::new(alloc, new_history, registry_domain)?;
     let context = ServerContext {
         rt,
         alloc,

@@ -4,7 +4,7 @@ use Rattle.std.proofs.lemmas.List.{append-nil}
 use Rattle.std.proofs.lemmas.Bool.Decides.{nat_tests}
 use mathlib.Core.List.{IsPrefix}
 use Rattle.commit_head.specs.declared.item.Item.{Item}
-use Rattle.shared_registry.specs.Seats.{calls_of, AllBelow}
+use Rattle.shared_registry.specs.SeatCalls.{calls_of, AllBelow}
 
 calls_prefix : (s : ℕ) (i : Item) (t : Bool) (xs ys zs : List ℕ) → zs ≡ xs ++ ys → cond t (i.call ∷ zs) zs ≡ cond t (i.call ∷ xs) xs ++ ys
 calls_prefix s i true xs ys zs e = ap (λ w. i.call ∷ w) e

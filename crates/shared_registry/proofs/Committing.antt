@@ -17,7 +17,7 @@ use Rattle.commit_head.proofs.OnBooks.{commit_on_books}
 use Rattle.shared_registry.specs.WriterStates.{IsTied}
 use Rattle.shared_registry.specs.OutcomesPrivate.{HasLooked, IsCommitThere}
 use Rattle.shared_registry.specs.Seated.{Seated}
-use Rattle.shared_registry.specs.Seats.{AllBelow, calls_of}
+use Rattle.shared_registry.specs.SeatCalls.{AllBelow, calls_of}
 use Rattle.shared_registry.specs.ShownPrivate.{IsCounted, ShowsJournal, whole_head}
 use Rattle.shared_registry.specs.Works.{IsRead}
 use Rattle.shared_registry.proofs.Once.{once_more, others}

@@ -6,7 +6,7 @@ use Rattle.std.proofs.lemmas.Bool.Decides.{nat_tests}
 use mathlib.Core.Logic.{dite}
 use native.Mathlib.Decide.{ℕ_discrete}
 use Rattle.commit_head.specs.declared.item.Item.{Item}
-use Rattle.shared_registry.specs.Seats.{calls_of}
+use Rattle.shared_registry.specs.SeatCalls.{calls_of}
 use Rattle.shared_registry.specs.ShownPrivate.{IsCounted}
 use Rattle.shared_registry.proofs.Calls.{calls_snoc, calls_more}
 

@@ -4,7 +4,7 @@ use Rattle.std.specs.List.{AllByRecursion}
 use Rattle.std.proofs.lemmas.Bool.Decides.{nat_tests}
 use Rattle.commit_head.specs.declared.item.Item.{Item}
 use Rattle.commit_head.specs.Journals.{EachCallOnce, IsOther}
-use Rattle.shared_registry.specs.Seats.{calls_of, AllBelow}
+use Rattle.shared_registry.specs.SeatCalls.{calls_of, AllBelow}
 
 below_cond : (c : ℕ) (t : Bool) (k : ℕ) (xs : List ℕ) → AllBelow c (cond t (k ∷ xs) xs) → (t ≡ true → k < c) × AllBelow c xs
 below_cond c true k xs b = (λ _. b.0, b.1)

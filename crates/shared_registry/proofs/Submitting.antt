@@ -17,13 +17,13 @@ use Rattle.shared_registry.specs.declared.outcome.Outcome.TheVariants.{Refused}
 use Rattle.shared_registry.specs.Outcomes.{IsAdded, IsOvertaken, IsSubmitted}
 use Rattle.shared_registry.specs.OutcomesPrivate.{HasAdded, HasLooked, IsOvertakenOnce}
 use Rattle.shared_registry.specs.Seated.{AfterCall, DuringCall, MaySee, Seated}
-use Rattle.shared_registry.specs.Seats.{calls_of}
+use Rattle.shared_registry.specs.SeatCalls.{calls_of}
 use Rattle.shared_registry.proofs.Prefixes.{prefix_length, prefix_self, prefix_trans}
 
 -- ---- the decision on the commit
 
 pub added : (log next : List Item) (s t : Seated) (w : Work) (replies : List OpReply) (n : ℕ) → HasAdded log next s t w n → DuringCall s t → HasReplies w replies → IsAdded s t w.batch (record { place = n; outcome = became.Committed replies })
-added log next s t w replies n a goes h =
+added log next s t w replies n a during_call h =
     let place = a.place ∙ ap length (sym a.seen) in
     let same = same_replies w replies a.item.replies h a.replies in
     record {
@@ -31,17 +31,17 @@ added log next s t w replies n a goes h =
       item = a.item;
       seen = a.seen ∙ a.whole;
       reply_is = λ i. record { place = place i; outcome = became.Committed (same i) };
-      seat = a.seat ∙ sym goes.number;
-      call = a.call ∙ sym goes.calls;
+      seat = a.seat ∙ sym during_call.number;
+      call = a.call ∙ sym during_call.calls;
       batch_is = a.batch_is;
-      own = a.own ∙ ap (λ c. s.own ++ c ∷ []) (sym goes.calls);
+      own = a.own ∙ ap (λ c. s.own ++ c ∷ []) (sym during_call.calls);
       found = a.found ∙ sym a.seen;
     }
 
 -- a seat may see what it has found by its commit
 pub may_see_added : (domain : Bytes) (s t : Seated) (batch : Batch) (reply : Reply) → AfterCall domain s t → IsPrefix s.learnt t.seen → IsAdded s t batch reply → MaySee domain t
-may_see_added domain s t batch reply after_call heard a =
-    let learnt : IsPrefix t.learnt t.seen = subst (λ (l : List Item). IsPrefix l t.seen) (sym after_call.learnt) heard in record {
+may_see_added domain s t batch reply after_call seen_learnt a =
+    let learnt : IsPrefix t.learnt t.seen = subst (λ (l : List Item). IsPrefix l t.seen) (sym after_call.learnt) seen_learnt in record {
       lawful = subst (IsLawfulJournal domain) (sym a.found) after_call.lawful;
       seen = subst (IsPrefix t.seen) (sym a.found) (prefix_self t.seen);
       learnt = subst (IsPrefix t.learnt) (sym a.found) learnt;
@@ -49,13 +49,13 @@ may_see_added domain s t batch reply after_call heard a =
     }
 
 pub overtaken : (log next : List Item) (s t : Seated) (batch : Batch) (n : ℕ) → HasLooked log next s t → n ≡ length log → IsOvertaken (batches_of log) batch (length s.seen) n → DuringCall s t → IsPrefix s.learnt s.seen → IsOvertakenOnce s t batch n
-overtaken log next s t batch n l e o goes heard = record {
+overtaken log next s t batch n l e o during_call seen_learnt = record {
   base = length s.seen;
   since_seen = omega arith;
-  since_learnt = prefix_length s.learnt s.seen heard;
+  since_learnt = prefix_length s.learnt s.seen seen_learnt;
   overtaken = subst (λ j. IsOvertaken (batches_of j) batch (length s.seen) n) (sym l.seen) o;
   place = e ∙ ap length (sym l.seen);
-  heard = prefix_trans s.learnt s.seen t.seen heard goes.seen;
+  seen_learnt = prefix_trans s.learnt s.seen t.seen seen_learnt during_call.seen;
   own = l.own;
 }
 

@@ -11,7 +11,7 @@ use Rattle.commit_head.specs.Outcomes.{IsHitSince}
 use Rattle.version_book.specs.declared.mark.MarkKind.{MarkKind}
 use Rattle.shared_registry.specs.declared.outcome.Outcome.{Outcome}
 use Rattle.shared_registry.specs.declared.outcome.Outcome.TheVariants.{Committed, Repeated, Refused, Conflict, NoMemory, NoEntry}
-use Rattle.shared_registry.specs.Outcomes.{AreOvertaken, HasHeard, IsOvertaken, IsSubmitted, WasOvertaken}
+use Rattle.shared_registry.specs.Outcomes.{AreOvertaken, HasSeenLearnt, IsOvertaken, IsSubmitted, WasOvertaken}
 use Rattle.shared_registry.specs.OutcomesPrivate.{IsNotConflict, IsOvertakenOnce}
 use Rattle.shared_registry.specs.Seated.{DuringCall, Seated}
 use Rattle.commit_head.proofs.OnBooks.{batches_join}
@@ -67,8 +67,8 @@ during_call_joined s t u a b = record {
 }
 
 -- it has another snapshot
-pub during_call_turned : (s t u : Seated) (found : List Item) → DuringCall s t → u ≡ record t { found = found } → DuringCall s u
-during_call_turned s t u found g is = subst (DuringCall s) (sym is) (record { number = g.number; calls = g.calls; learnt = g.learnt; seen = g.seen })
+pub during_call_replaced : (s t u : Seated) (found : List Item) → DuringCall s t → u ≡ record t { found = found } → DuringCall s u
+during_call_replaced s t u found g is = subst (DuringCall s) (sym is) (record { number = g.number; calls = g.calls; learnt = g.learnt; seen = g.seen })
 
 -- ---- one more try
 
@@ -116,10 +116,10 @@ ended s u t batch tries (Conflict n) own over a = absurd (over n refl)
 ended s u t batch tries NoMemory own over a = a ∙ own
 ended s u t batch tries NoEntry own over a = a ∙ own
 
-pub heard_from : (s u t : Seated) (o : Outcome) → u.learnt ≡ s.learnt → HasHeard u t o → HasHeard s t o
-heard_from s u t (Committed reply) e h = subst (λ l. IsPrefix l t.seen) e h
-heard_from s u t (Repeated reply) e h = subst (λ l. IsPrefix l t.seen) e h
-heard_from s u t (Refused reply) e h = subst (λ l. IsPrefix l t.seen) e h
-heard_from s u t (Conflict n) e h = subst (λ l. IsPrefix l t.seen) e h
-heard_from s u t NoMemory e h = tt
-heard_from s u t NoEntry e h = tt
+pub seen_learnt_from : (s u t : Seated) (o : Outcome) → u.learnt ≡ s.learnt → HasSeenLearnt u t o → HasSeenLearnt s t o
+seen_learnt_from s u t (Committed reply) e h = subst (λ l. IsPrefix l t.seen) e h
+seen_learnt_from s u t (Repeated reply) e h = subst (λ l. IsPrefix l t.seen) e h
+seen_learnt_from s u t (Refused reply) e h = subst (λ l. IsPrefix l t.seen) e h
+seen_learnt_from s u t (Conflict n) e h = subst (λ l. IsPrefix l t.seen) e h
+seen_learnt_from s u t NoMemory e h = tt
+seen_learnt_from s u t NoEntry e h = tt

@@ -4,7 +4,7 @@ pub mod OutcomesPrivate
 pub mod Rules
 pub mod RulesPrivate
 pub mod Seated
-pub mod Seats
+pub mod SeatCalls
 pub mod Shown
 pub mod ShownPrivate
 pub mod Works

@@ -80,15 +80,15 @@ IsSubmitted s t batch tries NoMemory = t.own ≡ s.own
 IsSubmitted s t batch tries NoEntry = t.own ≡ s.own
 
 -- unless the outcome is `NoMemory` or `NoEntry`, the seat has then seen all that it had learnt of
-abbrev pub HasHeard : Seated → Seated → Outcome → Type 0
-HasHeard s t (Committed reply) = IsPrefix s.learnt t.seen
-HasHeard s t (Repeated reply) = IsPrefix s.learnt t.seen
-HasHeard s t (Refused reply) = IsPrefix s.learnt t.seen
-HasHeard s t (Conflict n) = IsPrefix s.learnt t.seen
-HasHeard s t NoMemory = ⊤
-HasHeard s t NoEntry = ⊤
+abbrev pub HasSeenLearnt : Seated → Seated → Outcome → Type 0
+HasSeenLearnt s t (Committed reply) = IsPrefix s.learnt t.seen
+HasSeenLearnt s t (Repeated reply) = IsPrefix s.learnt t.seen
+HasSeenLearnt s t (Refused reply) = IsPrefix s.learnt t.seen
+HasSeenLearnt s t (Conflict n) = IsPrefix s.learnt t.seen
+HasSeenLearnt s t NoMemory = ⊤
+HasSeenLearnt s t NoEntry = ⊤
 
 -- ---- the theorem: a seat may see what it has found by its commit, without a look
 
 abbrev pub CommitsMayBeSeen : Type 0
-CommitsMayBeSeen = (domain : Bytes) (s t : Seated) (batch : Batch) (reply : Reply) → AfterCall domain s t → HasHeard s t (Committed reply) → IsAdded s t batch reply → MaySee domain t
+CommitsMayBeSeen = (domain : Bytes) (s t : Seated) (batch : Batch) (reply : Reply) → AfterCall domain s t → HasSeenLearnt s t (Committed reply) → IsAdded s t batch reply → MaySee domain t

@@ -14,7 +14,7 @@ use Rattle.shared_registry.specs.declared.outcome.Outcome.{Outcome}
 use Rattle.shared_registry.specs.declared.outcome.Outcome.TheVariants.{Committed, Refused, Conflict, NoMemory}
 use Rattle.shared_registry.specs.declared.seat.NoEntry.{NoEntry as NotAdmitted}
 use Rattle.shared_registry.specs.Seated.{Seated}
-use Rattle.shared_registry.specs.Outcomes.{IsOvertaken, IsSubmitted, HasHeard}
+use Rattle.shared_registry.specs.Outcomes.{IsOvertaken, IsSubmitted, HasSeenLearnt}
 
 -- the outcome is not a conflict
 abbrev pub IsNotConflict : Outcome → Type 0
@@ -28,12 +28,12 @@ pub record IsOvertakenOnce (s t : Seated) (batch : Batch) (n : ℕ) : Type 0 whe
   pub since_learnt : length s.learnt ≤ base
   pub overtaken : IsOvertaken (batches_of t.seen) batch base n
   pub place : n ≡ length t.seen
-  pub heard : IsPrefix s.learnt t.seen
+  pub seen_learnt : IsPrefix s.learnt t.seen
   pub own : t.own ≡ s.own
 
 -- the batch has its outcome, or the try met a conflict and hands the batch back
 abbrev pub IsTry : Seated → Seated → Batch → Result Outcome (ℕ × Batch) → Type 0
-IsTry s t batch (Ok o) = IsNotConflict o × HasHeard s t o × IsSubmitted s t batch 0 o
+IsTry s t batch (Ok o) = IsNotConflict o × HasSeenLearnt s t o × IsSubmitted s t batch 0 o
 IsTry s t batch (Err back) = (back.1 ≡ batch) × IsOvertakenOnce s t batch back.0
 
 -- Nothing is added; the seat has seen all items so far, and has no more calls of its own.

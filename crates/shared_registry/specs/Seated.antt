@@ -4,7 +4,7 @@ use mathlib.Core.List.{IsPrefix}
 use Rattle.entry_book.specs.Rows.{Bytes}
 use Rattle.commit_head.specs.declared.item.Item.{Item}
 use Rattle.commit_head.specs.Journals.{IsLawfulJournal}
-use Rattle.shared_registry.specs.Seats.{AllBelow, calls_of}
+use Rattle.shared_registry.specs.SeatCalls.{AllBelow, calls_of}
 
 -- A seat: its number and the number of its calls; the journal that it has seen, and the longest one that it has learnt of; the
 -- numbers of its own committed calls; and the journal of its snapshot.
@@ -30,7 +30,7 @@ pub record AfterCall (domain : Bytes) (s t : Seated) : Type 0 where
 -- and the seat has then seen all that it had learnt of
 pub record CaughtUp (domain : Bytes) (s t : Seated) : Type 0 where
   pub after_call : AfterCall domain s t
-  pub heard : IsPrefix s.learnt t.seen
+  pub seen_learnt : IsPrefix s.learnt t.seen
 
 -- and the seat has seen nothing more
 pub record SawNothingNew (domain : Bytes) (s t : Seated) : Type 0 where

@@ -9,7 +9,7 @@ use Rattle.batch_work.specs.Windows.{Window}
 use Rattle.commit_head.specs.declared.item.Item.{Item}
 use Rattle.commit_head.specs.Heads.{Head, IsJournal}
 use Rattle.commit_head.specs.Journals.{EachCallOnce}
-use Rattle.shared_registry.specs.Seats.{calls_of}
+use Rattle.shared_registry.specs.SeatCalls.{calls_of}
 use Rattle.shared_registry.specs.Shown.{Shown}
 
 -- There are 32 counts, each the number of the seat's calls in the journal.

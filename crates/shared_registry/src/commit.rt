@@ -8,15 +8,15 @@ ghost use Rattle.commit_head.specs.Heads.{IsPreparedFor as IsNextOf, IsJournal, 
 ghost use Rattle.shared_registry.specs.WriterStates.{IsPublished, IsTied};
 ghost use Rattle.shared_registry.specs.OutcomesPrivate.{IsCommitOutcome};
 ghost use Rattle.shared_registry.specs.Seated.{DuringCall};
-ghost use Rattle.shared_registry.specs.Seats.{AllBelow};
+ghost use Rattle.shared_registry.specs.SeatCalls.{AllBelow};
 ghost use Rattle.shared_registry.specs.ShownPrivate.{IsCounted, IsOf, ShowsJournal};
 ghost use Rattle.shared_registry.specs.Works.{IsRead};
 
 use crate::history::{History, HistoryPrefix, RegistryId};
-use crate::published::{Published, PublishedState};
+use crate::published::{PublishedState, PublishedValue};
 use crate::rule::Sees;
 use crate::seat::{NoEntry, Seat};
-use crate::writer_state::WindowWriter;
+use crate::writer_state::PublishedWriter;
 use batch_work::{Status, Work};
 use commit_head::{Commit, Head, Prepared};
 use entry_book::Shared;
@@ -40,9 +40,9 @@ fn checkpoint_if_full(head: &mut Head)
 /// Appends the value to the writer's log of values to publish. Retries until there is memory, and holds the lock meanwhile.
 fn append<J: RegistryId, R: Wait>(
     rt: &R,
-    mut writer: WindowWriter<J>,
-    mut next: Published,
-) -> WindowWriter<J>
+    mut writer: PublishedWriter<J>,
+    mut next: PublishedValue,
+) -> PublishedWriter<J>
     ensures shown { result.desk.shown.value ≡ writer.desk.shown.value }
     ensures pending { drop result.behind result.log.items ≡ drop writer.behind writer.log.items ++ next ∷ [] }
 {
@@ -58,9 +58,9 @@ fn append<J: RegistryId, R: Wait>(
 /// Publishes the value that was appended. Retries until there is memory, and holds the lock meanwhile.
 fn publish<J: RegistryId, R: Wait>(
     rt: &R,
-    writer: WindowWriter<J>,
-    next: Published,
-) -> WindowWriter<J>
+    writer: PublishedWriter<J>,
+    next: PublishedValue,
+) -> PublishedWriter<J>
     requires clear { drop writer.behind writer.log.items ≡ [] }
     requires of_it { IsOf J.history J.domain next }
     requires more { IsPrefix writer.desk.shown.value.journal next.journal }
@@ -80,42 +80,42 @@ fn publish<J: RegistryId, R: Wait>(
 
 /// Returns the published state after a prepared commit: its version is in the window, and its seat has one more call. There are
 /// two references to it, one for the readers and one for the seat. The only error is a failed allocation.
-fn public_states_with(
+fn published_states_with(
     alloc: Global,
-    published: &Published,
+    published: &PublishedValue,
     prepared: &Prepared,
     seat: usize,
 ) -> Result<(Shared<PublishedState>, Shared<PublishedState>), AllocError>
     requires seat { (seat < 32) × (prepared.now.item.seat ≡ seat) }
     requires fits { IsNextOf published.now.window.newest prepared.now }
-    ensures window { IfOk result (λ public_states. public_states.0.window ≡ pushed prepared.now.version published.now.window) }
-    ensures counts { IfOk result (λ public_states. IsCounted public_states.0.counts (published.now.journal ++ prepared.now.item ∷ [])) }
-    ensures same { IfOk result (λ public_states. public_states.1 ≡ public_states.0) }
+    ensures window { IfOk result (λ published_states. published_states.0.window ≡ pushed prepared.now.version published.now.window) }
+    ensures counts { IfOk result (λ published_states. IsCounted published_states.0.counts (published.now.journal ++ prepared.now.item ∷ [])) }
+    ensures same { IfOk result (λ published_states. published_states.1 ≡ published_states.0) }
 {
     let mut window = published.window().clone()?;
     window.push(prepared.version().clone()?);
     let counts = published.counts_with(seat, prepared.item());
-    let public_state = Shared::of(alloc, PublishedState { window, counts })?;
-    let same = public_state.clone()?;
-    Ok((public_state, same))
+    let published_state = Shared::of(alloc, PublishedState { window, counts })?;
+    let same = published_state.clone()?;
+    Ok((published_state, same))
 }
 
 /// Returns the published values after a commit, one for the readers and one for the seat.
 fn snapshots<J: RegistryId>(
     prefix: &HistoryPrefix<J>,
-    public_states: (Shared<PublishedState>, Shared<PublishedState>),
-) -> (Published, Published)
-    requires shows { ShowsJournal prefix.now public_states.0.window public_states.0.counts }
-    requires same { public_states.1 ≡ public_states.0 }
+    published_states: (Shared<PublishedState>, Shared<PublishedState>),
+) -> (PublishedValue, PublishedValue)
+    requires shows { ShowsJournal prefix.now published_states.0.window published_states.0.counts }
+    requires same { published_states.1 ≡ published_states.0 }
     ensures history { result.0.history ≡ J.history }
     ensures journal { result.0.journal ≡ prefix.now }
-    ensures window { result.0.window ≡ public_states.0.window }
+    ensures window { result.0.window ≡ published_states.0.window }
     ensures same { result.1 ≡ result.0 }
 {
-    let (public_state, same) = public_states;
+    let (published_state, same) = published_states;
     (
-        Published::of(prefix, public_state),
-        Published::of(prefix, same),
+        PublishedValue::of(prefix, published_state),
+        PublishedValue::of(prefix, same),
     )
 }
 
@@ -128,10 +128,14 @@ pub(crate) fn decide<J: RegistryId, R: Wait>(
     history: &History<J>,
     head: &mut Head,
     last: &mut HistoryPrefix<J>,
-    writer: WindowWriter<J>,
+    writer: PublishedWriter<J>,
     seat: &mut Seat<J>,
     work: &Work,
-) -> (WindowWriter<J>, Result<Commit, NoEntry>, Option<Published>)
+) -> (
+    PublishedWriter<J>,
+    Result<Commit, NoEntry>,
+    Option<PublishedValue>,
+)
     requires tied { IsTied J.domain last.old head.old }
     requires published { IsPublished J.history J.domain last.old writer.desk.shown.value }
     requires clear { drop writer.behind writer.log.items ≡ [] }
@@ -141,7 +145,7 @@ pub(crate) fn decide<J: RegistryId, R: Wait>(
     ensures tied { IsTied J.domain last.new head.new }
     ensures published { IsPublished J.history J.domain last.new result.0.desk.shown.value }
     ensures clear { drop result.0.behind result.0.log.items ≡ [] }
-    ensures goes { DuringCall seat.old seat.new }
+    ensures during_call { DuringCall seat.old seat.new }
     ensures decided { IsCommitOutcome last.old last.new seat.old seat.new work.now result.1 }
 {
     let published = writer.published();
@@ -158,8 +162,12 @@ pub(crate) fn decide<J: RegistryId, R: Wait>(
             return (writer, Ok(refusal), None);
         }
     };
-    let Ok(public_states) = public_states_with(alloc, published, &prepared, seat.number() as usize)
-    else {
+    let Ok(published_states) = published_states_with(
+        alloc,
+        published,
+        &prepared,
+        seat.number() as usize,
+    ) else {
         seat.see(last.again());
         return (writer, Ok(Commit::NoMemory), None);
     };
@@ -167,11 +175,11 @@ pub(crate) fn decide<J: RegistryId, R: Wait>(
     if !prefix.add(history, prepared.item()) {
         return (writer, Err(NoEntry), None);
     }
-    let (snapshot, own) = snapshots(&prefix, public_states);
+    let (snapshot, own) = snapshots(&prefix, published_states);
     let writer = publish(rt, writer, snapshot);
     seat.see(last.again());
     seat.see_own(prefix.again(), prepared.item());
-    let before = seat.turn_to(own);
+    let before = seat.replace_snapshot(own);
     *last = prefix;
     let place = head.finish(prepared);
     (writer, Ok(Commit::Committed(place)), Some(before))

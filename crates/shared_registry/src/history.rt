@@ -31,9 +31,9 @@ impl Rule<Item, u64> for HistoryRule {
 }
 
 /// What a caller gains by a step: nothing.
-pub struct NoTrade;
+pub struct NoGain;
 
-impl Gain<Item, u64> for NoTrade {
+impl Gain<Item, u64> for NoGain {
     ghost use base.Fml.{ftrue};
 
     ghost after = { λ names about answer. ftrue };
@@ -214,8 +214,8 @@ impl<J: RegistryId> HistoryPrefix<J> {
         ensures { MatchBool result (self.new ≡ self.old ++ item.now ∷ []) (self.new ≡ self.old) }
     {
         let mut seen = self.seen.again();
-        let mut offer: Offer<Item, u64, HistoryRule, NoTrade> = seen.plain::<
-            NoTrade,
+        let mut offer: Offer<Item, u64, HistoryRule, NoGain> = seen.plain::<
+            NoGain,
             Item,
             AppendItem,
         >(item);
@@ -223,7 +223,7 @@ impl<J: RegistryId> HistoryPrefix<J> {
         let items = self.items;
         let found = history
             .word
-            .compare_exchange::<AppendItem, NoTrade>(
+            .compare_exchange::<AppendItem, NoGain>(
                 items,
                 items + 1,
                 &mut seen,

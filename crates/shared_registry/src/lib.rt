@@ -15,20 +15,20 @@
 //! - [`commits_law`]: after a commit a seat may answer queries without a look.
 //! - [`RegistryId`] and [`NewHistory`]: which registry it is, and its empty history. The types ensure that seats, receipts and
 //!   registries of one registry belong together.
-//! - [`Published`], [`History`] and [`HistoryPrefix`] occur in contracts: what the writer publishes, the word that counts the
+//! - [`PublishedValue`], [`History`] and [`HistoryPrefix`] occur in contracts: what the writer publishes, the word that counts the
 //!   history's items, and a prefix of the history.
 //!
 //! The words of this crate:
 //!
 //! - journal: the list of all committed items; prefix: its first items, given by their number.
-//! - published state: the window of the last books, and the number of commits of each seat; published value ([`Published`]): a
+//! - published state: the window of the last books, and the number of commits of each seat; published value ([`PublishedValue`]): a
 //!   published state with the prefix that it shows; snapshot: the published value that a seat has.
 //! - found: the journal of the snapshot that a seat has; seen: the prefix that its answers were computed from; learnt: the
 //!   longest prefix that it learnt of.
 //! - own: the numbers of the calls that a seat has committed.
 //!
 //! The definitions are in `specs/`. `Outcomes` defines the outcome of a batch of changes, `Shown` the published value, `Seated`
-//! and `Seats` a seat, and `Rules` the history's word. The others are for this crate's own contracts: `WriterStates` defines the
+//! and `SeatCalls` a seat, and `Rules` the history's word. The others are for this crate's own contracts: `WriterStates` defines the
 //! state under the lock, `Works` a work in execution, and the files that end in `Private` the invariants.
 //!
 //! - `history`: the one history, and the prefixes of it that were seen; `published` and `rule`: the state that readers look at,
@@ -61,7 +61,7 @@ pub use gate::{Gate, OpenGate, Point};
 pub use history::{History, HistoryPrefix, NewHistory, RegistryId};
 pub use laws::commits_law;
 pub use outcome::Outcome;
-pub use published::Published;
+pub use published::PublishedValue;
 pub use registry::Registry;
 pub use seat::{Answer, NoAnswer, NoEntry, Receipt, Seat};
 pub use writer_state::NoSeat;

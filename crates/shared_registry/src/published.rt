@@ -3,7 +3,7 @@
 ghost use Rattle.std.specs.Prelude.{◌≡◌, ◌+◌, ◌≤◌, ◌<◌, ◌^◌, ◌++◌, ◌∷◌, [], length, IfOk, IfSome};
 ghost use Rattle.batch_work.specs.Windows.{Window};
 ghost use Rattle.commit_head.specs.Heads.{IsJournal};
-ghost use Rattle.shared_registry.specs.Seats.{calls_of};
+ghost use Rattle.shared_registry.specs.SeatCalls.{calls_of};
 ghost use Rattle.shared_registry.specs.ShownPrivate.{IsCounted, IsOf, ShowsJournal};
 
 use crate::history::{HistoryPrefix, HistoryRule, RegistryId};
@@ -26,42 +26,42 @@ pub(crate) struct PublishedState {
 /// published state that shows it. The model in contracts is its history, its journal and its window. A copy increments one
 /// reference count, and is all that a reader makes while it is inside.
 #[derive(Drop)]
-pub struct Published {
+pub struct PublishedValue {
     items: u64,
     seen: Seen<Item, u64, HistoryRule>,
-    public_state: Shared<PublishedState>,
+    published_state: Shared<PublishedState>,
 }
 
-impl Model for Published {
+impl Model for PublishedValue {
     ghost use Rattle.std.specs.Prelude.{◌≡◌, length};
     ghost use Rattle.shared_registry.specs.Shown.{Shown};
     ghost use Rattle.shared_registry.specs.ShownPrivate.{ShowsJournal};
 
     ghost Value = { Shown };
 
-    ghost view = { λ p. record { history = p.seen.book; journal = p.seen.log; window = p.public_state.window } };
+    ghost view = { λ p. record { history = p.seen.book; journal = p.seen.log; window = p.published_state.window } };
 
-    ghost invariant = { λ p. (p.items ≡ length p.seen.log) × ShowsJournal p.seen.log p.public_state.window p.public_state.counts };
+    ghost invariant = { λ p. (p.items ≡ length p.seen.log) × ShowsJournal p.seen.log p.published_state.window p.published_state.counts };
 }
 
-impl Published {
+impl PublishedValue {
     ghost use Rattle.std.specs.Prelude.{◌≡◌, ◌≤◌, ◌^◌, length, IfOk, IfSome};
     ghost use Rattle.shared_registry.specs.ShownPrivate.{IsOf, ShowsJournal, whole_head};
 
     /// Makes the published value of the prefix's journal, with the published state that shows it.
     pub(crate) fn of<J: RegistryId>(
         prefix: &HistoryPrefix<J>,
-        public_state: Shared<PublishedState>,
-    ) -> Published
-        requires shows { ShowsJournal prefix.now public_state.window public_state.counts }
+        published_state: Shared<PublishedState>,
+    ) -> PublishedValue
+        requires shows { ShowsJournal prefix.now published_state.window published_state.counts }
         ensures history { result.history ≡ J.history }
         ensures journal { result.journal ≡ prefix.now }
-        ensures window { result.window ≡ public_state.window }
+        ensures window { result.window ≡ published_state.window }
     {
-        Published {
+        PublishedValue {
             items: prefix.len(),
             seen: prefix.token(),
-            public_state,
+            published_state,
         }
     }
 
@@ -79,7 +79,7 @@ impl Published {
         ensures low { self.now.window.newest.number ≤ 2 ^ 48 }
         ensures journal { IsJournal self.now.journal (whole_head self.now.window self.now.journal) }
     {
-        &self.public_state.get().window
+        &self.published_state.get().window
     }
 
     /// Returns the number of items of this seat in the journal.
@@ -87,12 +87,12 @@ impl Published {
         requires { seat < 32 }
         ensures { result ≡ length (calls_of seat self.now.journal) }
     {
-        self.public_state.get().counts[seat]
+        self.published_state.get().counts[seat]
     }
 
     /// Returns the published state, with its reference count incremented. The error is that the count can't grow.
-    pub(crate) fn public_state(&self) -> Result<Shared<PublishedState>, AllocError> {
-        self.public_state.clone()
+    pub(crate) fn published_state(&self) -> Result<Shared<PublishedState>, AllocError> {
+        self.published_state.clone()
     }
 
     /// Returns the counts after one more item of this seat.
@@ -101,25 +101,25 @@ impl Published {
         ensures { IsCounted result (self.now.journal ++ item.now ∷ []) }
     {
         let _call = item.call;
-        let mut counts = self.public_state.get().counts;
+        let mut counts = self.published_state.get().counts;
         counts[seat] += 1;
         counts
     }
 
     /// Returns a copy, which increments one reference count. The error is that this can't grow.
-    pub(crate) fn again(&self) -> Result<Published, AllocError>
+    pub(crate) fn again(&self) -> Result<PublishedValue, AllocError>
         ensures { IfOk result (λ p. p ≡ self.now) }
     {
-        Ok(Published {
+        Ok(PublishedValue {
             items: self.items,
             seen: self.seen.again(),
-            public_state: self.public_state.clone()?,
+            published_state: self.published_state.clone()?,
         })
     }
 
     /// Returns a copy, if it has another number of items than the older one. The error is that a reference count can't
     /// grow.
-    pub(crate) fn newer(&self, older: &Published) -> Result<Option<Published>, AllocError>
+    pub(crate) fn newer(&self, older: &PublishedValue) -> Result<Option<PublishedValue>, AllocError>
         ensures { IfOk result (λ o. IfSome o (λ p. p ≡ self.now)) }
     {
         if self.items == older.items {
@@ -134,34 +134,42 @@ pub(crate) fn opening<J: RegistryId>(
     alloc: Global,
     prefix: &HistoryPrefix<J>,
     head: &Head,
-) -> Result<Published, AllocError>
+) -> Result<PublishedValue, AllocError>
     requires prefix { prefix.now ≡ [] }
     requires head { IsJournal [] head.now }
     ensures { IfOk result (λ p. (p.history ≡ J.history) × (p.journal ≡ []) × (p.window ≡ head.now.window)) }
 {
-    let public_state = PublishedState {
+    let published_state = PublishedState {
         window: head.window().clone()?,
         counts: [0; 32],
     };
-    Ok(Published::of(prefix, Shared::of(alloc, public_state)?))
+    Ok(PublishedValue::of(prefix, Shared::of(alloc, published_state)?))
 }
 
 /// An operation of the writer replaces the whole value.
-impl Absorb<Published> for Published {
+impl Absorb<PublishedValue> for PublishedValue {
     ghost use Rattle.shared_registry.specs.Shown.{Shown};
 
-    type State = Published;
+    type State = PublishedValue;
 
     ghost state = { λ p. p };
 
     ghost applied = { λ x p. p };
 
-    fn absorb_first(&mut self, next: &Published, _other: &Published) -> Result<(), AllocError> {
+    fn absorb_first(
+        &mut self,
+        next: &PublishedValue,
+        _other: &PublishedValue,
+    ) -> Result<(), AllocError> {
         *self = next.again()?;
         Ok(())
     }
 
-    fn absorb_second(&mut self, next: Published, _other: &Published) -> Result<(), Published> {
+    fn absorb_second(
+        &mut self,
+        next: PublishedValue,
+        _other: &PublishedValue,
+    ) -> Result<(), PublishedValue> {
         *self = next;
         Ok(())
     }

@@ -5,12 +5,12 @@ ghost use mathlib.Core.List.{IsPrefix};
 ghost use Rattle.entry_book.specs.Batches.{is_query};
 ghost use Rattle.entry_book.specs.History.{books_of, reply_to};
 ghost use Rattle.commit_head.specs.Journals.{batches_of};
-ghost use Rattle.shared_registry.specs.Seats.{calls_of};
+ghost use Rattle.shared_registry.specs.SeatCalls.{calls_of};
 ghost use Rattle.shared_registry.specs.ShownPrivate.{IsOf};
 
 use crate::history::{HistoryPrefix, RegistryId};
-use crate::published::Published;
-use crate::rule::{Rule, Sees, View};
+use crate::published::PublishedValue;
+use crate::rule::{PublishedRule, Sees, View};
 use crate::seat::NoAnswer;
 use batch_work::{BorrowedReply, answer};
 use entry_book::Batch;
@@ -19,12 +19,12 @@ use std::alloc::{AllocError, Global};
 use std::mem::replace;
 
 /// A reader of the published value.
-pub(crate) type SeatReader<J> = Reader<Published, View, Rule<J>>;
+pub(crate) type SeatReader<J> = Reader<PublishedValue, View, PublishedRule<J>>;
 
 /// Replaces the snapshot by the newer one, if a look has found one, and drops the one before.
-fn turn<J: RegistryId>(
-    snapshot: &mut Published,
-    newer: Result<Option<Published>, AllocError>,
+fn replace_snapshot<J: RegistryId>(
+    snapshot: &mut PublishedValue,
+    newer: Result<Option<PublishedValue>, AllocError>,
 ) -> Result<(), NoAnswer>
     requires snapshot { IsOf J.history J.domain snapshot.old }
     requires newer { IfOk newer (λ o. IfSome o (IsOf J.history J.domain)) }
@@ -43,7 +43,7 @@ fn turn<J: RegistryId>(
 /// Looks once at the published state, and keeps a copy if it has another number of items.
 fn look<J: RegistryId>(
     reader: SeatReader<J>,
-    snapshot: &mut Published,
+    snapshot: &mut PublishedValue,
 ) -> (SeatReader<J>, Result<(), NoAnswer>)
     requires { IsOf J.history J.domain snapshot.old }
     ensures { IsOf J.history J.domain snapshot.new }
@@ -52,7 +52,7 @@ fn look<J: RegistryId>(
         Ok(reading) => {
             let newer = reading.get().newer(snapshot);
             let reader = reading.leave();
-            (reader, turn::<J>(snapshot, newer))
+            (reader, replace_snapshot::<J>(snapshot, newer))
         }
         Err(reader) => (reader, Err(NoAnswer::NoEntry)),
     }
@@ -60,7 +60,7 @@ fn look<J: RegistryId>(
 
 /// Returns true if the published journal continues what a seat has seen and what it has learnt, and has this many of its calls.
 pub(crate) fn continues<J: RegistryId>(
-    published: &Published,
+    published: &PublishedValue,
     seen: &HistoryPrefix<J>,
     learnt: &HistoryPrefix<J>,
     number: usize,
@@ -80,7 +80,7 @@ pub(crate) fn continues<J: RegistryId>(
 /// learnt of, or has another number of its calls.
 pub(crate) fn find<J: RegistryId>(
     reader: &mut Option<SeatReader<J>>,
-    snapshot: &mut Published,
+    snapshot: &mut PublishedValue,
     seen: &HistoryPrefix<J>,
     learnt: &HistoryPrefix<J>,
     number: usize,
@@ -112,7 +112,7 @@ pub(crate) fn find<J: RegistryId>(
 /// Returns the answer to a query on the published state, which borrows the rows. The error is out of memory.
 pub(crate) fn borrowed_answer<'a>(
     alloc: Global,
-    snapshot: &'a Published,
+    snapshot: &'a PublishedValue,
     batch: &Batch,
 ) -> Result<BorrowedReply<'a>, AllocError>
     requires query { is_query batch.now.ops ≡ true }

@@ -1,6 +1,6 @@
 //! Which published states are retained, so that readers seldom free one?
 
-use crate::published::{Published, PublishedState};
+use crate::published::{PublishedState, PublishedValue};
 use entry_book::Shared;
 use std::alloc::{AllocError, Global};
 use std::collections::VecDeque;
@@ -13,22 +13,22 @@ const MOST: usize = 64;
 /// the lock.
 #[derive(Drop)]
 pub(crate) struct Recent {
-    public_states: VecDeque<Shared<PublishedState>>,
+    published_states: VecDeque<Shared<PublishedState>>,
 }
 
 /// What a commit has replaced, to be dropped without the lock: the snapshot that the seat had before it, and the oldest of the
 /// retained published states, if the list was full.
 #[derive(Drop)]
 pub(crate) struct Replaced {
-    snapshot: Published,
-    public_state: Option<Shared<PublishedState>>,
+    snapshot: PublishedValue,
+    published_state: Option<Shared<PublishedState>>,
 }
 
 impl Recent {
     /// Makes an empty list, with room for as many states as it retains. The only error is a failed allocation.
     pub(crate) fn none(alloc: Global) -> Result<Recent, AllocError> {
         Ok(Recent {
-            public_states: VecDeque::with_capacity(alloc, MOST)?,
+            published_states: VecDeque::with_capacity(alloc, MOST)?,
         })
     }
 
@@ -36,15 +36,15 @@ impl Recent {
     /// seat had. Without a commit `before` is `None`, and nothing is done.
     pub(crate) fn replace(
         &mut self,
-        published: &Published,
-        before: Option<Published>,
+        published: &PublishedValue,
+        before: Option<PublishedValue>,
     ) -> Option<Replaced> {
         match before {
             Some(snapshot) => {
-                let public_state = self.keep(published);
+                let published_state = self.keep(published);
                 Some(Replaced {
                     snapshot,
-                    public_state,
+                    published_state,
                 })
             }
             None => None,
@@ -53,16 +53,16 @@ impl Recent {
 
     /// Retains the published state. If the list is full, it takes the place of the oldest one, which is returned. If its
     /// reference count can't grow, it isn't retained.
-    fn keep(&mut self, published: &Published) -> Option<Shared<PublishedState>> {
-        let Ok(public_state) = published.public_state() else {
+    fn keep(&mut self, published: &PublishedValue) -> Option<Shared<PublishedState>> {
+        let Ok(published_state) = published.published_state() else {
             return None;
         };
-        let passed = if self.public_states.len() < MOST {
+        let passed = if self.published_states.len() < MOST {
             None
         } else {
-            self.public_states.pop_front()
+            self.published_states.pop_front()
         };
-        let _ = self.public_states.push_back(public_state);
+        let _ = self.published_states.push_back(published_state);
         passed
     }
 }

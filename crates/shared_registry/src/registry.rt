@@ -6,10 +6,10 @@ ghost use Rattle.entry_book.specs.Batches.{is_query};
 ghost use Rattle.entry_book.specs.History.{books_of, is_repeated, reply_to};
 ghost use Rattle.commit_head.specs.Journals.{IsLawfulJournal, batches_of};
 ghost use Rattle.batch_work.specs.Working.{HasReplies, status_of};
-ghost use Rattle.shared_registry.specs.Outcomes.{HasHeard, IsSubmitted};
+ghost use Rattle.shared_registry.specs.Outcomes.{HasSeenLearnt, IsSubmitted};
 ghost use Rattle.shared_registry.specs.OutcomesPrivate.{IsNotConflict, IsTry};
 ghost use Rattle.shared_registry.specs.Seated.{AfterCall, CaughtUp, DuringCall, SawNothingNew};
-ghost use Rattle.shared_registry.specs.Seats.{AllBelow, calls_of};
+ghost use Rattle.shared_registry.specs.SeatCalls.{AllBelow, calls_of};
 ghost use Rattle.shared_registry.specs.Works.{IsRead};
 
 use crate::gate::{Gate, Point};
@@ -62,7 +62,7 @@ fn settled<J: RegistryId>(seat: &Seat<J>, work: Work) -> Outcome
 /// its commit. A function with `rt` may wait, and no clause says that it returns.
 pub struct Registry<J: RegistryId> {
     history: History<J>,
-    core: Mutex<WriterState<J>>,
+    state: Mutex<WriterState<J>>,
 }
 
 impl<J: RegistryId> Registry<J> {
@@ -79,10 +79,10 @@ impl<J: RegistryId> Registry<J> {
         requires domain { domain ≡ J.domain }
     {
         let (history, prefix) = new_history.named::<J>();
-        let core = WriterState::new(alloc, domain, prefix)?;
+        let state = WriterState::new(alloc, domain, prefix)?;
         Ok(Registry {
             history,
-            core: Mutex::new(core),
+            state: Mutex::new(state),
         })
     }
 
@@ -91,9 +91,9 @@ impl<J: RegistryId> Registry<J> {
     pub fn seat<R: Wait>(&self, rt: &R) -> Result<Seat<J>, NoSeat>
         ensures { IfOk result (λ s. (s.seen ≡ []) × (s.learnt ≡ []) × (s.own ≡ []) × (s.calls ≡ 0)) }
     {
-        let mut core = self.core.lock(rt);
-        let seat = core.seat();
-        MutexGuard::unlock(core);
+        let mut state = self.state.lock(rt);
+        let seat = state.seat();
+        MutexGuard::unlock(state);
         seat
     }
 
@@ -126,7 +126,7 @@ impl<J: RegistryId> Registry<J> {
         requires domain { batch.domain ≡ J.domain }
         requires tries { 0 < tries }
         ensures after_call { AfterCall J.domain seat.old seat.new }
-        ensures heard { HasHeard seat.old seat.new result }
+        ensures seen_learnt { HasSeenLearnt seat.old seat.new result }
         ensures answer { IsSubmitted seat.old seat.new batch tries result }
     {
         seat.take_call();
@@ -159,7 +159,7 @@ impl<J: RegistryId> Registry<J> {
         requires below { AllBelow seat.old.calls seat.old.own }
         requires changes { is_query batch.ops ≡ false }
         requires domain { batch.domain ≡ J.domain }
-        ensures goes { DuringCall seat.old seat.new }
+        ensures during_call { DuringCall seat.old seat.new }
         ensures tried { IsTry seat.old seat.new batch result }
     {
         let work = match seat.read(gate, batch) {
@@ -190,15 +190,15 @@ impl<J: RegistryId> Registry<J> {
         requires ready { status_of work ≡ Status.Ready }
         requires read { IsRead J.domain seat.old.seen work.batch work }
         requires replies { HasReplies work replies }
-        requires heard { IsPrefix seat.old.learnt seat.old.seen }
-        ensures goes { DuringCall seat.old seat.new }
+        requires seen_learnt { IsPrefix seat.old.learnt seat.old.seen }
+        ensures during_call { DuringCall seat.old seat.new }
         ensures tried { IsTry seat.old seat.new work.batch result }
     {
         let (number, call) = (seat.number(), seat.calls());
-        let mut core = self.core.lock(rt);
+        let mut state = self.state.lock(rt);
         gate.pass(Point::BeforeCommit, number, call);
-        let (decided, replaced) = core.commit(rt, &self.history, seat, &work);
-        MutexGuard::unlock(core);
+        let (decided, replaced) = state.commit(rt, &self.history, seat, &work);
+        MutexGuard::unlock(state);
         drop(replaced);
         gate.pass(Point::AfterCommit, number, call);
         let batch = work.into_batch();
@@ -220,15 +220,15 @@ impl<J: RegistryId> Registry<J> {
     /// Lets the seat see every item so far, including those that it has learnt of, and returns the receipt of that. It
     /// waits for the lock, and no clause says when it gets it.
     pub fn news<R: Wait>(&self, rt: &R, seat: &mut Seat<J>) -> Result<Receipt<J>, NoEntry>
-        ensures goes { DuringCall seat.old seat.new }
+        ensures during_call { DuringCall seat.old seat.new }
         ensures lawful { IsLawfulJournal J.domain seat.new.seen }
         ensures own { (seat.new.own ≡ seat.old.own) × (calls_of seat.new.number seat.new.seen ≡ seat.new.own) }
-        ensures heard { IfOk result (λ _. IsPrefix seat.old.learnt seat.new.seen) }
+        ensures seen_learnt { IfOk result (λ _. IsPrefix seat.old.learnt seat.new.seen) }
         ensures receipt { MatchResult result (λ r. r ≡ seat.new.seen) (λ _. seat.new.seen ≡ seat.old.seen) }
     {
-        let mut core = self.core.lock(rt);
-        let receipt = core.news(seat);
-        MutexGuard::unlock(core);
+        let mut state = self.state.lock(rt);
+        let receipt = state.news(seat);
+        MutexGuard::unlock(state);
         let _place = seat.place();
         receipt
     }
@@ -238,16 +238,16 @@ impl<J: RegistryId> Registry<J> {
     pub fn kept<R: Wait>(&self, rt: &R) -> u64
         ensures { result ≤ 4096 }
     {
-        let core = self.core.lock(rt);
-        let kept = core.kept();
-        MutexGuard::unlock(core);
+        let state = self.state.lock(rt);
+        let kept = state.kept();
+        MutexGuard::unlock(state);
         kept
     }
 
     /// Ends the registry, whose writer can't be dropped otherwise. It waits for the readers that are inside, and no clause
     /// says that it returns.
     pub fn close<R: Wait>(self, rt: &R) {
-        let Registry { history: _, core } = self;
-        core.into_inner().close(rt);
+        let Registry { history: _, state } = self;
+        state.into_inner().close(rt);
     }
 }

@@ -1,7 +1,7 @@
 //! Which invariant does every step over the published value preserve?
 
 use crate::history::RegistryId;
-use crate::published::Published;
+use crate::published::PublishedValue;
 use commit_head::Item;
 use crossbeam_utils::rule::{Outcome, Protocol};
 use std::collections::LinkedList;
@@ -12,9 +12,9 @@ use std::marker::PhantomData;
 pub type View = LinkedList<Item>;
 
 /// The published value is of this history and trust domain, and its journal begins with what each pass has seen.
-pub struct Rule<J: RegistryId>(PhantomData<J>);
+pub struct PublishedRule<J: RegistryId>(PhantomData<J>);
 
-impl<J: RegistryId> Protocol<Published, View> for Rule<J> {
+impl<J: RegistryId> Protocol<PublishedValue, View> for PublishedRule<J> {
     ghost use Rattle.std.specs.Prelude.{[]};
     ghost use Rattle.shared_registry.specs.ShownPrivate.{RuleInvariant};
 
@@ -27,7 +27,7 @@ impl<J: RegistryId> Protocol<Published, View> for Rule<J> {
 /// and trust domain.
 pub struct Sees<J: RegistryId>(PhantomData<J>);
 
-impl<J: RegistryId> Outcome<Published, View> for Sees<J> {
+impl<J: RegistryId> Outcome<PublishedValue, View> for Sees<J> {
     ghost use Rattle.shared_registry.specs.ShownPrivate.{Saw};
 
     ghost then = { λ v x y w. Saw J.history J.domain v y w };

@@ -4,7 +4,7 @@ ghost use Rattle.std.specs.Prelude.{◌≡◌, IfOk, Ok, OnOk, Some};
 ghost use Rattle.batch_work.specs.Working.{base_in, status_of};
 ghost use Rattle.shared_registry.specs.Works.{HasJustBegun, IsAtEnd};
 
-use crate::published::Published;
+use crate::published::PublishedValue;
 use batch_work::{Status, Work};
 use entry_book::Batch;
 use std::alloc::{AllocError, Global};
@@ -21,7 +21,11 @@ fn kept_if<T: Drop>(done: Result<(), AllocError>, value: T) -> Result<T, AllocEr
 }
 
 /// Returns a work of the batch that has begun on the published state. The error is out of memory.
-pub(crate) fn begun(alloc: Global, snapshot: &Published, batch: Batch) -> Result<Work, AllocError>
+pub(crate) fn begun(
+    alloc: Global,
+    snapshot: &PublishedValue,
+    batch: Batch,
+) -> Result<Work, AllocError>
     requires domain { batch.domain ≡ snapshot.now.window.newest.domain }
     ensures { IfOk result (λ work. HasJustBegun batch snapshot.now work) }
 {
@@ -31,7 +35,7 @@ pub(crate) fn begun(alloc: Global, snapshot: &Published, batch: Batch) -> Result
 }
 
 /// Makes all reads of a work that has begun on the published state. The error is out of memory.
-pub(crate) fn run_to_end(snapshot: &Published, work: &mut Work) -> Result<(), AllocError>
+pub(crate) fn run_to_end(snapshot: &PublishedValue, work: &mut Work) -> Result<(), AllocError>
     requires domain { work.old.batch.domain ≡ snapshot.now.window.newest.domain }
     requires began { HasJustBegun work.old.batch snapshot.now work.old }
     ensures { OnOk result (IsAtEnd work.old.batch snapshot.now work.new) }
@@ -48,7 +52,7 @@ pub(crate) fn run_to_end(snapshot: &Published, work: &mut Work) -> Result<(), Al
 }
 
 /// Returns a work that has begun on the published state, after all its reads. The error is out of memory.
-pub(crate) fn ran(snapshot: &Published, mut work: Work) -> Result<Work, AllocError>
+pub(crate) fn ran(snapshot: &PublishedValue, mut work: Work) -> Result<Work, AllocError>
     requires domain { work.batch.domain ≡ snapshot.now.window.newest.domain }
     requires began { HasJustBegun work.batch snapshot.now work }
     ensures { IfOk result (IsAtEnd work.batch snapshot.now) }

@@ -5,13 +5,13 @@ ghost use mathlib.Core.List.{IsPrefix};
 ghost use Rattle.entry_book.specs.Batches.{is_query};
 ghost use Rattle.entry_book.specs.History.{books_of, reply_to};
 ghost use Rattle.commit_head.specs.Journals.{IsLawfulJournal, batches_of};
-ghost use Rattle.shared_registry.specs.Seats.{calls_of, AllBelow};
+ghost use Rattle.shared_registry.specs.SeatCalls.{calls_of, AllBelow};
 ghost use Rattle.shared_registry.specs.Seated.{CaughtUp, DuringCall, MaySee, SawNothingNew};
 ghost use Rattle.shared_registry.specs.ShownPrivate.{IsOf};
 
 use crate::gate::{Gate, Point};
 use crate::history::{HistoryPrefix, RegistryId};
-use crate::published::Published;
+use crate::published::PublishedValue;
 use crate::reading::{SeatReader, borrowed_answer, continues, find};
 use crate::run::{begun, ran};
 use batch_work::{BorrowedReply, Work};
@@ -66,12 +66,12 @@ pub struct Seat<J: RegistryId> {
     count: u64,
     seen: HistoryPrefix<J>,
     learnt: HistoryPrefix<J>,
-    snapshot: Published,
+    snapshot: PublishedValue,
 }
 
 impl<J: RegistryId> Model for Seat<J> {
     ghost use Rattle.std.specs.Prelude.{◌≡◌, ◌<◌, ◌+◌, length, IsSome};
-    ghost use Rattle.shared_registry.specs.Seats.{calls_of, AllBelow};
+    ghost use Rattle.shared_registry.specs.SeatCalls.{calls_of, AllBelow};
     ghost use Rattle.shared_registry.specs.Seated.{Seated};
     ghost use Rattle.shared_registry.specs.ShownPrivate.{IsOf};
 
@@ -124,7 +124,7 @@ impl<J: RegistryId> Seat<J> {
         reader: SeatReader<J>,
         number: usize,
         start: &HistoryPrefix<J>,
-        snapshot: Published,
+        snapshot: PublishedValue,
     ) -> Seat<J>
         requires number { number < 32 }
         requires start { start.now ≡ [] }
@@ -154,7 +154,7 @@ impl<J: RegistryId> Seat<J> {
 
     /// Returns true only if the published journal begins with what the seat has seen and learnt of. Its items of the seat
     /// are then the seat's own calls, no more.
-    pub(crate) fn fits(&self, published: &Published) -> bool
+    pub(crate) fn fits(&self, published: &PublishedValue) -> bool
         requires { IsOf J.history J.domain published.now }
         ensures seen { IsTrue result → IsPrefix self.now.seen published.now.journal }
         ensures learnt { IsTrue result → IsPrefix self.now.learnt published.now.journal }
@@ -167,7 +167,7 @@ impl<J: RegistryId> Seat<J> {
     pub(crate) fn see(&mut self, prefix: HistoryPrefix<J>)
         requires seen { IsPrefix self.old.seen prefix }
         requires own { calls_of self.old.number prefix ≡ self.old.own }
-        ensures goes { DuringCall self.old self.new }
+        ensures during_call { DuringCall self.old self.new }
         ensures own { self.new.own ≡ self.old.own }
         ensures seen { self.new.seen ≡ prefix }
     {
@@ -179,7 +179,7 @@ impl<J: RegistryId> Seat<J> {
         requires seen { prefix ≡ self.old.seen ++ item.now ∷ [] }
         requires seat { item.now.seat ≡ self.old.number }
         requires call { item.now.call ≡ self.old.calls }
-        ensures goes { DuringCall self.old self.new }
+        ensures during_call { DuringCall self.old self.new }
         ensures own { self.new.own ≡ self.old.own ++ self.old.calls ∷ [] }
         ensures seen { self.new.seen ≡ prefix }
     {
@@ -190,7 +190,7 @@ impl<J: RegistryId> Seat<J> {
     }
 
     /// Replaces the snapshot, and returns the one before.
-    pub(crate) fn turn_to(&mut self, snapshot: Published) -> Published
+    pub(crate) fn replace_snapshot(&mut self, snapshot: PublishedValue) -> PublishedValue
         requires snapshot { IsOf J.history J.domain snapshot }
         ensures { self.new ≡ record self.old { found = snapshot.journal } }
     {
@@ -210,9 +210,9 @@ impl<J: RegistryId> Seat<J> {
     /// the gate after its begin. It waits for no other thread.
     pub(crate) fn read<G: Gate>(&mut self, gate: &G, batch: Batch) -> Result<Work, NoAnswer>
         requires domain { batch.domain ≡ J.domain }
-        ensures goes { DuringCall self.old self.new }
+        ensures during_call { DuringCall self.old self.new }
         ensures own { self.new.own ≡ self.old.own }
-        ensures heard { IfOk result (λ _. IsPrefix self.old.learnt self.new.seen) }
+        ensures seen_learnt { IfOk result (λ _. IsPrefix self.old.learnt self.new.seen) }
         ensures read { IfOk result (IsRead J.domain self.new.seen batch) }
     {
         let found = find(

@@ -5,14 +5,14 @@ ghost use mathlib.Core.List.{IsPrefix};
 ghost use Rattle.batch_work.specs.Working.{status_of};
 ghost use Rattle.shared_registry.specs.OutcomesPrivate.{IsCommitOutcome};
 ghost use Rattle.shared_registry.specs.Seated.{DuringCall};
-ghost use Rattle.shared_registry.specs.Seats.{AllBelow};
+ghost use Rattle.shared_registry.specs.SeatCalls.{AllBelow};
 ghost use Rattle.shared_registry.specs.Works.{IsRead};
 
 use crate::commit::decide;
 use crate::history::{History, HistoryPrefix, RegistryId};
-use crate::published::{Published, opening};
+use crate::published::{PublishedValue, opening};
 use crate::recent::{Recent, Replaced};
-use crate::rule::{Rule, View};
+use crate::rule::{PublishedRule, View};
 use crate::seat::{NoEntry, Receipt, Seat};
 use batch_work::{Status, Work};
 use commit_head::{Commit, Head};
@@ -24,7 +24,7 @@ use std::mem::replace;
 use std::sync::Wait;
 
 /// The writer of the published value.
-pub(crate) type WindowWriter<J> = Writer<Published, Published, View, Rule<J>>;
+pub(crate) type PublishedWriter<J> = Writer<PublishedValue, PublishedValue, View, PublishedRule<J>>;
 
 /// Why a caller got no seat: there are 32 already, no reader is available, or a reference count can't grow.
 #[derive(Clone, Copy, Debug, PartialEq, Eq, Drop)]
@@ -35,7 +35,7 @@ pub struct NoSeat;
 pub(crate) struct WriterState<J: RegistryId> {
     alloc: Global,
     head: Head,
-    writer: Option<WindowWriter<J>>,
+    writer: Option<PublishedWriter<J>>,
     recent: Recent,
     seats: usize,
     start: HistoryPrefix<J>,
@@ -71,7 +71,7 @@ impl<J: RegistryId> WriterState<J> {
         let first = opening(alloc, &prefix, &head)?;
         let second = first.again()?;
         let recent = Recent::none(alloc)?;
-        let writer = WindowWriter::<J>::new(alloc, first, second, 32)?;
+        let writer = PublishedWriter::<J>::new(alloc, first, second, 32)?;
         Ok(WriterState {
             alloc,
             head,
@@ -109,9 +109,9 @@ impl<J: RegistryId> WriterState<J> {
     /// Lets the seat see every item so far, and returns the receipt of that.
     pub(crate) fn news(&mut self, seat: &mut Seat<J>) -> Result<Receipt<J>, NoEntry>
         ensures same { self.new ≡ self.old }
-        ensures goes { DuringCall seat.old seat.new }
+        ensures during_call { DuringCall seat.old seat.new }
         ensures own { seat.new.own ≡ seat.old.own }
-        ensures heard { IfOk result (λ _. IsPrefix seat.old.learnt seat.new.seen) }
+        ensures seen_learnt { IfOk result (λ _. IsPrefix seat.old.learnt seat.new.seen) }
         ensures seen { MatchResult result (λ r. (r ≡ seat.new.seen) × (r ≡ self.old)) (λ _. seat.new.seen ≡ seat.old.seen) }
     {
         let Some(writer) = &self.writer else {
@@ -136,7 +136,7 @@ impl<J: RegistryId> WriterState<J> {
         requires call { AllBelow seat.old.calls seat.old.own }
         requires ready { status_of work.now ≡ Status.Ready }
         requires read { IsRead J.domain seat.old.seen work.now.batch work.now }
-        ensures goes { DuringCall seat.old seat.new }
+        ensures during_call { DuringCall seat.old seat.new }
         ensures decided { IsCommitOutcome self.old self.new seat.old seat.new work.now result.0 }
     {
         let Some(writer) = self.writer.take() else {

@@ -18,12 +18,12 @@ use test_batches::{batch_text, below};
 #[derive(Drop)]
 pub struct Call {
     pub text: String,
-    pub as_text: String,
+    pub reply: String,
 }
 
 /// Returns true if the reply is that to a batch, and not to a letter.
 pub fn is_of_batch(call: &Call) -> bool {
-    !matches!(kind_of(call.as_text.as_str()), "sent" | "taken")
+    !matches!(kind_of(call.reply.as_str()), "sent" | "taken")
 }
 
 /// A random batch, with a number of tries.
@@ -44,9 +44,9 @@ fn text_of(alloc: Global, line: &str, state: &mut u64, place: u64) -> Result<Str
 }
 
 /// Asserts the replies to the operations, which follow the outcome and its place, if the line has any.
-fn check_text(rt: &impl Abort, line: &str, as_text: &str) {
+fn check_text(rt: &impl Abort, line: &str, reply: &str) {
     if let Some((_, expected)) = line.split_once(" => ") {
-        let (_, replies) = as_text.split_once("; ").unwrap_or((as_text, ""));
+        let (_, replies) = reply.split_once("; ").unwrap_or((reply, ""));
         is_text(rt, replies, expected, line);
     }
 }
@@ -54,17 +54,17 @@ fn check_text(rt: &impl Abort, line: &str, as_text: &str) {
 /// Checks the place of a reply, which is the place that the seat has then seen, or that of the first commit for a repeated batch.
 /// The seat has seen at least what it had seen or was informed of before, and more after a conflict. Returns the least place that
 /// the next call must see: the seat is informed of the place of a letter.
-fn check_place(rt: &impl Abort, as_text: &str, least: u64, seen: u64) -> Result<u64, Failed> {
-    let place = place_of(as_text)?;
-    let kind = kind_of(as_text);
+fn check_place(rt: &impl Abort, reply: &str, least: u64, seen: u64) -> Result<u64, Failed> {
+    let place = place_of(reply)?;
+    let kind = kind_of(reply);
     if kind == "taken" {
         return Ok(least.max(place));
     }
     if kind != "repeated" {
-        is_number(rt, seen, place, as_text);
+        is_number(rt, seen, place, reply);
     }
-    holds(rt, seen >= least, as_text);
-    holds(rt, kind != "conflict" || seen > least, as_text);
+    holds(rt, seen >= least, reply);
+    holds(rt, kind != "conflict" || seen > least, reply);
     Ok(seen)
 }
 
@@ -75,8 +75,8 @@ fn calls_once<J: RegistryId, R: Wait + Clock>(
     thread: u64,
     text: String,
 ) -> Result<Call, Failed> {
-    let as_text = site.answer(seat, gate, thread, text.as_str())?;
-    Ok(Call { text, as_text })
+    let reply = site.answer(seat, gate, thread, text.as_str())?;
+    Ok(Call { text, reply })
 }
 
 /// The calls of a seat that runs these lines.
@@ -92,8 +92,8 @@ fn calls_of<J: RegistryId, R: Wait + Clock + Abort>(
     for line in lines.lines() {
         let text = text_of(site.alloc, line, &mut state, seat.place())?;
         let call = calls_once(site, seat, gate, thread, text)?;
-        check_text(site.rt, line, call.as_text.as_str());
-        least = check_place(site.rt, call.as_text.as_str(), least, seat.place())?;
+        check_text(site.rt, line, call.reply.as_str());
+        least = check_place(site.rt, call.reply.as_str(), least, seat.place())?;
         calls.push(call)?;
     }
     Ok(calls)

@@ -34,7 +34,7 @@ type Turn = (u64, bool, usize);
 fn in_order(alloc: Global, calls: &[Call]) -> Result<Vec<Turn>, Failed> {
     let mut order = Vec::new(alloc);
     for (index, call) in calls.iter().enumerate() {
-        let as_text = call.as_text.as_str();
+        let as_text = call.reply.as_str();
         order.push((place_of(as_text)?, kind_of(as_text) != "committed", index))?;
     }
     order.sort()?;
@@ -69,7 +69,7 @@ fn check_call(
     book: &mut PlainBook,
     call: &Call,
 ) -> Result<(), Failed> {
-    let (text, as_text) = (call.text.as_str(), call.as_text.as_str());
+    let (text, as_text) = (call.text.as_str(), call.reply.as_str());
     if !is_of_batch(call) || kind_of(as_text) == "conflict" {
         return Ok(());
     }
@@ -113,7 +113,7 @@ fn check_places(rt: &impl Abort, order: &[Turn], place: u64) {
 fn count_of(calls: &[Call], kind: &str) -> u64 {
     let mut count: u64 = 0;
     for call in calls {
-        count = count.wrapping_add((kind_of(call.as_text.as_str()) == kind) as u64);
+        count = count.wrapping_add((kind_of(call.reply.as_str()) == kind) as u64);
     }
     count
 }

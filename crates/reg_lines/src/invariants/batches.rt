@@ -3,7 +3,7 @@
 ghost use Rattle.std.specs.Prelude.{ℕ, List, Option};
 ghost use Rattle.std.specs.Str.{IsUtf8};
 ghost use Rattle.reg_lines.specs.ReadBack.{AreSelectors, IsWrittenAgent, IsWrittenEntry, IsWrittenOp, IsWrittenPage};
-ghost use Rattle.reg_lines.specs.RecordValues.{asked_data, batch_data, entry_op_data, op_data, page_op_data, set_agent_data};
+ghost use Rattle.reg_lines.specs.RecordValues.{selectors_data, batch_data, entry_op_data, op_data, page_op_data, set_agent_data};
 ghost use Rattle.reg_lines.specs.Spelled.{IsTyped, IsWrittenBatch};
 ghost use Rattle.reg_lines.specs.Values.{option_data, whole};
 
@@ -37,9 +37,9 @@ fn know_agent(agent: &Agent)
 }
 
 impl Written for SelectorMatch {
-    ghost is_written = { λ question. AreSelectors question.selectors };
+    ghost is_written = { λ condition. AreSelectors condition.selectors };
 
-    ghost value = { asked_data };
+    ghost value = { selectors_data };
 
     fn know(&self) {
         self.selectors.know();

@@ -184,28 +184,28 @@ fn print_page_op<S: Sink>(query: &PageQuery, output: &mut Output<S>)
 }
 
 /// Puts the match mode with a comma after it, if there is a condition on selectors.
-fn put_match<S: Sink>(question: &Option<SelectorMatch>, output: &mut Output<S>)
-    ensures { Puts output.old output.new (match_member question.now) }
+fn put_match<S: Sink>(condition: &Option<SelectorMatch>, output: &mut Output<S>)
+    ensures { Puts output.old output.new (match_member condition.now) }
 {
-    match question {
+    match condition {
         None => {}
-        Some(question) => {
+        Some(condition) => {
             output.put(b"\"match\":");
-            question.mode.print_to(output);
+            condition.mode.print_to(output);
             output.put(b",");
         }
     }
 }
 
 /// Puts the selectors of the condition, if there is one.
-fn put_selectors<S: Sink>(question: &Option<SelectorMatch>, output: &mut Output<S>)
-    ensures { Puts output.old output.new (selectors_member question.now) }
+fn put_selectors<S: Sink>(condition: &Option<SelectorMatch>, output: &mut Output<S>)
+    ensures { Puts output.old output.new (selectors_member condition.now) }
 {
-    match question {
+    match condition {
         None => {}
-        Some(question) => {
+        Some(condition) => {
             output.put(b",\"selectors\":");
-            question.selectors.print_to(output);
+            condition.selectors.print_to(output);
         }
     }
 }

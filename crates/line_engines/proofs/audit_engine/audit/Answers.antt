@@ -8,7 +8,7 @@ use Rattle.line_engines.specs.Audited.{AnswersRecord, ClosesWithVerdict, is_audi
 use Rattle.line_engines.specs.AuditedPrivate.{AuditRepresents, an_audit}
 use Rattle.line_engines.specs.Driver.{ClosesAs, RunsOver, StepsUntilEnd, TakesNoMore, TakesSoFar, TakesUntilEnd}
 use Rattle.line_engines.specs.declared.fault.RunFault.TheVariants.{Input, NoMemory}
-use Rattle.line_engines.specs.declared.outcome.RunEnd.{RunEnd}
+use Rattle.line_engines.specs.declared.run_end.RunEnd.{RunEnd}
 use Rattle.line_engines.proofs.Auditing.{left_behind, no_fault, stopped_audit, writes_verdict_all}
 use Rattle.line_engines.proofs.Driving.{RunsOver-closes, RunsOver-err, RunsOver-no_memory, RunsOver-ok, some_step}
 use Rattle.line_engines.proofs.audit_engine.audit.Goals as goal

@@ -1,5 +1,5 @@
 use Rattle.reg_programs.proofs.server.serve.Given as goal
 
 -- the history that was just opened, and the trust domain of the server
-abbrev pub ghosts-serve_history : goal.ghosts-serve_history
-ghosts-serve_history g a = record { history = a.new_history.seen.book; domain = a.kept }
+abbrev pub ghosts-serve_registry : goal.ghosts-serve_registry
+ghosts-serve_registry g a = record { history = a.new_history.seen.book; domain = a.registry_domain }

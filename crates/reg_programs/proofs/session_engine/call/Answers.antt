@@ -54,5 +54,5 @@ returns-else-is_query g c =
       answers = λ t text p.
           let a = printed_as c.submit-outcome.new.seat t c.outcome_of.result _ text learnt p in
           subst (λ (s : Seated). AnswersCall domain c.args.seat.now c.args.request c.args.line s text) (sym a.0)
-          (submitted c.submit-outcome.result (sym c.is_query.ensures.query ∙ c.if-is_query.false) c.submit-outcome.ensures.after_call c.submit-outcome.ensures.heard made a.1);
+          (submitted c.submit-outcome.result (sym c.is_query.ensures.query ∙ c.if-is_query.false) c.submit-outcome.ensures.after_call c.submit-outcome.ensures.seen_learnt made a.1);
     }

@@ -5,12 +5,12 @@ use Rattle.commit_head.specs.Heads.{IsJournal}
 use Rattle.commit_head.specs.Journals.{IsLawfulJournal}
 use Rattle.shared_registry.specs.WriterStates.{IsTied}
 use Rattle.shared_registry.specs.Seated.{Seated}
-use Rattle.shared_registry.specs.Seats.{AllBelow, calls_of}
+use Rattle.shared_registry.specs.SeatCalls.{AllBelow, calls_of}
 use Rattle.shared_registry.specs.ShownPrivate.{IsCounted, ShowsJournal, whole_head}
 use Rattle.shared_registry.specs.Shown.{Shown}
 use Rattle.shared_registry.proofs.Committing.{journal_low, lawful_more, next_fits, place_is, refused_there, shows_more, checkpointed, tied_more, tied_unchanged}
 use Rattle.shared_registry.proofs.Overtaken.{began}
-use Rattle.shared_registry.proofs.Tries.{during_call_joined, during_call_turned}
+use Rattle.shared_registry.proofs.Tries.{during_call_joined, during_call_replaced}
 use Rattle.shared_registry.proofs.commit.decide.Goals as goal
 
 pub prepare-requires-clause-began : goal.prepare-requires-clause-began
@@ -35,8 +35,8 @@ returns-in-Err-clause-decided g c =
     (record { same = refl; seen = c.see.ensures.seen ∙ c.again.ensures; own = c.see.ensures.own })
     c.in-Err.ensures.refused
 
-pub public_states_with-requires-clause-fits : goal.public_states_with-requires-clause-fits
-public_states_with-requires-clause-fits g c =
+pub published_states_with-requires-clause-fits : goal.published_states_with-requires-clause-fits
+published_states_with-requires-clause-fits g c =
     let log = ap (λ (p : Shown). p.journal) c.published-published.ensures ∙ c.requires.published.journal_is in
     let checkpoint_if_full = checkpointed g.J.RegistryId.domain c.args.last.now c.args.head.now c.checkpoint_if_full.new.head c.requires.tied c.checkpoint_if_full.ensures.window c.checkpoint_if_full.ensures.kept c.checkpoint_if_full.ensures.few in
     let tied = tied_unchanged g.J.RegistryId.domain c.args.last.now c.checkpoint_if_full.new.head c.prepare.new.self checkpoint_if_full c.prepare.ensures.is_unchanged in
@@ -89,9 +89,9 @@ snapshots-snapshot-requires-clause-shows g c =
     let lawful = lawful_more g.J.RegistryId.domain c.args.last.now c.in-Ok.prepared.item c.prepare.new.self c.args.seat.now.number c.args.seat.now.calls tied c.len-place.ensures.lawful c.in-Ok.ensures.fits.goes.joins (of_work.seat_is ∙ c.number.ensures.0) (of_work.call_is ∙ c.calls.ensures) below in
     let whole : c.add.new.self ≡ c.args.last.now ++ c.in-Ok.prepared.item ∷ [] = c.if-not-add.ensures ∙ (λ i. c.again-prefix.ensures i ++ c.item.ensures i ∷ []) in
     let goes = next_fits g.J.RegistryId.domain c.args.last.now c.prepare.new.self c.published-published.result.now.window c.in-Ok.prepared tied journal domain c.in-Ok.ensures.fits.goes in
-    let public_state = c.in-Ok-public_states_with.public_states.0 in
-    let counted = subst (λ l. IsCounted public_state.counts (l ++ c.in-Ok.prepared.item ∷ [])) log c.in-Ok-public_states_with.ensures.counts in
-    subst (λ l. ShowsJournal l public_state.window public_state.counts) (sym whole) (shows_more g.J.RegistryId.domain c.args.last.now c.in-Ok.prepared c.published-published.result.now.window public_state.window public_state.counts journal goes c.in-Ok-public_states_with.ensures.window lawful counted)
+    let published_state = c.in-Ok-published_states_with.published_states.0 in
+    let counted = subst (λ l. IsCounted published_state.counts (l ++ c.in-Ok.prepared.item ∷ [])) log c.in-Ok-published_states_with.ensures.counts in
+    subst (λ l. ShowsJournal l published_state.window published_state.counts) (sym whole) (shows_more g.J.RegistryId.domain c.args.last.now c.in-Ok.prepared c.published-published.result.now.window published_state.window published_state.counts journal goes c.in-Ok-published_states_with.ensures.window lawful counted)
 
 pub see-requires-2-clause-seen : goal.see-requires-2-clause-seen
 see-requires-2-clause-seen g c =
@@ -107,10 +107,10 @@ returns-clause-tied g c =
     let whole : c.add.new.self ≡ c.args.last.now ++ c.in-Ok.prepared.item ∷ [] = c.if-not-add.ensures ∙ (λ i. c.again-prefix.ensures i ++ c.item.ensures i ∷ []) in
     subst (λ l. IsTied g.J.RegistryId.domain l c.finish-place.new.self) (sym whole) (tied_more g.J.RegistryId.domain c.args.last.now c.in-Ok.prepared.item c.prepare.new.self c.finish-place.new.self tied c.in-Ok.ensures.fits.goes.joins c.finish-place.ensures.appended few)
 
-pub returns-clause-goes : goal.returns-clause-goes
-returns-clause-goes g c =
-    let goes = during_call_joined c.args.seat.now c.see-2.new.self c.see_own.new.self c.see-2.ensures.goes c.see_own.ensures.goes in
-    during_call_turned c.args.seat.now c.see_own.new.self c.turn_to-before.new.self _ goes c.turn_to-before.ensures
+pub returns-clause-during_call : goal.returns-clause-during_call
+returns-clause-during_call g c =
+    let during_call = during_call_joined c.args.seat.now c.see-2.new.self c.see_own.new.self c.see-2.ensures.during_call c.see_own.ensures.during_call in
+    during_call_replaced c.args.seat.now c.see_own.new.self c.replace_snapshot-before.new.self _ during_call c.replace_snapshot-before.ensures
 
 pub returns-clause-decided : goal.returns-clause-decided
 returns-clause-decided g c =
@@ -130,7 +130,7 @@ returns-clause-decided g c =
           let l = ap length whole in
           let k = length-append c.args.last.now (c.in-Ok.prepared.item ∷ []) in
           omega arith;
-      seen = ap (λ (s : Seated). s.seen) c.turn_to-before.ensures ∙ (c.see_own.ensures.seen ∙ c.again-3.ensures);
-      own = ap (λ (s : Seated). s.own) c.turn_to-before.ensures ∙ (c.see_own.ensures.own ∙ (λ i. c.see-2.ensures.own i ++ c.see-2.ensures.goes.calls i ∷ []));
-      found = ap (λ (s : Seated). s.found) c.turn_to-before.ensures ∙ (ap (λ (p : Shown). p.journal) c.snapshots-snapshot.ensures.same ∙ c.snapshots-snapshot.ensures.journal);
+      seen = ap (λ (s : Seated). s.seen) c.replace_snapshot-before.ensures ∙ (c.see_own.ensures.seen ∙ c.again-3.ensures);
+      own = ap (λ (s : Seated). s.own) c.replace_snapshot-before.ensures ∙ (c.see_own.ensures.own ∙ (λ i. c.see-2.ensures.own i ++ c.see-2.ensures.during_call.calls i ∷ []));
+      found = ap (λ (s : Seated). s.found) c.replace_snapshot-before.ensures ∙ (ap (λ (p : Shown). p.journal) c.snapshots-snapshot.ensures.same ∙ c.snapshots-snapshot.ensures.journal);
     }

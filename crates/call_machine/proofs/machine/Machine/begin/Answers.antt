@@ -49,6 +49,6 @@ returns-clause-ok c =
       in_turn = b.in_turn;
       stage = stage_of_slot later;
       stage_is = b.stage;
-      answer = λ i. Begun n (place i) (b.logged i);
+      answer = λ i. Begun n (place i) (b.status_is i);
       after = state_moved n later c.self.invariant found (c.get_mut.follows.holds later).0 (call_moved n old later (c.self.inside.count + 1) b.batch b.invoked b.turn_is b.replied);
     })

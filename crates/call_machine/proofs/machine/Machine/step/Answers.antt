@@ -48,6 +48,6 @@ returns-clause-ok c =
       mark_is = b.mark_is;
       stage = stage_of_slot later;
       stage_is = b.stage;
-      answer = ap (Stepped n c.in-Ok.read.0) b.logged;
+      answer = ap (Stepped n c.in-Ok.read.0) b.status_is;
       after = state_moved n later c.self.invariant found (c.get_mut.follows.holds later).0 (call_moved n old later old.turn b.batch b.invoked b.turn b.replied);
     })

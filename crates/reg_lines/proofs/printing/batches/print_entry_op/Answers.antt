@@ -1,5 +1,5 @@
 use Rattle.reg_lines.specs.RecordLines.{entry_op_json}
-use Rattle.reg_lines.proofs.Rows.{◌▸◌}
+use Rattle.reg_lines.proofs.JoinedTexts.{◌▸◌}
 use Rattle.reg_lines.proofs.printing.batches.print_entry_op.Goals as goal
 
 pub returns : goal.returns

@@ -1,5 +1,5 @@
 use Rattle.line_devices.proofs.Puts.{Puts-nil}
-use Rattle.reg_lines.proofs.Rows.{◌▸◌}
+use Rattle.reg_lines.proofs.JoinedTexts.{◌▸◌}
 use Rattle.reg_lines.proofs.printing.batches.put_match.Goals as goal
 
 pub returns-in-None : goal.returns-in-None

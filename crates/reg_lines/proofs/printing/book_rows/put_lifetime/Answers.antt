@@ -1,6 +1,6 @@
 use Rattle.reg_lines.proofs.Lifetimes.{lifetime-some, lifetime-none}
 use Rattle.line_devices.proofs.Puts.{Puts-same, Puts-nil}
-use Rattle.reg_lines.proofs.Rows.{◌▸◌}
+use Rattle.reg_lines.proofs.JoinedTexts.{◌▸◌}
 use Rattle.reg_lines.proofs.printing.book_rows.put_lifetime.Goals as goal
 
 pub returns-then-seconds-gt0 : goal.returns-then-seconds-gt0

@@ -1,5 +1,5 @@
 use Rattle.reg_lines.specs.EventAnswers.{commit_json}
-use Rattle.reg_lines.proofs.Rows.{◌▸◌}
+use Rattle.reg_lines.proofs.JoinedTexts.{◌▸◌}
 use Rattle.reg_lines.proofs.printing.events.print_commit.Goals as goal
 
 pub returns : goal.returns

@@ -1,6 +1,6 @@
 use Rattle.reg_lines.proofs.MarkTexts.{group-text}
 use Rattle.line_devices.proofs.Puts.{Puts-same}
-use Rattle.reg_lines.proofs.Rows.{◌▸◌}
+use Rattle.reg_lines.proofs.JoinedTexts.{◌▸◌}
 use Rattle.reg_lines.proofs.printing.marks.print_group.Goals as goal
 
 pub returns : goal.returns

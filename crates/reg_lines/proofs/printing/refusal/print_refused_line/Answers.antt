@@ -1,5 +1,5 @@
 use Rattle.reg_lines.specs.Refusals.{refused_line_json}
-use Rattle.reg_lines.proofs.Rows.{◌▸◌}
+use Rattle.reg_lines.proofs.JoinedTexts.{◌▸◌}
 use Rattle.reg_lines.proofs.printing.refusal.print_refused_line.Goals as goal
 
 pub returns : goal.returns

@@ -1,5 +1,5 @@
 use Rattle.reg_lines.specs.Replies.{page_of}
-use Rattle.reg_lines.proofs.Rows.{◌▸◌}
+use Rattle.reg_lines.proofs.JoinedTexts.{◌▸◌}
 use Rattle.reg_lines.proofs.printing.replies.print_page.Goals as goal
 
 pub returns : goal.returns

@@ -1,4 +1,4 @@
-use Rattle.reg_lines.proofs.Rows.{◌▸◌}
+use Rattle.reg_lines.proofs.JoinedTexts.{◌▸◌}
 use Rattle.reg_lines.proofs.printing.replies.put_detail_of.Goals as goal
 
 pub returns : goal.returns

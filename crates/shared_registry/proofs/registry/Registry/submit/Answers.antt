@@ -9,11 +9,11 @@ loop-preserved g c =
     let i = c.loop.invariant in
     let e = c.in-Err.ensures in
     let once = e.tried.1 in record {
-      goes = during_call_joined c.take_call.new.self c.loop.seat c.attempt.new.seat i.goes e.goes;
+      during_call = during_call_joined c.take_call.new.self c.loop.seat c.attempt.new.seat i.during_call e.during_call;
       own = once.own ∙ i.own;
       batch = e.tried.0 ∙ i.batch;
       place = once.place;
       tries = subst (λ b. WasOvertaken c.take_call.new.self c.attempt.new.seat b (c.loop.counter + 1) c.in-Err.end) (sym e.tried.0)
-          (once_again c.take_call.new.self c.loop.seat c.attempt.new.seat c.loop.batch c.loop.counter c.loop.place c.in-Err.end i.tries i.place i.goes.seen i.goes.learnt e.goes.seen once);
-      heard = λ _. subst (λ l. IsPrefix l c.attempt.new.seat.seen) (sym e.goes.learnt) once.heard;
+          (once_again c.take_call.new.self c.loop.seat c.attempt.new.seat c.loop.batch c.loop.counter c.loop.place c.in-Err.end i.tries i.place i.during_call.seen i.during_call.learnt e.during_call.seen once);
+      seen_learnt = λ _. subst (λ l. IsPrefix l c.attempt.new.seat.seen) (sym e.during_call.learnt) once.seen_learnt;
     }

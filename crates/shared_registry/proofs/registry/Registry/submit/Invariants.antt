@@ -7,10 +7,10 @@ use Rattle.shared_registry.proofs.registry.Registry.submit.Given as goal
 -- each try so far met a conflict, and the seat has no new call of its own
 abbrev pub invariant-loop : goal.invariant-loop
 invariant-loop g l = record {
-  goes : DuringCall l.initial.seat l.seat;
+  during_call : DuringCall l.initial.seat l.seat;
   own : l.seat.own ≡ l.initial.seat.own;
   batch : l.batch ≡ l.initial.batch;
   place : l.place ≡ length l.seat.seen;
   tries : WasOvertaken l.initial.seat l.seat l.batch l.counter l.place;
-  heard : 0 < l.counter → IsPrefix l.seat.learnt l.seat.seen;
+  seen_learnt : 0 < l.counter → IsPrefix l.seat.learnt l.seat.seen;
 }

@@ -2,7 +2,7 @@ use Rattle.std.proofs.Common.{◌≡◌, ◌+◌, ◌∙◌, IfOk, sym, ap, refl
 use mathlib.Core.List.{IsPrefix}
 use Rattle.commit_head.specs.Journals.{IsLawfulJournal}
 use Rattle.shared_registry.specs.Seated.{MaySee, Seated}
-use Rattle.shared_registry.specs.Seats.{AllBelow, calls_of}
+use Rattle.shared_registry.specs.SeatCalls.{AllBelow, calls_of}
 use Rattle.shared_registry.proofs.Calls.{calls_same, below_more}
 use Rattle.shared_registry.proofs.Prefixes.{prefix_self}
 use Rattle.shared_registry.proofs.Results.{ok_any, ok_of}

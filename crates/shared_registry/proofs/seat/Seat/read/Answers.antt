@@ -23,11 +23,11 @@ returns-clause-own g c =
     let more : IsPrefix c.self.inside.seen c.in-Ok.prefix = ok_of _ _ _ c.in-Ok.is c.find-found.ensures.seen in
     calls_same c.self.inside.number _ _ more (sym (count ∙ c.self.invariant.1)) ∙ ap (λ s. s.own) c.self.view_is
 
-pub returns-clause-heard : goal.returns-clause-heard
-returns-clause-heard g c =
+pub returns-clause-seen_learnt : goal.returns-clause-seen_learnt
+returns-clause-seen_learnt g c =
     let learnt : IsPrefix c.self.inside.learnt c.in-Ok.prefix = ok_of _ _ _ c.in-Ok.is c.find-found.ensures.learnt in
-    let heard : IsPrefix c.args.self.now.learnt c.in-Ok.prefix = subst (λ l. IsPrefix l c.in-Ok.prefix) (ap (λ s. s.learnt) c.self.view_is) learnt in
-    ok_any _ c.match-ran.result heard
+    let seen_learnt : IsPrefix c.args.self.now.learnt c.in-Ok.prefix = subst (λ l. IsPrefix l c.in-Ok.prefix) (ap (λ s. s.learnt) c.self.view_is) learnt in
+    ok_any _ c.match-ran.result seen_learnt
 
 pub returns-clause-read : goal.returns-clause-read
 returns-clause-read g c = elim c.match-ran.branch [

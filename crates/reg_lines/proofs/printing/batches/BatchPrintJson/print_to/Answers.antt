@@ -1,5 +1,5 @@
 use Rattle.reg_lines.specs.RecordLines.{batch_json}
-use Rattle.reg_lines.proofs.Rows.{◌▸◌}
+use Rattle.reg_lines.proofs.JoinedTexts.{◌▸◌}
 use Rattle.reg_lines.proofs.printing.batches.BatchPrintJson.print_to.Goals as goal
 
 pub returns : goal.returns

@@ -1,5 +1,5 @@
 use Rattle.reg_lines.specs.RecordLines.{record_json}
-use Rattle.reg_lines.proofs.Rows.{◌▸◌}
+use Rattle.reg_lines.proofs.JoinedTexts.{◌▸◌}
 use Rattle.reg_lines.proofs.printing.records.CallRecordPrintJson.print_to.Goals as goal
 
 pub returns : goal.returns

@@ -30,23 +30,23 @@ IsBelow k (member l e ms) = (slice_cmp nat_cmp k l ≡ Less) × IsBelow k ms
 
 -- the value nests at most n deep, and each object has each key once, in order, in UTF-8; its numbers may be any
 abbrev mutual
-  pub IsFloatFree : ℕ → Data → Type 0
-  IsFloatFree n null = ⊤
-  IsFloatFree n (boolean b) = ⊤
-  IsFloatFree n (number x) = ⊤
-  IsFloatFree n (string s) = ⊤
-  IsFloatFree zero (array ds) = ⊥
-  IsFloatFree (suc n) (array ds) = ItemsAreFloatFree n ds
-  IsFloatFree zero (object ms) = ⊥
-  IsFloatFree (suc n) (object ms) = MembersAreFloatFree n ms
+  pub IsCanonical : ℕ → Data → Type 0
+  IsCanonical n null = ⊤
+  IsCanonical n (boolean b) = ⊤
+  IsCanonical n (number x) = ⊤
+  IsCanonical n (string s) = ⊤
+  IsCanonical zero (array ds) = ⊥
+  IsCanonical (suc n) (array ds) = ItemsAreCanonical n ds
+  IsCanonical zero (object ms) = ⊥
+  IsCanonical (suc n) (object ms) = MembersAreCanonical n ms
 
-  pub ItemsAreFloatFree : ℕ → Items → Type 0
-  ItemsAreFloatFree n no_items = ⊤
-  ItemsAreFloatFree n (item d ds) = IsFloatFree n d × ItemsAreFloatFree n ds
+  pub ItemsAreCanonical : ℕ → Items → Type 0
+  ItemsAreCanonical n no_items = ⊤
+  ItemsAreCanonical n (item d ds) = IsCanonical n d × ItemsAreCanonical n ds
 
-  pub MembersAreFloatFree : ℕ → Members → Type 0
-  MembersAreFloatFree n no_members = ⊤
-  MembersAreFloatFree n (member k d ms) = IsUtf8 k × IsBelow k ms × IsFloatFree n d × MembersAreFloatFree n ms
+  pub MembersAreCanonical : ℕ → Members → Type 0
+  MembersAreCanonical n no_members = ⊤
+  MembersAreCanonical n (member k d ms) = IsUtf8 k × IsBelow k ms × IsCanonical n d × MembersAreCanonical n ms
 
 -- ---- `put` keeps the order
 
@@ -63,17 +63,17 @@ IsBelow-put : (j k : List ℕ) (d : Data) (ms : Members) → slice_cmp nat_cmp j
 IsBelow-put j k d no_members l b = (l, tt)
 IsBelow-put j k d (member m e ms) l b = IsBelow-match _ j (member k d (member m e ms)) (member m d ms) (member m e (put k d ms)) (l, b) (b.0, b.1) (b.0, IsBelow-put j k d ms l b.1)
 
-put_float_free_at : (o : Ordering) (n : ℕ) (k l : List ℕ) (d e : Data) (ms : Members) → slice_cmp nat_cmp k l ≡ o → IsUtf8 k → IsFloatFree n d → MembersAreFloatFree n (member l e ms) → MembersAreFloatFree n (put k d ms)
-    → MembersAreFloatFree n (match_ordering o (member k d (member l e ms)) (member l d ms) (member l e (put k d ms)))
-put_float_free_at Less n k l d e ms is u a h later = (u, (is, IsBelow-later k l ms is h.1), a, h)
-put_float_free_at Equal n k l d e ms is u a h later = (h.0, h.1, a, h.3)
-put_float_free_at Greater n k l d e ms is u a h later =
+put_canonical_at : (o : Ordering) (n : ℕ) (k l : List ℕ) (d e : Data) (ms : Members) → slice_cmp nat_cmp k l ≡ o → IsUtf8 k → IsCanonical n d → MembersAreCanonical n (member l e ms) → MembersAreCanonical n (put k d ms)
+    → MembersAreCanonical n (match_ordering o (member k d (member l e ms)) (member l d ms) (member l e (put k d ms)))
+put_canonical_at Less n k l d e ms is u a h later = (u, (is, IsBelow-later k l ms is h.1), a, h)
+put_canonical_at Equal n k l d e ms is u a h later = (h.0, h.1, a, h.3)
+put_canonical_at Greater n k l d e ms is u a h later =
     let back : slice_cmp nat_cmp l k ≡ Less = nat_list_cmp_total.antisymm l k ∙ ap ordering_reverse is in
     (h.0, IsBelow-put l k d ms back h.1, h.2, later)
 
-pub put-float_free : (n : ℕ) (k : List ℕ) (d : Data) (ms : Members) → IsUtf8 k → IsFloatFree n d → MembersAreFloatFree n ms → MembersAreFloatFree n (put k d ms)
-put-float_free n k d no_members u a h = (u, tt, a, tt)
-put-float_free n k d (member l e ms) u a h = put_float_free_at _ n k l d e ms refl u a h (put-float_free n k d ms u a h.3)
+pub put-canonical : (n : ℕ) (k : List ℕ) (d : Data) (ms : Members) → IsUtf8 k → IsCanonical n d → MembersAreCanonical n ms → MembersAreCanonical n (put k d ms)
+put-canonical n k d no_members u a h = (u, tt, a, tt)
+put-canonical n k d (member l e ms) u a h = put_canonical_at _ n k l d e ms refl u a h (put-canonical n k d ms u a h.3)
 
 -- ---- the parser builds that value
 
@@ -117,7 +117,7 @@ AreAbove-none no_members = tt
 AreAbove-none (member k d ms) = (tt, AreAbove-none ms)
 
 mutual
-  of_json-outline : (n : ℕ) (d : Data) → IsFloatFree n d → IsTyped d → of_json (outline d) ≡ Some d
+  of_json-outline : (n : ℕ) (d : Data) → IsCanonical n d → IsTyped d → of_json (outline d) ≡ Some d
   of_json-outline n null h w = refl
   of_json-outline n (boolean b) h w = refl
   of_json-outline n (number (unsigned x)) h w = ap (option_map number) (number_of-decimal x w)
@@ -129,11 +129,11 @@ mutual
   of_json-outline zero (object ms) h w = absurd h
   of_json-outline (suc n) (object ms) h w = ap (option_map object) (of_members-outline n ms no_members h w (AreAbove-none ms))
 
-  of_items-outline : (n : ℕ) (ds : Items) → ItemsAreFloatFree n ds → ItemsAreTyped ds → of_items (items_outline ds) ≡ Some ds
+  of_items-outline : (n : ℕ) (ds : Items) → ItemsAreCanonical n ds → ItemsAreTyped ds → of_items (items_outline ds) ≡ Some ds
   of_items-outline n no_items h w = refl
   of_items-outline n (item d ds) h w = rw (of_json-outline n d h.0 w.0) (rw (of_items-outline n ds h.1 w.1) refl)
 
-  of_members-outline : (n : ℕ) (ms found : Members) → MembersAreFloatFree n ms → MembersAreTyped ms → AreAbove found ms → of_members (members_outline ms) found ≡ Some (joined found ms)
+  of_members-outline : (n : ℕ) (ms found : Members) → MembersAreCanonical n ms → MembersAreTyped ms → AreAbove found ms → of_members (members_outline ms) found ≡ Some (joined found ms)
   of_members-outline n no_members found h w a = ap Some (sym (joined-nil found))
   of_members-outline n (member k d ms) found h w a =
       ap (option_and_then (λ e. of_members (members_outline ms) (put k e found))) (of_json-outline n d h.2 w.0)
@@ -161,7 +161,7 @@ mutual
   MembersHaveNumbers-outline (member k d ms) w = (HasNumbers-outline d w.0, MembersHaveNumbers-outline ms w.1)
 
 mutual
-  depth-outline : (n : ℕ) (d : Data) → IsFloatFree n d → tree.depth (outline d) ≤ n
+  depth-outline : (n : ℕ) (d : Data) → IsCanonical n d → tree.depth (outline d) ≤ n
   depth-outline n null h = omega arith
   depth-outline n (boolean b) h = omega arith
   depth-outline n (number x) h = omega arith
@@ -171,11 +171,11 @@ mutual
   depth-outline zero (object ms) h = absurd h
   depth-outline (suc n) (object ms) h = omega (arith, members_depth-outline n ms h)
 
-  items_depth-outline : (n : ℕ) (ds : Items) → ItemsAreFloatFree n ds → tree.items_depth (items_outline ds) ≤ n
+  items_depth-outline : (n : ℕ) (ds : Items) → ItemsAreCanonical n ds → tree.items_depth (items_outline ds) ≤ n
   items_depth-outline n no_items h = omega arith
   items_depth-outline n (item d ds) h = omega (arith, depth-outline n d h.0, items_depth-outline n ds h.1)
 
-  members_depth-outline : (n : ℕ) (ms : Members) → MembersAreFloatFree n ms → tree.members_depth (members_outline ms) ≤ n
+  members_depth-outline : (n : ℕ) (ms : Members) → MembersAreCanonical n ms → tree.members_depth (members_outline ms) ≤ n
   members_depth-outline n no_members h = omega arith
   members_depth-outline n (member k d ms) h = omega (arith, depth-outline n d h.2, members_depth-outline n ms h.3)
 
@@ -183,7 +183,7 @@ abbrev whole : Option (json.Json × List Token) → Option Data
 whole o = option_and_then of_json (option_and_then (λ p. json.if_last p.0 p.1) o)
 
 -- the text of a value, with the LF that ends its line, parses to the value
-pub read-line : (n : ℕ) (d : Data) → n ≤ max_depth → IsFloatFree n d → IsTyped d → read (compact_text d ++ 10 ∷ []) ≡ Some d
+pub read-line : (n : ℕ) (d : Data) → n ≤ max_depth → IsCanonical n d → IsTyped d → read (compact_text d ++ 10 ∷ []) ≡ Some d
 read-line n d shallow h w =
     let ts : List Token = tree.json_tokens (outline d) in
     let same : tokens (compact_text d ++ 10 ∷ []) ≡ ts = ap (λ s. tokens (s ++ 10 ∷ [])) (sym (print-outline d)) ∙ tokens-line ts (ArePrintable-json_tokens (outline d) (HasNumbers-outline d w)) in
@@ -203,7 +203,7 @@ ascii-then : (x : ℕ) (xs : List ℕ) → are_ascii (x ∷ []) ≡ true → IsU
 ascii-then x xs e u = IsUtf8-append (x ∷ []) xs (IsUtf8-are_ascii (x ∷ []) e) u
 
 mutual
-  compact-utf8 : (n : ℕ) (d : Data) → IsFloatFree n d → IsTyped d → IsUtf8 (compact_text d)
+  compact-utf8 : (n : ℕ) (d : Data) → IsCanonical n d → IsTyped d → IsUtf8 (compact_text d)
   compact-utf8 n null h w = IsUtf8-are_ascii _ refl
   compact-utf8 n (boolean b) h w = IsUtf8-boolean b
   compact-utf8 n (number (unsigned x)) h w = decimal-utf8 x w
@@ -215,15 +215,15 @@ mutual
   compact-utf8 zero (object ms) h w = absurd h
   compact-utf8 (suc n) (object ms) h w = ascii-then 123 _ refl (members-utf8 n false ms h w)
 
-  items-utf8 : (n : ℕ) (later : Bool) (ds : Items) → ItemsAreFloatFree n ds → ItemsAreTyped ds → IsUtf8 (items_text later ds)
+  items-utf8 : (n : ℕ) (later : Bool) (ds : Items) → ItemsAreCanonical n ds → ItemsAreTyped ds → IsUtf8 (items_text later ds)
   items-utf8 n later no_items h w = IsUtf8-are_ascii _ refl
   items-utf8 n later (item d ds) h w = IsUtf8-append _ _ (comma-utf8 later) (IsUtf8-append _ _ (compact-utf8 n d h.0 w.0) (items-utf8 n true ds h.1 w.1))
 
-  members-utf8 : (n : ℕ) (later : Bool) (ms : Members) → MembersAreFloatFree n ms → MembersAreTyped ms → IsUtf8 (members_text later ms)
+  members-utf8 : (n : ℕ) (later : Bool) (ms : Members) → MembersAreCanonical n ms → MembersAreTyped ms → IsUtf8 (members_text later ms)
   members-utf8 n later no_members h w = IsUtf8-are_ascii _ refl
   members-utf8 n later (member k d ms) h w =
       IsUtf8-append _ _ (comma-utf8 later)
       (IsUtf8-append _ _ (IsUtf8-quoted k h.0) (ascii-then 58 _ refl (IsUtf8-append _ _ (compact-utf8 n d h.2 w.0) (members-utf8 n true ms h.3 w.1))))
 
-pub line-utf8 : (n : ℕ) (d : Data) → IsFloatFree n d → IsTyped d → IsUtf8 (compact_text d ++ 10 ∷ [])
+pub line-utf8 : (n : ℕ) (d : Data) → IsCanonical n d → IsTyped d → IsUtf8 (compact_text d ++ 10 ∷ [])
 line-utf8 n d h w = IsUtf8-append _ _ (compact-utf8 n d h w) (IsUtf8-are_ascii _ refl)

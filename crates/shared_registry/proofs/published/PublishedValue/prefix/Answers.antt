@@ -2,13 +2,13 @@ use Rattle.std.proofs.Common.{◌≡◌, ◌∙◌, ap, length, sym, subst}
 use Rattle.commit_head.specs.Journals.{IsLawfulJournal}
 use Rattle.shared_registry.specs.Shown.{Shown}
 use Rattle.shared_registry.proofs.Showing.{lawful_shown}
-use Rattle.shared_registry.proofs.published.Published.prefix.Goals as goal
+use Rattle.shared_registry.proofs.published.PublishedValue.prefix.Goals as goal
 
 pub of-requires : goal.of-requires
 of-requires g c =
     let i = c.self.invariant in
     let again = c.again.ensures in
-    let domain : c.self.inside.public_state.window.newest.domain ≡ g.J.RegistryId.domain = ap (λ (s : Shown). s.window.newest.domain) c.self.view_is ∙ c.requires.domain_is in (
+    let domain : c.self.inside.published_state.window.newest.domain ≡ g.J.RegistryId.domain = ap (λ (s : Shown). s.window.newest.domain) c.self.view_is ∙ c.requires.domain_is in (
       ap (λ s. s.book) again ∙ (ap (λ (s : Shown). s.history) c.self.view_is ∙ c.requires.history_is),
       i.0 ∙ ap (λ s. length s.log) (sym again),
       subst (IsLawfulJournal g.J.RegistryId.domain) (ap (λ s. s.log) (sym again)) (lawful_shown _ _ _ _ domain i.1),
