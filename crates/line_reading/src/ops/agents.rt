@@ -26,6 +26,7 @@ fn agent_in(
     Ok(Shared::of(alloc, agent)?)
 }
 
+/// Reads a query for an agent. The error is the first fault at a key, or out of memory.
 #[tactic(auto, unfolding(crate::specs::Operations::show_agent_in))]
 pub(super) fn show_agent_in(
     alloc: Global,
@@ -39,6 +40,7 @@ pub(super) fn show_agent_in(
     Ok(Op::ShowAgent(agent))
 }
 
+/// Reads a query for the authorised entries of an agent. The error is the first fault at a key, or out of memory.
 #[tactic(auto, unfolding(crate::specs::Operations::authorised_in))]
 pub(super) fn authorised_in(
     alloc: Global,
@@ -52,6 +54,7 @@ pub(super) fn authorised_in(
     Ok(Op::Authorised(agent))
 }
 
+/// Reads a query for the bundles that an agent's entries name. The error is the first fault at a key, or out of memory.
 #[tactic(auto, unfolding(crate::specs::Operations::trust_in))]
 pub(super) fn trust_in(
     alloc: Global,
@@ -65,6 +68,7 @@ pub(super) fn trust_in(
     Ok(Op::Trust(agent))
 }
 
+/// Reads the set of an agent with its selectors. The error is the first fault at a key, or out of memory.
 #[tactic(auto, unfolding(crate::specs::Operations::set_agent_in))]
 pub(super) fn set_agent_in(
     alloc: Global,
@@ -83,6 +87,7 @@ pub(super) fn set_agent_in(
     }))
 }
 
+/// Reads the drop of an agent. The error is the first fault at a key, or out of memory.
 #[tactic(auto, unfolding(crate::specs::Operations::drop_agent_in))]
 pub(super) fn drop_agent_in(
     alloc: Global,

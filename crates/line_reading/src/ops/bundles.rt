@@ -11,6 +11,7 @@ use serde_json::{Map, Value};
 use spiffe_name::Failure;
 use std::alloc::Global;
 
+/// Reads a query for a bundle. The error is the first fault at a key, or out of memory.
 #[tactic(auto, unfolding(crate::specs::Operations::show_bundle_in))]
 pub(super) fn show_bundle_in(
     alloc: Global,
@@ -25,6 +26,7 @@ pub(super) fn show_bundle_in(
     Ok(Op::ShowBundle(Shared::of(alloc, domain)?))
 }
 
+/// Reads the set of a bundle with its text. The error is the first fault at a key, or out of memory.
 #[tactic(auto, unfolding(crate::specs::Operations::set_bundle_in))]
 pub(super) fn set_bundle_in(
     alloc: Global,

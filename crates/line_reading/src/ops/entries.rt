@@ -75,6 +75,7 @@ pub(super) fn create_in(
     Ok(Op::Create(Shared::of(alloc, entry)?))
 }
 
+/// Reads the update of an entry, with its expected revision if given. The error is the first fault at a key, or out of memory.
 #[tactic(auto, unfolding(crate::specs::Operations::update_in))]
 pub(super) fn update_in(
     alloc: Global,
@@ -106,6 +107,7 @@ pub(super) fn update_in(
     Ok(Op::Update(Shared::of(alloc, entry)?, expected))
 }
 
+/// Reads the delete of an entry, with its expected revision if given. The error is the first fault at a key.
 #[tactic(auto, unfolding(crate::specs::Operations::delete_in))]
 pub(super) fn delete_in(object: &Value, members: &Map<String, Value>) -> Result<Op, Failure<Fault>>
     ensures { Gives (λ op. op) result
@@ -117,6 +119,7 @@ pub(super) fn delete_in(object: &Value, members: &Map<String, Value>) -> Result<
     Ok(Op::Delete(id, expected))
 }
 
+/// Reads a query for an entry. The error is the first fault at a key.
 #[tactic(auto, unfolding(crate::specs::Operations::show_in))]
 pub(super) fn show_in(object: &Value, members: &Map<String, Value>) -> Result<Op, Failure<Fault>>
     ensures { Gives (λ op. op) result
@@ -127,6 +130,7 @@ pub(super) fn show_in(object: &Value, members: &Map<String, Value>) -> Result<Op
     Ok(Op::Show(id))
 }
 
+/// Reads a query for the entries of a parent. The error is the first fault at a key, or out of memory.
 #[tactic(auto, unfolding(crate::specs::Operations::children_in))]
 pub(super) fn children_in(
     alloc: Global,
@@ -141,6 +145,7 @@ pub(super) fn children_in(
     Ok(Op::Children(Shared::of(alloc, parent)?))
 }
 
+/// Reads the prune of entries that expire before a moment. The error is the first fault at a key.
 #[tactic(auto, unfolding(crate::specs::Operations::prune_in))]
 pub(super) fn prune_in(object: &Value, members: &Map<String, Value>) -> Result<Op, Failure<Fault>>
     ensures { Gives (λ op. op) result

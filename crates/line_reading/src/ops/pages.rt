@@ -57,6 +57,7 @@ fn selector_match(
     }
 }
 
+/// Reads a page's filter, whose conditions are optional. The error is the first fault at a key, or out of memory.
 #[tactic(auto, unfolding(crate::specs::Operations::filter_in))]
 fn filter_in(alloc: Global, object: &Value) -> Result<Filter, Failure<Fault>>
     ensures { Gives (λ filter. filter) result (filter_in (view object.now)) }
@@ -75,6 +76,7 @@ fn filter_in(alloc: Global, object: &Value) -> Result<Filter, Failure<Fault>>
     })
 }
 
+/// Reads a query for a page of entries. The error is the first fault at a key, or out of memory.
 #[tactic(auto, unfolding(crate::specs::Operations::page_in))]
 pub(super) fn page_in(
     alloc: Global,

@@ -135,6 +135,7 @@ fn print_entry_op<S: Sink>(
     output.put(b"}");
 }
 
+/// Prints the delete of an entry, with its expected revision if given.
 fn print_delete<S: Sink>(id: &Uuid, expected: &Option<u64>, output: &mut Output<S>)
     ensures { Puts output.old output.new (delete_json id.now expected.now) }
 {
@@ -158,6 +159,7 @@ fn print_keyed_op<T: PrintJson, S: Sink>(key: &str, value: &T, name: &str, outpu
     output.put(b"}");
 }
 
+/// Prints a query for the entries of a parent.
 fn print_children<S: Sink>(parent: &SpiffeId, output: &mut Output<S>)
     ensures { Puts output.old output.new (children_json parent.now) }
 {
@@ -166,6 +168,7 @@ fn print_children<S: Sink>(parent: &SpiffeId, output: &mut Output<S>)
     output.put(b"}");
 }
 
+/// Prints a query for a page. A condition that its filter doesn't have is left out.
 fn print_page_op<S: Sink>(query: &PageQuery, output: &mut Output<S>)
     ensures { Puts output.old output.new (page_op_json query.now) }
 {
@@ -210,6 +213,7 @@ fn put_selectors<S: Sink>(condition: &Option<SelectorMatch>, output: &mut Output
     }
 }
 
+/// Prints the set of an agent with its selectors.
 fn print_set_agent<S: Sink>(agent: &Agent, output: &mut Output<S>)
     ensures { Puts output.old output.new (set_agent_json agent.now) }
 {
@@ -220,6 +224,7 @@ fn print_set_agent<S: Sink>(agent: &Agent, output: &mut Output<S>)
     output.put(b"}");
 }
 
+/// Prints the set of a bundle with its text.
 fn print_set_bundle<S: Sink>(domain: &TrustDomain, text: &Text, output: &mut Output<S>)
     ensures { Puts output.old output.new (set_bundle_json domain.now text.now) }
 {
@@ -230,6 +235,7 @@ fn print_set_bundle<S: Sink>(domain: &TrustDomain, text: &Text, output: &mut Out
     output.put(b"}");
 }
 
+/// Prints the drop of a bundle with its mode.
 fn print_drop_bundle<S: Sink>(domain: &TrustDomain, mode: DropMode, output: &mut Output<S>)
     ensures { Puts output.old output.new (drop_bundle_json domain.now mode) }
 {

@@ -36,6 +36,7 @@ pub fn print_list<T: PrintJson, S: Sink>(items: &[T], output: &mut Output<S>)
     output.put(b"]");
 }
 
+/// Prints the items of a list, with a comma between two of them.
 fn print_items<T: PrintJson, S: Sink>(items: &[T], output: &mut Output<S>)
     ensures { Puts output.old output.new (items_json T.text items.now) }
 {

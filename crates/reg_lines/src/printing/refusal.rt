@@ -33,6 +33,7 @@ pub(crate) fn print_refused_line<S: Sink>(line: u64, code: &str, output: &mut Ou
     output.put(b"}");
 }
 
+/// Prints a fault of a line: its code, the key and the operation, if it has them, and the number of the line.
 fn print_fault<S: Sink>(line: u64, fault: &Fault, output: &mut Output<S>)
     ensures { Puts output.old output.new (fault_json line fault.now) }
 {

@@ -188,6 +188,7 @@ fn put_op_detail<S: Sink>(refusal: &OpRefusal, output: &mut Output<S>)
     }
 }
 
+/// Puts the detail of a refusal, with a comma before its key.
 fn put_detail_of<T: PrintJson, S: Sink>(value: &T, output: &mut Output<S>)
     ensures { Puts output.old output.new (codes ",\"detail\":" ++ T.text value.now) }
 {

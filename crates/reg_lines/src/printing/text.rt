@@ -8,6 +8,7 @@ ghost use Rattle.line_devices.specs.Stream.{Puts};
 
 use line_devices::{Output, Sink};
 
+/// Returns true if a JSON string must escape the byte: one below 32, a quotation mark or a backslash.
 fn needs_escape(byte: u8) -> bool
     ensures { result ≡ needs_escape byte }
 {
@@ -21,6 +22,7 @@ fn escape_at(bytes: &[u8]) -> Option<usize>
     bytes.iter().position(|byte| needs_escape(*byte))
 }
 
+/// Returns the character of a hexadecimal digit, in lower case.
 fn hex_digit(digit: u8) -> u8
     requires { digit < 16 }
     ensures { result ≡ hex_digit digit }
