@@ -50,6 +50,11 @@ impl Book {
         self.children.insert((entry.parent.clone(), entry.id), entry);
     }
 
+    fn update(&mut self, entry: Entry) {
+        self.create(entry);
+        self.place += 1;
+    }
+
     fn children_of<'a>(&'a self, parent: &Arc<str>) -> impl Iterator<Item = &'a Arc<Entry>> {
         self.children.range((parent.clone(), 0)..=(parent.clone(), Id::MAX)).map(|(_, entry)| entry)
     }
@@ -137,17 +142,21 @@ fn selectors(number: u64) -> BTreeSet<Arc<str>> {
     [format!("unix:uid:{number}").into()].into()
 }
 
+fn entry(agent: u64, number: u64) -> Entry {
+    Entry {
+        id: Id::from(agent) << 64 | Id::from(number),
+        parent: agent_id(agent),
+        identity: format!("spiffe://{OWN}/service/{number}").into(),
+        selectors: selectors(number),
+    }
+}
+
 fn filled(agents: u64) -> Book {
     let mut book = Book::default();
     for agent in 0..agents {
         book.set_agent(&agent_id(agent), &selectors(agent));
         for number in 0..ENTRIES {
-            book.create(Entry {
-                id: Id::from(agent) << 64 | Id::from(number),
-                parent: agent_id(agent),
-                identity: format!("spiffe://{OWN}/service/{number}").into(),
-                selectors: selectors(number),
-            });
+            book.create(entry(agent, number));
         }
     }
     book
@@ -175,7 +184,18 @@ fn main() {
             .collect();
         let changing = (writer > 0).then(|| {
             let (agent, selectors) = (agent_id(agents), selectors(agents));
-            scope.spawn(move || Times::of(stop, || book.write().unwrap().set_agent(&agent, &selectors)))
+            let entries = |turn: u64| entry(turn / ENTRIES % agents.max(1), turn % ENTRIES);
+            let mut turn = 0;
+            scope.spawn(move || {
+                Times::of(stop, || match writer {
+                    1 => book.write().unwrap().set_agent(&agent, &selectors),
+                    _ => {
+                        let entry = entries(turn);
+                        turn += 1;
+                        book.write().unwrap().update(entry);
+                    }
+                })
+            })
         });
         thread::sleep(Duration::from_millis(millis));
         stop.store(true, Ordering::SeqCst);

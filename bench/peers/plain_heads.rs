@@ -3,7 +3,7 @@
 //!
 //! A head retains the last 64 versions, and the batch of each commit. It checks nothing, since no other commit comes between.
 
-use super::{Entry, Job, Version, entry_of, id_of, processor_time, started};
+use super::{Entry, Job, Version, entry_of, id_of, processor_time, scattered, started};
 use std::collections::VecDeque;
 use std::ops::Range;
 use std::time::Duration;
@@ -11,6 +11,7 @@ use std::time::Duration;
 const MOST_VERSIONS: usize = 64;
 
 enum Batch {
+    /// Entries that take the place of those with the same ids.
     Creates(Vec<Entry>),
     Deletes(Vec<u128>),
 }
@@ -77,6 +78,22 @@ fn time_commits(job: &Job, head: &mut Head, numbers: Range<u64>) {
     println!("commit-{count} 0 {} {} {}", job.times, wall.as_micros(), processor.as_micros());
 }
 
+/// Commits batches of updates, of entries anywhere in the head; the commits are timed.
+fn time_updates(job: &Job, head: &mut Head, count: u64) {
+    let (mut wall, mut processor) = (Duration::ZERO, Duration::ZERO);
+    for turn in 0..32 + job.times {
+        let first = scattered(turn) % (job.entries.saturating_sub(count)).max(1);
+        let batch = creates(job, first..first + count);
+        let watch = started();
+        head.commit(batch);
+        if turn >= 32 {
+            wall += watch.wall.elapsed();
+            processor += processor_time() - watch.processor;
+        }
+    }
+    println!("update-{count} 0 {} {} {}", job.times, wall.as_micros(), processor.as_micros());
+}
+
 /// Times commits that bring a head to the given number of entries, which name no trust domain.
 pub fn measure(entries: u64) {
     let job = Job {
@@ -91,4 +108,6 @@ pub fn measure(entries: u64) {
     let mut head = filled(&job);
     time_commits(&job, &mut head, 1_000_000..1_000_001);
     time_commits(&job, &mut head, 2_000_000..2_000_064);
+    time_updates(&job, &mut head, 1);
+    time_updates(&job, &mut head, 64);
 }

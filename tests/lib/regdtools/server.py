@@ -14,11 +14,12 @@ class Server:
     """A server of ex.org on a port that the system chooses. Leaving its `with` block kills it if it still runs.
 
     `workers` and `connections` are the options of those names, `words` further options, `descriptors` the limit on open files, and
-    `variables` additions to its environment.
+    `variables` additions to its environment. `path` is the program, by default that of the repository, or a list of words that start it.
     """
 
-    def __init__(self, workers, connections, words=(), descriptors=None, variables=None):
-        self.words = [program(), "serve", "--domain", "ex.org", "--listen", "127.0.0.1:0"]
+    def __init__(self, workers, connections, words=(), descriptors=None, variables=None, path=None):
+        start = path if isinstance(path, list) else [path or program()]
+        self.words = [*start, "serve", "--domain", "ex.org", "--listen", "127.0.0.1:0"]
         self.words += ["--workers", str(workers), "--connections", str(connections), *words]
         self.workers, self.connections, self.descriptors = workers, connections, descriptors
         self.variables = os.environ | (variables or {})
