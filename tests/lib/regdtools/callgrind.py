@@ -102,7 +102,7 @@ class Callgrind:
             # a number is the depth of a recursion
             return costs.setdefault(tuple(part for part in CALLERS.split(name) if not part.isdigit()), Cost())
 
-        events, cost, called, address, in_program = [], None, None, 0, False
+        events, positions, cost, called, address, in_program = [], 2, None, None, 0, False
         for line in text.splitlines():
             key, _, rest = line.partition("=")
             if key == "ob":
@@ -117,11 +117,14 @@ class Callgrind:
                 called.calls += int(rest.split()[0])
             elif line.startswith("events:"):
                 events = line.split()[1:]
+            elif line.startswith("positions:"):
+                positions = len(line.split()) - 1
             elif line[:1] and line[0] in "0123456789+-*":
-                place, _, *numbers = line.split()
+                fields = line.split()
+                place, numbers = fields[0], map(int, fields[positions:])
                 address = address if place == "*" else int(place, 0) + (address if place[0] in "+-" else 0)
                 if called is None:
-                    found = dict(zip(events, map(int, numbers)))
+                    found = dict(zip(events, numbers))
                     cost.instructions += found.get("Ir", 0)
                     cost.misses += found.get("D1mr", 0) + found.get("D1mw", 0)
                     cost.atomics[self.counting.get(address, "others") if in_program else "others"] += found.get("Ge", 0)
