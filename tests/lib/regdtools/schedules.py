@@ -13,6 +13,7 @@ import subprocess
 from regdtools.program import program
 
 IN_FLIGHT = 6
+MOST_BUNDLES = 1024
 IDS = [f"00000000-0000-0000-0000-{n:012d}" for n in range(10)]
 AGENTS = [f"spiffe://ex.org/spire/agent/n{n}" for n in range(5)]
 PARENTS = AGENTS + [f"spiffe://ex.org/w{n}" for n in range(5)]
@@ -197,6 +198,18 @@ class Schedule:
         return json.loads(rest)["order"]
 
 
+class Recorded(Schedule):
+    """A schedule that stores its events."""
+
+    def __init__(self):
+        super().__init__()
+        self.events = []
+
+    def play(self, event):
+        self.events.append(event)
+        return super().play(event)
+
+
 def out_of_turn(draw, run):
     """Returns an event that its call may not permit."""
     return {"event": draw.choice(EVENTS), "call": draw.choice([*range(1, 9), 99])}
@@ -216,3 +229,51 @@ def draw_events(draw, run, most, in_flight=IN_FLIGHT):
         if event["event"] == "invoke":
             event["batch"] = batch(draw, run.commits, [*run.batches.values()])
         run.play(event)
+
+
+def fill(run):
+    """Plays 16 calls that set 64 bundles each, as many as a book may have."""
+    for n in range(MOST_BUNDLES // 64):
+        call = 100 + n
+        # b1.org alone is a domain that the drawn batches name: they set further ones, which a full book refuses
+        names = [f"b{64 * n + i}.org" if n or i == 1 else f"c{i}.org" for i in range(64)]
+        ops = [{"op": "set_bundle", "domain": it, "text": "{}"} for it in names]
+        run.play({"event": "invoke", "call": call, "batch": {"ops": ops}})
+        run.play({"event": "begin", "call": call})
+        while run.states[call] == "running":
+            run.play({"event": "step", "call": call})
+        run.play({"event": "commit", "call": call})
+        run.play({"event": "reply", "call": call})
+    if run.commits != MOST_BUNDLES // 64:
+        raise Wrong("the book isn't full")
+
+
+# ---- checking a played schedule
+
+
+def check_replies(run, order):
+    """Runs the batches through the reference implementation in this order and compares the replies."""
+    lines = "".join(text(run.batches[call]) + "\n" for call in order)
+    plain = subprocess.run([executable(), "plain", "--domain", "ex.org"], input=lines, capture_output=True, text=True, check=True)
+    answers = [json.loads(line) for line in plain.stdout.splitlines()]
+    if len(answers) != len(order):
+        raise Wrong(f"regd plain answers {len(answers)} of {len(order)} lines")
+    for call, answer in zip(order, answers):
+        answer["call"] = call
+        if call in run.replies:
+            if answer != run.replies[call]:
+                raise Wrong(f"regd plain answers {answer}, regd schedule {run.replies[call]}")
+        elif (answer["result"], answer["place"]) != ("committed", run.decided[call]["place"]):
+            raise Wrong(f"regd plain answers {answer}, the commit was {run.decided[call]}")
+
+
+def check_order(run, order):
+    """Checks that the order has the right calls and respects the order in real time."""
+    replied = {call for call, reply in run.replies.items() if reply["result"] != "conflict"}
+    committed = {call for call, answer in run.decided.items() if answer["commit"] == "committed"}
+    if sorted(order) != sorted(replied | committed):
+        raise Wrong(f"the order {order} should have the calls {sorted(replied | committed)}")
+    for index, later in enumerate(order):
+        for earlier in order[:index]:
+            if later in run.replied and run.replied[later] < run.invoked[earlier]:
+                raise Wrong(f"call {later} replied before call {earlier} was invoked, but the order has it later")
