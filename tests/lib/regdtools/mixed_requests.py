@@ -84,9 +84,9 @@ class Pool:
         self.first += [line_of(*({"op": "set_agent", "agent": it, "selectors": ["x:1"]} for it in AGENTS))]
         self.first += [line_of({"op": "create", "id": it, **entry(draw)}) for it in IDS]
 
-    def line(self, draw, newest, is_early):
-        """Returns a line. `newest` is the largest commit number that any client has seen."""
-        if draw.random() < 0.9:
+    def line(self, draw, newest, is_early, queries=0.9):
+        """Returns a line. `newest` is the largest commit number that any client has seen, `queries` the share of read-only batches."""
+        if draw.random() < queries:
             chance = draw.random()
             if chance < 0.02:
                 return line_of({"op": "page", "size": 3, "at": max(0, newest - draw.randint(-1, 70))})

@@ -2,12 +2,13 @@
 
 A file has one block for each table that was written on that day. A block begins with comment lines (`# commit`, `# kit`,
 `# machine`, then notes), followed by a line with the names of the columns and one line for each row. An empty line ends it. Units
-are in the names of the columns; numbers have no separators.
+are in the names of the columns; numbers have no separators. Results that are no table are in bench/results/WHAT.json, a list of runs.
 """
 
 import argparse
 import collections
 import datetime
+import json
 import os
 import pathlib
 import subprocess
@@ -80,6 +81,19 @@ def write(what, columns, rows, folder=FOLDER, notes=()):
     lines = [*(f"# {comment}" for comment in comments), *("\t".join(map(cell, row)) for row in [columns, *rows])]
     with open(path, "a") as file:
         file.write(("\n" if file.tell() else "") + "\n".join(lines) + "\n")
+    return path
+
+
+def add_run(what, values, folder=FOLDER):
+    """Appends a run to the list of runs in the file WHAT.json, which is created if it does not exist, and returns its path.
+
+    The run is an object of `values`, a dictionary, with the commit, the toolchain and the machine.
+    """
+    path = pathlib.Path(folder) / f"{what}.json"
+    path.parent.mkdir(parents=True, exist_ok=True)
+    runs = json.loads(path.read_text()) if path.exists() else []
+    runs.append({**values, "date": datetime.date.today().isoformat(), "commit": commit(), "kit": kit(), "machine": machine()})
+    path.write_text(json.dumps(runs, indent=1) + "\n")
     return path
 
 

@@ -147,6 +147,10 @@ class Schedule:
     def __init__(self):
         words = [executable(), "schedule", "--domain", "ex.org"]
         self.process = subprocess.Popen(words, stdin=subprocess.PIPE, stdout=subprocess.PIPE, text=True)
+        self.begin()
+
+    def begin(self):
+        """Sets what is known before the first event."""
         self.accepted = 0
         self.batches, self.states, self.begun, self.decided, self.replies = {}, {}, {}, {}, {}
         self.invoked, self.replied = {}, {}
@@ -157,7 +161,10 @@ class Schedule:
         """Submits an event, checks its answer and returns it. Raises Wrong if the answer is not the expected one."""
         self.process.stdin.write(text(event) + "\n")
         self.process.stdin.flush()
-        line = self.process.stdout.readline()
+        return self.take(event, self.process.stdout.readline())
+
+    def take(self, event, line):
+        """Checks the answer to an event and returns it. Raises Wrong if the answer is not the expected one."""
         if not line:
             raise Wrong(f"{event} has no answer")
         answer = json.loads(line)

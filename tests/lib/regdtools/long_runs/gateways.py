@@ -1,0 +1,154 @@
+"""Random faults of a site of three gateways under load, of the kinds that gateway/test tries one by one."""
+import collections
+import concurrent.futures
+import json
+import pathlib
+import subprocess
+import tempfile
+import time
+
+from gatewaytools import auditing, cluster, faults, tools
+from regdtools.long_runs import shrinking
+from regdtools.long_runs.pieces import Wrong
+from regdtools.program import program
+
+# faults with the seconds that each takes under load
+LENGTHS = {"killed_regds": 7, "killed_gateways": 8, "killed_leader": 10, "killed_follower": 5, "lost_majority": 9, "stopped_members": 14,
+           "stopped_regd": 5, "hung_regd": 18, "stopped_gateway": 5, "killed_all": 12, "snapshots": 16}
+# faults of replicas and gateways, and faults of etcd, of which one of each may occur at the same time
+OF_REPLICAS = ["killed_regds", "stopped_regd", "stopped_gateway"]
+OF_ETCD = ["killed_leader", "killed_follower", "stopped_members"]
+# after this many acknowledged changes a site ends: a gateway keeps the last 65,536 tokens, and each change is sent again
+MOST_CHANGES = 40_000
+READY_SECONDS = 60
+
+
+def drawn_fault(draw):
+    """Returns one or two faults, the number of callers, and whether they use the port for linearizable reads."""
+    names = [draw.choice(OF_REPLICAS), draw.choice(OF_ETCD)] if draw.random() < 0.3 else [draw.choice(list(LENGTHS))]
+    return {"faults": names, "callers": draw.choice([1, 10, 40]), "fresh": draw.random() < 0.3}
+
+
+def seconds_of(fault):
+    return max(LENGTHS[name] for name in fault["faults"])
+
+
+class Run:
+    """A site under load, and what was found."""
+
+    def __init__(self, programs, folder, counts):
+        self.site = faults.Site(programs, folder)
+        self.programs, self.counts = programs, counts
+        self.played, self.changes = [], 0
+
+    def populate(self):
+        address = f"127.0.0.1:{self.site.gateways[0].port}"
+        subprocess.run([self.programs.load, "-addresses", address, "-populate", "-seconds", "0"], check=True, capture_output=True)
+
+    def play(self, fault):
+        """Plays one or two faults under load, and waits until all gateways are ready again."""
+        number, fresh = len(self.played), fault["fresh"]
+        self.played.append(fault)
+        words = ["-changes", "50", "-think", "5ms", *(["-history"] if fresh else [])]
+        load = self.site.load(seconds_of(fault), *words, fresh=fresh, callers=fault["callers"], record=f"record{number}")
+        time.sleep(1)
+        with concurrent.futures.ThreadPoolExecutor() as pool:
+            for done in [pool.submit(faults.FAULTS[name], self.site) for name in fault["faults"]]:
+                done.result()
+        out, _ = load.communicate(timeout=300)
+        ready = lambda: all(gateway.status()["ready"] for gateway in self.site.gateways)
+        cluster.wait_for(ready, READY_SECONDS, "a gateway that is ready again")
+        self.take(json.loads(out), fresh, self.site.folder / f"record{number}")
+        self.counts.update(fault["faults"])
+
+    def take(self, seen, fresh, record):
+        """Checks what the callers saw, and adds their record to that of the site."""
+        events = record.read_text().splitlines()
+        if seen["back"] or seen["refused"]:
+            raise Wrong(f"{seen['back']} commit numbers went back on a connection, {seen['refused']} changes were refused", None)
+        if fresh:
+            values = [json.loads(line) for line in events]
+            self.counts["linearizable reads"] += sum(bool(value.get("read")) for value in values)
+            if stale := auditing.stale_reads(values):
+                raise Wrong(f"{stale} stale reads", None)
+        with open(self.site.folder / "record", "a") as whole:
+            whole.writelines(line + "\n" for line in events)
+        self.changes += sum('"line":' in line for line in events)
+        self.counts.update({f"answers {key}": seen[key] for key in ("lost", "resent", "repeated")})
+
+    def check(self):
+        """Compares the acknowledged changes with a replay of the log, sends them again, and compares again."""
+        found, acknowledged = faults.checked(self.site)
+        found += faults.sent_again(self.site, acknowledged)
+        found += [f"after the repeats: {fault}" for fault in faults.checked(self.site)[0]]
+        if found:
+            raise Wrong("; ".join(found), None)
+        self.counts["acknowledged changes"] += len(acknowledged)
+
+
+class LongGateway:
+    """Pieces of some minutes. Each has a site of its own, and one random fault after another."""
+
+    name, unit, piece = "gateway", "seconds", 120
+    expected, enough = [*LENGTHS, "linearizable reads"], 3_600
+
+    def prepare(self):
+        """Builds the programs of the gateway into a folder that ends with the run."""
+        tools.need("go", "etcd")
+        self.folder = tempfile.TemporaryDirectory(prefix="long-runs-gateway-")
+        self.programs = tools.build(pathlib.Path(self.folder.name) / "programs", program())
+
+    def run(self, draw, amount, counts):
+        begin = time.monotonic()
+
+        def following(run):
+            is_over = time.monotonic() - begin > amount or run.changes > MOST_CHANGES
+            return None if is_over else drawn_fault(draw)
+
+        self.play(following, counts)
+        counts[self.unit] += round(time.monotonic() - begin)
+
+    def play(self, following, counts):
+        """Plays the faults that `following` returns, up to None, and checks the site."""
+        with tempfile.TemporaryDirectory(dir=self.folder.name) as folder:
+            run = Run(self.programs, folder, counts)
+            with run.site:
+                try:
+                    run.populate()
+                    while fault := following(run):
+                        run.play(fault)
+                    run.check()
+                except Wrong as wrong:
+                    raise Wrong(wrong.reason, run.played) from None
+                except (AssertionError, OSError, RuntimeError, KeyError, subprocess.SubprocessError) as error:
+                    raise Wrong(f"{type(error).__name__}: {error}", run.played) from None
+
+    def fails(self, items):
+        """Plays these faults. Returns what is wrong, or None."""
+        rest = list(items)
+        try:
+            self.play(lambda run: rest.pop(0) if rest else None, collections.Counter())
+        except Wrong as wrong:
+            return wrong.reason
+        return None
+
+    @staticmethod
+    def simpler(fault):
+        yield from ({**fault, "faults": [name]} for name in fault["faults"] if len(fault["faults"]) > 1)
+        yield from [{**fault, "fresh": False}, {**fault, "callers": 1}]
+
+    @staticmethod
+    def group(fault):
+        return None
+
+    @staticmethod
+    def weight(fault):
+        return len(fault["faults"]), fault["fresh"], fault["callers"]
+
+    @staticmethod
+    def bytes_of(fault):
+        return shrinking.compact(fault).encode() + b"\n"
+
+    @staticmethod
+    def item_of(line):
+        return json.loads(line)
