@@ -41,7 +41,7 @@ class Habits:
         self.wrong = draw.choice([0, 0, 0.005, 0.03])
         self.unusual = draw.choice([0, 0.002, 0.02])
         self.optional = draw.choice([0.1, 0.3, 0.6])
-        self.with_token = draw.choice([0, 0.1, 0.5])
+        self.with_token = draw.choice([0, 0.05, 0.3])
         self.again = draw.choice([0, 0.05, 0.2])
         self.past = draw.choice([0, 0.02, 0.2])
         self.with_after = draw.choice([0, 0.05, 0.3])
@@ -49,7 +49,7 @@ class Habits:
         self.most_ops = draw.choice([1, 3, 8])
         self.spelled = draw.choice([0.1, 0.5, 1])
         self.damage = draw.choice([0, 0, 2, 20])
-        self.tokens = draw.choice([10, 1_000, 100_000])
+        self.tokens = draw.choice([30, 1_000, 100_000])
         self.ids = ids
         agents = [f"{tables.HOME}{tables.AGENTS}n{number}" for number in range(agents)]
         workloads = [f"{tables.HOME}/w{number}" for number in range(identities)]

@@ -49,7 +49,7 @@ def run_piece(kind, seed, piece, amount):
 def work(kind, seed, amounts, following, is_over, found):
     """Runs the next piece again and again, in a process of its own."""
     signal.signal(signal.SIGINT, signal.SIG_IGN)
-    signal.signal(signal.SIGTERM, lambda *_: sys.exit(143))  # ends what the piece started
+    signal.signal(signal.SIGTERM, lambda *_: (found.cancel_join_thread(), sys.exit(143)))  # ends what the piece started
     while not is_over.is_set():
         with following.get_lock():
             piece = following.value

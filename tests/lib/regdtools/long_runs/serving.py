@@ -17,8 +17,6 @@ from regdtools.mixed_requests import Pool, changes, line_of
 from regdtools.server import Server
 
 SECONDS = 120.0
-# a run whose threads matter may fail only sometimes: so often a smaller input is tried
-ATTEMPTS = 5
 MOST_BYTES = 4_000
 LOST = "changes whose reply was lost"
 
@@ -220,6 +218,8 @@ class LongServe:
     name, unit, piece = "serve", "requests", 25_000
     expected = [*one_list.KINDS, LOST]
     enough = 1_000_000
+    # how often a smaller input is played, since a failure may depend on the order of the threads
+    attempts = 5
 
     def run(self, draw, amount, counts):
         source = Drawn(draw, amount)
@@ -231,7 +231,7 @@ class LongServe:
 
     def fails(self, items):
         """Plays these lines a few times. Returns what is wrong, or None."""
-        for _ in range(ATTEMPTS):
+        for _ in range(self.attempts):
             try:
                 check(Repeated(items), collections.Counter())
             except one_list.Wrong as wrong:

@@ -30,7 +30,8 @@ def simpler(value):
     if isinstance(value, dict):
         yield from ({key: value[key] for key in value if key != name} for name in value)
         for name in value:
-            yield from ({**value, name: other} for other in simpler(value[name]))
+            if name != "op":  # a part of an operation's name is no operation
+                yield from ({**value, name: other} for other in simpler(value[name]))
     elif isinstance(value, list):
         yield from shorter(value)
         for index, item in enumerate(value):
