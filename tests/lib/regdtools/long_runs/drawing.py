@@ -129,7 +129,7 @@ class Lines:
             if key.drawn:
                 is_absent = self.chance(self.habits.without_id)
             else:
-                is_absent = key.optional and (key.name == "at" or not self.chance(self.habits.optional))
+                is_absent = key.optional and not self.chance(0.03 if key.name == "at" else self.habits.optional)
             if not is_absent and op.get(tables.NEEDS.get(key.name, "op")) is not None:
                 op[key.name] = self.value(key)
         return self.spoiled(op, tables.OP + tables.OPERATIONS[name]) if self.chance(self.habits.wrong) else op
@@ -144,6 +144,8 @@ class Lines:
             if self.found and self.chance(0.3):
                 return draw.choice(self.found)
             return numbered_id(draw.randrange(habits.ids))
+        if key.name == "at":
+            return self.past()
         if key.name == "selectors":
             return draw.sample(habits.selectors, draw.randint(1, min(2, len(habits.selectors))))
         if key.name == "domains":

@@ -178,7 +178,7 @@ class LongLines:
     # what has to occur in a run of at least `enough` lines
     expected = [*"L1 L2 L3 L4 L5 I1 I2 I3 I4 I5 I6 I7 I8 S1 S2 S3 S4 U1".split(), *(f"B{number}" for number in range(1, 15)),
                 *(f"O{number}" for number in range(1, 10)), "W1", "W3", "W4", "W5", "W6", "committed", "answered", "repeated"]
-    enough = 1_000_000
+    enough = 10_000_000
 
     def run(self, draw, amount, counts):
         sent = []
@@ -211,7 +211,7 @@ class LongLines:
         """Returns the lines at the start of a piece: in some they fill the book, or its tokens."""
         if len(lines.habits.pool["agent"]) > drawing.MOST_AGENTS and draw.random() < 0.7:
             return lines.full_book()
-        return lines.all_tokens() if amount == self.piece and draw.random() < 0.03 else ()
+        return lines.all_tokens() if amount == self.piece and draw.random() < 0.04 else ()
 
     def learn(self, lines, answers):
         """Takes the newest commit number and a generated id from answers."""
