@@ -38,7 +38,7 @@ class Habits:
         self.weights = {name: draw.choice([0, 1, 1, 2, 5]) for name in tables.OPERATIONS}
         self.weights["create"] += 1
         self.names = [name for name, weight in self.weights.items() for _ in range(weight)]
-        self.wrong = draw.choice([0, 0, 0.005, 0.03])
+        self.wrong = draw.choice([0, 0, 0.01, 0.1])
         self.unusual = draw.choice([0, 0.002, 0.02])
         self.optional = draw.choice([0.1, 0.3, 0.6])
         self.with_token = draw.choice([0, 0.05, 0.3])
