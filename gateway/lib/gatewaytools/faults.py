@@ -1,10 +1,10 @@
 """Faults under load. Every acknowledged change is compared with a replay of the log, and afterwards sent again through other gateways."""
+import concurrent.futures
 import json
 import os
 import pathlib
 import signal
 import subprocess
-import threading
 import time
 
 from gatewaytools import auditing, cluster, plain
@@ -167,10 +167,10 @@ def snapshots(site):
             site.etcd.store().compact()
             time.sleep(1.5)
 
-    worker = threading.Thread(target=snap)
-    worker.start()
-    killed_gateways(site)
-    worker.join()
+    with concurrent.futures.ThreadPoolExecutor(1) as pool:
+        made_all = pool.submit(snap)
+        killed_gateways(site)
+        made_all.result()
     killed_regds(site)
     site.notes.append(f"{sum(made)} snapshots")
 

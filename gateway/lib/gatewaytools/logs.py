@@ -49,9 +49,13 @@ class Store:
         return int(self.get("head") or b"0")
 
     def compact(self):
-        """Lets etcd forget all values that were replaced or deleted."""
+        """Lets etcd forget all values that were replaced or deleted. Does nothing if nothing was written since the last time."""
         revision = self.call("/v3/kv/range", {"key": self.key("head")})["header"]["revision"]
-        self.call("/v3/kv/compaction", {"revision": revision})
+        try:
+            self.call("/v3/kv/compaction", {"revision": revision})
+        except urllib.error.HTTPError as error:
+            if b"has been compacted" not in error.read():
+                raise
 
     def skips(self):
         """Returns the lines that operators have skipped, as pairs of the number of an entry and of a line in it, from 1."""

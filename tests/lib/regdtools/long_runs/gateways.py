@@ -18,15 +18,17 @@ LENGTHS = {"killed_regds": 7, "killed_gateways": 8, "killed_leader": 10, "killed
 # faults of replicas and gateways, and faults of etcd, of which one of each may occur at the same time
 OF_REPLICAS = ["killed_regds", "stopped_regd", "stopped_gateway"]
 OF_ETCD = ["killed_leader", "killed_follower", "stopped_members"]
-# after this many acknowledged changes a site ends: a gateway keeps the last 65,536 tokens, and each change is sent again
+# After this many acknowledged changes a site ends: a gateway keeps the last 65,536 tokens, and each change is sent again. During one more
+# fault the callers send fewer than 20,000 changes, since each waits 10 milliseconds before each line and half of the lines are changes.
 MOST_CHANGES = 40_000
+CALLERS, PAUSE = [1, 10, 20], "10ms"
 READY_SECONDS = 60
 
 
 def drawn_fault(draw):
     """Returns one or two faults, the number of callers, and whether they use the port for linearizable reads."""
     names = [draw.choice(OF_REPLICAS), draw.choice(OF_ETCD)] if draw.random() < 0.3 else [draw.choice(list(LENGTHS))]
-    return {"faults": names, "callers": draw.choice([1, 10, 40]), "fresh": draw.random() < 0.3}
+    return {"faults": names, "callers": draw.choice(CALLERS), "fresh": draw.random() < 0.3}
 
 
 def seconds_of(fault):
@@ -49,7 +51,7 @@ class Run:
         """Plays one or two faults under load, and waits until all gateways are ready again."""
         number, fresh = len(self.played), fault["fresh"]
         self.played.append(fault)
-        words = ["-changes", "50", "-think", "5ms", *(["-history"] if fresh else [])]
+        words = ["-changes", "50", "-think", PAUSE, *(["-history"] if fresh else [])]
         load = self.site.load(seconds_of(fault), *words, fresh=fresh, callers=fault["callers"], record=f"record{number}")
         time.sleep(1)
         with concurrent.futures.ThreadPoolExecutor() as pool:
