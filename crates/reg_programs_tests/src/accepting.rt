@@ -100,6 +100,19 @@ fn a_thousand_shortages_before_the_first_connection_end_a_server(
     Ok(())
 }
 
+#[test]
+fn no_number_of_errors_of_one_connection_ends_a_server(rt: HostRuntime) -> Result<(), Fail> {
+    for error in RETRIED {
+        if !SHORTAGES.contains(&error) {
+            let errors = errors_of(rt.alloc(), &[(error, 1_100)])?;
+            let plan = plan_of(&errors, 1);
+            let hosted = host(&rt, rt.alloc(), plan, &InTurn(&[FIRST_LINES]))?;
+            is_served(&rt, &hosted, 1_100, 1, FIRST_ANSWERS);
+        }
+    }
+    Ok(())
+}
+
 /// An error of one connection comes in between: there are never a thousand in a row.
 #[test]
 fn fewer_shortages_in_a_row_end_no_server(rt: HostRuntime) -> Result<(), Fail> {

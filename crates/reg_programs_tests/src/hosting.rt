@@ -64,6 +64,10 @@ pub struct NextToASilentOne(pub &'static str);
 #[derive(Drop)]
 pub struct BehindASilentOne(pub &'static str);
 
+/// The same with two clients that wait. When all queues are closed, the port is closed too.
+#[derive(Drop)]
+pub struct TwoBehindASilentOne(pub &'static str, pub &'static str);
+
 impl Callers for InTurn {
     fn call<R: Wait + Clock + Net<Listener = TcpListener, Stream = TcpStream>>(
         &self,
@@ -103,11 +107,36 @@ impl Callers for BehindASilentOne {
         let silent = TcpStream::connect(rt, address)?;
         let waiting = TcpStream::connect(rt, address)?;
         send(&waiting, self.0)?;
-        if !become_closed(rt, queues) {
+        if !become_closed(rt, queues, 1) {
             return Err(io::Error::from(io::ErrorKind::TimedOut));
         }
         drop(silent);
         receive(&waiting, answers)
+    }
+}
+
+impl Callers for TwoBehindASilentOne {
+    fn call<R: Wait + Clock + Net<Listener = TcpListener, Stream = TcpStream>>(
+        &self,
+        rt: &R,
+        address: SocketAddr,
+        queues: &[Queue],
+        answers: &mut String,
+    ) -> io::Result<()> {
+        let silent = TcpStream::connect(rt, address)?;
+        let first = TcpStream::connect(rt, address)?;
+        let second = TcpStream::connect(rt, address)?;
+        send(&first, self.0)?;
+        send(&second, self.1)?;
+        if !become_closed(rt, queues, 2) {
+            return Err(io::Error::from(io::ErrorKind::TimedOut));
+        }
+        if TcpStream::connect(rt, address).is_ok() {
+            return Err(io::Error::from(io::ErrorKind::AddrInUse));
+        }
+        drop(silent);
+        receive(&first, answers)?;
+        receive(&second, answers)
     }
 }
 
@@ -243,7 +272,7 @@ fn both<
     requires seats { vec_len seats ≡ length queues.now }
 {
     let address = real.local_addr()?;
-    let watched = Watched::new(rt, alloc);
+    let watched = Watched::new(rt, alloc, false);
     let context = ServerContext {
         rt: &watched,
         alloc,

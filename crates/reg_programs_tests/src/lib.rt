@@ -9,7 +9,8 @@
 //! - `failing`: runs over a reader or a writer that fails.
 //! - `sessions`: the lines of one connection over memory.
 //! - `hosting`: a server over TCP and its clients, in one process, with a scripted listener and a runtime that counts (`staged`).
-//!   These use it: `serving` (what clients get), `accepting` (errors of `accept`) and `announcing` (the address that is printed).
+//!   These use it: `serving` (what clients get), `accepting` (errors of `accept`) and `announcing` (the printed address, the plan).
+//! - `queueing`: the state of a new queue. `seating`: how many workers get a seat.
 //! - `wanted`: assertions.
 //!
 //! `docs/GLOSSARY.md` explains the terms.
@@ -42,6 +43,8 @@ mod pages;
 #[cfg(test)]
 mod places;
 #[cfg(test)]
+mod queueing;
+#[cfg(test)]
 mod records;
 #[cfg(test)]
 mod refusals;
@@ -49,6 +52,8 @@ mod refusals;
 mod runs;
 #[cfg(test)]
 mod schedules;
+#[cfg(test)]
+mod seating;
 #[cfg(test)]
 mod serving;
 #[cfg(test)]

@@ -2,7 +2,9 @@
 
 ghost use Rattle.std.specs.Prelude.{◌<◌};
 
-use crate::hosting::{BehindASilentOne, Callers, InTurn, NextToASilentOne, Plan, host};
+use crate::hosting::{
+    BehindASilentOne, Callers, InTurn, NextToASilentOne, Plan, TwoBehindASilentOne, host,
+};
 use crate::wanted::{holds, is_text};
 use std::alloc::Global;
 use std::net::{Net, TcpListener, TcpStream};
@@ -41,12 +43,12 @@ const FOURTH_ANSWER: &str =
 const CUT: &str = "{\"ops\":";
 
 /// Creates without an id.
-const TWO_CREATES: &str =
+pub const TWO_CREATES: &str =
     r#"{"ops":[{"op":"create","parent":"spiffe://ex.org/spire/agent/n1","identity":"spiffe://ex.org/a","selectors":["u:1"]}]}
 {"ops":[{"op":"create","parent":"spiffe://ex.org/spire/agent/n1","identity":"spiffe://ex.org/b","selectors":["u:1"]}]}
 "#;
 
-const ONE_CREATE: &str =
+pub const ONE_CREATE: &str =
     r#"{"ops":[{"op":"create","parent":"spiffe://ex.org/spire/agent/n1","identity":"spiffe://ex.org/c","selectors":["u:1"]}]}
 "#;
 
@@ -126,6 +128,14 @@ fn a_worker_keeps_its_seat(rt: HostRuntime) -> Result<(), Fail> {
 fn a_queued_connection_is_served_after_its_queue_was_closed(rt: HostRuntime) -> Result<(), Fail> {
     let callers = BehindASilentOne(FIRST_LINES);
     are_answered(&rt, rt.alloc(), 1, 2, false, &callers, FIRST_ANSWERS)
+}
+
+/// The second one asks for what the first one has made.
+#[test]
+fn queued_connections_are_served_in_order_at_a_closed_port(rt: HostRuntime) -> Result<(), Fail> {
+    let want = format!(in rt.alloc(); "{FIRST_ANSWERS}{FOURTH_ANSWER}")?;
+    let callers = TwoBehindASilentOne(FIRST_LINES, QUESTION);
+    are_answered(&rt, rt.alloc(), 1, 3, false, &callers, want.as_str())
 }
 
 #[test]

@@ -42,14 +42,26 @@ fn fall_asleep<R: Wait + Clock>(rt: &R, queues: &[Queue]) -> bool {
     false
 }
 
-/// Waits until each queue is closed. Returns false on a timeout.
-pub fn become_closed<R: Wait + Clock>(rt: &R, queues: &[Queue]) -> bool {
-    for _ in 0..TURNS {
-        let mut are_closed = true;
-        for queue in queues {
-            are_closed = are_closed && queue.state(rt).is_closed;
+/// Returns true if each queue is in this state at this moment.
+fn are_in<R: Wait>(rt: &R, queues: &[Queue], state: QueueState) -> bool {
+    for queue in queues {
+        if queue.state(rt) != state {
+            return false;
         }
-        if are_closed {
+    }
+    true
+}
+
+/// Waits until each queue is closed, its worker serves a connection, and this many connections wait behind that one. Returns false
+/// on a timeout.
+pub fn become_closed<R: Wait + Clock>(rt: &R, queues: &[Queue], waiting: usize) -> bool {
+    let state = QueueState {
+        waiting,
+        has_worker: false,
+        is_closed: true,
+    };
+    for _ in 0..TURNS {
+        if are_in(rt, queues, state) {
             return true;
         }
         thread::sleep(rt, Duration::from_millis(1));
@@ -87,28 +99,31 @@ impl<R: Wait + Clock> OpenListener for Staged<'_, R> {
     }
 }
 
-/// A runtime that counts pauses and makes none. It stores what is printed, and the address of the listener that was made last.
+/// A runtime that counts pauses of ten milliseconds and makes none. It stores what is printed, and the address of the listener
+/// that was made last. If it is full, it can't print.
 #[derive(Drop)]
 pub struct Watched<'a, R> {
     rt: &'a R,
     alloc: Global,
+    is_full: bool,
     pauses: AtomicU64,
     printed: Mutex<String>,
     bound: Mutex<Option<SocketAddr>>,
 }
 
 impl<'a, R> Watched<'a, R> {
-    pub fn new(rt: &'a R, alloc: Global) -> Watched<'a, R> {
+    pub fn new(rt: &'a R, alloc: Global, is_full: bool) -> Watched<'a, R> {
         Watched {
             rt,
             alloc,
+            is_full,
             pauses: AtomicU64::new(0),
             printed: Mutex::new(String::new(alloc)),
             bound: Mutex::new(None),
         }
     }
 
-    /// The number of pauses that were requested.
+    /// The number of pauses of ten milliseconds that were requested.
     pub fn pauses(&self) -> u64 {
         self.pauses.load(Ordering::SeqCst)
     }
@@ -125,8 +140,16 @@ impl<R: Wait> Watched<'_, R> {
         *self.bound.lock(self.rt)
     }
 
+    /// Returns true if something was printed.
+    pub fn has_printed(&self) -> bool {
+        !self.printed.lock(self.rt).is_empty()
+    }
+
     /// Appends a text and an end to what is printed.
     fn add(&self, text: &str, end: &str) -> io::Result<()> {
+        if self.is_full {
+            return Err(io::Error::from(io::ErrorKind::WriteZero));
+        }
         let mut printed = self.printed.lock(self.rt);
         printed.push_str(text)?;
         printed.push_str(end)?;
@@ -147,8 +170,10 @@ impl<R: Clock> Clock for Watched<'_, R> {
         self.rt.since_1970()
     }
 
-    fn sleep(&self, _duration: Duration) {
-        self.pauses.fetch_add(1, Ordering::SeqCst);
+    fn sleep(&self, duration: Duration) {
+        if duration == Duration::from_millis(10) {
+            self.pauses.fetch_add(1, Ordering::SeqCst);
+        }
     }
 }
 
