@@ -22,7 +22,7 @@ class Serving(Session):
     """Runs of `regd serve` with one worker. The first connection is served; the second one is silent, and the others wait behind it."""
 
     def outputs(self, fail=0):
-        """Returns the status (None if the server didn't end), the answers on each connection with requests, and the text on standard error."""
+        """Returns the status (None if the server didn't end), the answers on each connection with requests, and what standard error got."""
         words = [self.program, "serve", "--domain", self.domain, "--listen", "127.0.0.1:0"]
         words += ["--workers", "1", "--connections", str(WAITING + 2)]
         with subprocess.Popen(words, stdout=subprocess.PIPE, stderr=subprocess.PIPE, env=self.variables(fail)) as server:

@@ -1,5 +1,6 @@
 """Fault injection in runs over request lines: `regd plain`, or one connection of `regd serve`."""
 
+import errno
 import json
 import pathlib
 import socket
@@ -54,7 +55,10 @@ def exchange(address, text):
             connection.shutdown(socket.SHUT_WR)
             with connection.makefile("rb") as answers:
                 return answers.read()
-    except ConnectionError:
+    except OSError as error:
+        # after a reset, an end of the connection can't be shut down: it isn't connected any more
+        if not isinstance(error, ConnectionError) and error.errno != errno.ENOTCONN:
+            raise
         return b""
 
 
