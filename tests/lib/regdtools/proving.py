@@ -25,6 +25,8 @@ LINES_A_SECOND = 20
 # the most memory that the proof of a crate takes, in bytes
 MEMORY_OF_A_PROOF = 5_000_000_000
 SECONDS_BETWEEN_REPORTS = 60
+# the first toolchain whose `rt ci` stores what it has proved, so that later runs take it over
+FIRST_THAT_STORES = "rattle-kit-13f"
 # what `rt ci` prints of a crate when it is proved, or was proved before
 PROVED = re.compile(r"rt: (\w+) (?:proved|is kept: .*)\n")
 COLUMNS = ["crate", "seconds", "lines"]
@@ -60,6 +62,11 @@ class Run:
 
     def printed(self):
         return self.log.read_text(errors="replace")
+
+
+def stores_proofs():
+    """Returns whether `rt ci` of this toolchain stores proved crates for later runs."""
+    return subprocess.run(["rt", "version"], capture_output=True, text=True, check=True).stdout >= FIRST_THAT_STORES
 
 
 def estimate(name, lines):
@@ -151,6 +158,8 @@ class Prover:
         memory = os.sysconf("SC_PAGE_SIZE") * os.sysconf("SC_PHYS_PAGES")
         # how many runs at a time: the longest chain takes half of the processors, and each other run one
         self.most = max(1, min(report.processors // 2 + 1, memory // MEMORY_OF_A_PROOF))
+        # with several runs, each of them would prove the crates below its own again
+        self.is_one_run = not stores_proofs()
 
     def lacking(self, proof, group=()):
         """Returns what has to be proved before a crate and is neither proved nor in this group."""
@@ -191,7 +200,9 @@ class Prover:
 
     def start_ready(self):
         """Starts as many runs as there are processors and memory for. The longest chain has a run of its own, with several jobs. The others
-        get one job each and a lower priority, unless they are few."""
+        get one job each and a lower priority, unless they are few. If the toolchain stores no proofs, one run proves all crates."""
+        if self.is_one_run and not self.runs:
+            return self.start([*self.proofs.values()], True)
         while (ready := self.ready()) and len(self.runs) < self.most:
             chains = [proof.chain for run in self.runs for proof in run.proofs if proof.ended is None]
             if ready[0].chain >= max(chains, default=0.0):
