@@ -78,7 +78,12 @@ fn serve_registry<
     requires workers { 0 < server.plan.workers }
 {
     let Server { domain, seed, plan } = server;
-    let registry = Registry::<J>::new(alloc, new_history, registry_domain)?;
+    let registry = Registry::<J>::with_seats(
+        alloc,
+        new_history,
+        registry_domain,
+        plan.workers as usize,
+    )?;
     let context = ServerContext {
         rt,
         alloc,

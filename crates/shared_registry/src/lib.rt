@@ -6,8 +6,8 @@
 //! left. What a seat has seen only grows, is always a lawful journal, and begins with all that it learnt from the receipts
 //! of others. So the answers to callers that meet agree with one list of committed batches.
 //!
-//! - [`Registry`]: the state that the threads share. [`Seat`]: one caller, with what it has seen; [`NoSeat`]: there are 32
-//!   already.
+//! - [`Registry`]: the state that the threads share. [`Seat`]: one caller, with what it has seen; [`NoSeat`]: all are
+//!   given.
 //! - [`Outcome`]: the outcome of a batch of changes. [`Gate`]: a test hook at each [`Point`] of a try; [`OpenGate`] does
 //!   nothing.
 //! - [`Answer`]: the reply to a query. [`NoAnswer`] and [`NoEntry`]: why a query, or a request for news, has no answer.

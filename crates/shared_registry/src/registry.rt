@@ -25,6 +25,9 @@ use spiffe_name::TrustDomain;
 use std::alloc::{AllocError, Global};
 use std::sync::{Mutex, MutexGuard, Wait};
 
+// A registry has at most this number of seats.
+const MOST_SEATS: usize = 32;
+
 /// Returns true if the batch of this reply was committed before.
 fn is_repeat(reply: &Reply) -> bool
     ensures { result ≡ is_repeated reply.now.outcome }
@@ -68,8 +71,8 @@ pub struct Registry<J: RegistryId> {
 impl<J: RegistryId> Registry<J> {
     ghost use Rattle.std.specs.Prelude.{◌≡◌, ◌<◌, ◌≤◌, ◌^◌, [], length, IfOk, MatchResult, true, false};
 
-    /// Makes the registry of a history that was just opened, with the empty book of a trust domain. The error is out of
-    /// memory.
+    /// Makes the registry of a history that was just opened, with the empty book of a trust domain and 32 seats. The error
+    /// is out of memory.
     pub fn new(
         alloc: Global,
         new_history: NewHistory,
@@ -78,16 +81,31 @@ impl<J: RegistryId> Registry<J> {
         requires history { new_history.seen.book ≡ J.history }
         requires domain { domain ≡ J.domain }
     {
+        Registry::with_seats(alloc, new_history, domain, MOST_SEATS)
+    }
+
+    /// Makes the registry of a history that was just opened, with the empty book of a trust domain and this number of seats,
+    /// at most 32. A commit makes a few steps for each seat, also for one that isn't given. The error is out of memory.
+    pub fn with_seats(
+        alloc: Global,
+        new_history: NewHistory,
+        domain: TrustDomain,
+        seats: usize,
+    ) -> Result<Registry<J>, AllocError>
+        requires history { new_history.seen.book ≡ J.history }
+        requires domain { domain ≡ J.domain }
+        requires seats { 0 < seats }
+    {
         let (history, prefix) = new_history.named::<J>();
-        let state = WriterState::new(alloc, domain, prefix)?;
+        let state = WriterState::new(alloc, domain, prefix, seats.min(MOST_SEATS))?;
         Ok(Registry {
             history,
             state: Mutex::new(state),
         })
     }
 
-    /// Returns a seat for one more caller, which has seen nothing and made no call. The error is that there are 32 already,
-    /// no reader is available, or a reference count can't grow. It waits for the lock, and no clause says when it gets it.
+    /// Returns a seat for one more caller, which has seen nothing and made no call. The error is that all seats are given, no
+    /// reader is available, or a reference count can't grow. It waits for the lock, and no clause says when it gets it.
     pub fn seat<R: Wait>(&self, rt: &R) -> Result<Seat<J>, NoSeat>
         ensures { IfOk result (λ s. (s.seen ≡ []) × (s.learnt ≡ []) × (s.own ≡ []) × (s.calls ≡ 0)) }
     {

@@ -26,24 +26,25 @@ use std::sync::Wait;
 /// The writer of the published value.
 pub(crate) type PublishedWriter<J> = Writer<PublishedValue, PublishedValue, View, PublishedRule<J>>;
 
-/// Why a caller got no seat: there are 32 already, no reader is available, or a reference count can't grow.
+/// Why a caller got no seat: all seats of the registry are given, no reader is available, or a reference count can't grow.
 #[derive(Clone, Copy, Debug, PartialEq, Eq, Drop)]
 pub struct NoSeat;
 
 /// State guarded by the registry's writer lock: the head, the writer, the published states of the last commits, the number of
-/// seats, and the whole journal. The model in contracts is the journal.
+/// seats given, that of all seats, and the whole journal. The model in contracts is the journal.
 pub(crate) struct WriterState<J: RegistryId> {
     alloc: Global,
     head: Head,
     writer: Option<PublishedWriter<J>>,
     recent: Recent,
     seats: usize,
+    most: usize,
     start: HistoryPrefix<J>,
     last: HistoryPrefix<J>,
 }
 
 impl<J: RegistryId> Model for WriterState<J> {
-    ghost use Rattle.std.specs.Prelude.{◌≡◌, List, [], IsSome, IfSome, drop};
+    ghost use Rattle.std.specs.Prelude.{◌≡◌, ◌≤◌, List, [], IsSome, IfSome, drop};
     ghost use Rattle.commit_head.specs.declared.item.Item.{Item};
     ghost use Rattle.shared_registry.specs.WriterStates.{IsPublished, IsTied};
 
@@ -51,33 +52,36 @@ impl<J: RegistryId> Model for WriterState<J> {
 
     ghost view = { λ c. c.last };
 
-    ghost invariant = { λ c. IsTied J.domain c.last c.head × (c.start ≡ []) × IsSome c.writer × IfSome c.writer (λ w. IsPublished J.history J.domain c.last w.desk.shown.value × (drop w.behind w.log.items ≡ [])) };
+    ghost invariant = { λ c. IsTied J.domain c.last c.head × (c.most ≤ 32) × (c.start ≡ []) × IsSome c.writer × IfSome c.writer (λ w. IsPublished J.history J.domain c.last w.desk.shown.value × (drop w.behind w.log.items ≡ [])) };
 }
 
 impl<J: RegistryId> WriterState<J> {
-    ghost use Rattle.std.specs.Prelude.{◌≡◌, ◌≤◌, [], IfOk};
+    ghost use Rattle.std.specs.Prelude.{◌≡◌, ◌≤◌, ◌<◌, [], IfOk};
 
-    /// Makes the state of an empty book of the trust domain. The error is out of memory.
+    /// Makes the state of an empty book of the trust domain, with this number of seats. The error is out of memory.
     pub(crate) fn new(
         alloc: Global,
         domain: TrustDomain,
         prefix: HistoryPrefix<J>,
+        most: usize,
     ) -> Result<WriterState<J>, AllocError>
         requires prefix { prefix ≡ [] }
         requires domain { domain ≡ J.domain }
+        requires most { (0 < most) × (most ≤ 32) }
         ensures { IfOk result (λ c. c ≡ []) }
     {
         let head = Head::new(alloc, domain)?;
         let first = opening(alloc, &prefix, &head)?;
         let second = first.again()?;
         let recent = Recent::none(alloc)?;
-        let writer = PublishedWriter::<J>::new(alloc, first, second, 32)?;
+        let writer = PublishedWriter::<J>::new(alloc, first, second, most)?;
         Ok(WriterState {
             alloc,
             head,
             writer: Some(writer),
             recent,
             seats: 0,
+            most,
             start: prefix.again(),
             last: prefix,
         })
@@ -92,7 +96,7 @@ impl<J: RegistryId> WriterState<J> {
             unreachable!()
         };
         let number = self.seats;
-        if number >= 32 {
+        if number >= self.most {
             return Err(NoSeat);
         }
         let Ok(snapshot) = writer.published().again() else {
@@ -175,6 +179,7 @@ impl<J: RegistryId> WriterState<J> {
             writer,
             recent: _,
             seats: _,
+            most: _,
             start: _,
             last: _,
         } = self;

@@ -43,12 +43,13 @@ fn plays_at<J: RegistryId + Send + Sync, R: Threads + Wait + Clock + Abort + Pri
     new_history: NewHistory,
     domain: TrustDomain,
     own_domain: TrustDomain,
+    seats: Option<usize>,
     play: Play,
 ) -> Result<(), Failed>
     requires history { new_history.seen.book ≡ J.history }
     requires domain { (domain ≡ J.domain) × (own_domain ≡ J.domain) }
 {
-    let site = Site::<J, R>::open(rt, alloc, new_history, domain, own_domain)?;
+    let site = Site::<J, R>::open(rt, alloc, new_history, domain, own_domain, seats)?;
     let played = plays_on(&site, play);
     site.close();
     played
@@ -58,11 +59,20 @@ fn plays_at<J: RegistryId + Send + Sync, R: Threads + Wait + Clock + Abort + Pri
 fn plays_anew<R: Threads + Wait + Clock + Abort + Print + Sync>(
     rt: &R,
     alloc: Global,
+    seats: Option<usize>,
     play: Play,
 ) -> Result<(), Fail> {
     let domain = trust_domain(alloc, "ex.org")?;
     let own_domain = domain.clone()?;
-    let played = plays_at::<Brand, R>(rt, alloc, NewHistory::new(), domain, own_domain, play);
+    let played = plays_at::<Brand, R>(
+        rt,
+        alloc,
+        NewHistory::new(),
+        domain,
+        own_domain,
+        seats,
+        play,
+    );
     as_fail(played)
 }
 
@@ -72,7 +82,17 @@ pub fn plays<R: Threads + Wait + Clock + Abort + Print + Sync>(
     alloc: Global,
     script: &str,
 ) -> Result<(), Fail> {
-    plays_anew(rt, alloc, Play::Script(script))
+    plays_anew(rt, alloc, None, Play::Script(script))
+}
+
+/// Runs a script at a site with this number of seats.
+pub fn plays_with_seats<R: Threads + Wait + Clock + Abort + Print + Sync>(
+    rt: &R,
+    alloc: Global,
+    seats: usize,
+    script: &str,
+) -> Result<(), Fail> {
+    plays_anew(rt, alloc, Some(seats), Play::Script(script))
 }
 
 /// Runs a talk of eight threads, with the expected number of calls of each kind of reply.
@@ -82,5 +102,5 @@ pub fn talks<R: Threads + Wait + Clock + Abort + Print + Sync>(
     talk: Talk,
     counts: &str,
 ) -> Result<(), Fail> {
-    plays_anew(rt, alloc, Play::Talk(talk, counts))
+    plays_anew(rt, alloc, None, Play::Talk(talk, counts))
 }

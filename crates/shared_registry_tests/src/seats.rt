@@ -1,6 +1,6 @@
 //! What does a seat see, how many seats are there, and how many items of a long journal are stored?
 
-use crate::plays::plays;
+use crate::plays::{plays, plays_with_seats};
 use std::test::Fail;
 
 /// Each outcome and each reply that one seat alone can have.
@@ -103,6 +103,20 @@ GONE
 LEFT => none
 ";
 
+/// A registry for three seats gives no fourth one.
+const THREE_SEATS: &str = "\
+NEW => number 0; place 0; calls 0
+NEW => number 1; place 0; calls 0
+0 create 1 n1 /web u:1 0 => committed at 1; entry 1.0
+NEW => number 2; place 0; calls 0
+LEFT => none
+2 show 1 => answered at 1; shown 1.0
+1 delete 1 => committed at 2; entry 1.0
+0 show 1 => answered at 2; none
+GONE
+LEFT => none
+";
+
 /// A commit that finds 4,096 stored items first drops all but the last 64.
 const CHECKPOINT: &str = "\
 NEW
@@ -115,6 +129,10 @@ KEPT => 65
 0 TIMES 903 set_agent n1 x:1 => committed at 5000; agent n1 1
 0 SEAT => number 0; place 5000; calls 5000
 KEPT => 968
+0 TIMES 3128 set_agent n1 x:1 => committed at 8128; agent n1 1
+KEPT => 4096
+0 set_agent n1 x:1 => committed at 8129; agent n1 1
+KEPT => 65
 ";
 
 #[test]
@@ -135,6 +153,16 @@ fn a_seat_has_found_its_own_commit(rt: HostRuntime) -> Result<(), Fail> {
 #[test]
 fn there_are_32_seats(rt: HostRuntime) -> Result<(), Fail> {
     plays(&rt, rt.alloc(), ALL_SEATS)
+}
+
+#[test]
+fn a_registry_has_the_number_of_seats_that_it_was_made_with(rt: HostRuntime) -> Result<(), Fail> {
+    plays_with_seats(&rt, rt.alloc(), 3, THREE_SEATS)
+}
+
+#[test]
+fn no_registry_has_33_seats(rt: HostRuntime) -> Result<(), Fail> {
+    plays_with_seats(&rt, rt.alloc(), 33, ALL_SEATS)
 }
 
 #[test]

@@ -127,18 +127,22 @@ pub struct Site<'a, J: RegistryId, R: Wait + Clock> {
 impl<'a, J: RegistryId, R: Wait + Clock> Site<'a, J, R> {
     ghost use Rattle.std.specs.Prelude.{◌≡◌};
 
-    /// A site with this history and trust domain, which is passed twice.
+    /// A site with this history and trust domain, which is passed twice, and this number of seats, or all.
     pub fn open(
         rt: &'a R,
         alloc: Global,
         new_history: NewHistory,
         domain: TrustDomain,
         own_domain: TrustDomain,
+        seats: Option<usize>,
     ) -> Result<Site<'a, J, R>, Failed>
         requires history { new_history.seen.book ≡ J.history }
         requires domain { (domain ≡ J.domain) × (own_domain ≡ J.domain) }
     {
-        let registry = Registry::<J>::new(alloc, new_history, domain)?;
+        let registry = match seats {
+            None => Registry::<J>::new(alloc, new_history, domain)?,
+            Some(seats) => Registry::<J>::with_seats(alloc, new_history, domain, seats.max(1))?,
+        };
         match mailboxes(alloc) {
             Ok(mailboxes) => Ok(Site {
                 rt,
