@@ -3,7 +3,7 @@
 use crate::telling::{commit_text, item_text};
 use crate::test_head::TestHead;
 use crate::wanted::is_text;
-use commit_head::Commit;
+use commit_head::{Commit, Item};
 use std::alloc::{AllocError, Global};
 use std::process::Abort;
 use std::test::Fail;
@@ -103,6 +103,24 @@ fn state_text(alloc: Global, test_head: &TestHead) -> Result<String, Fail> {
     Ok(format!(in alloc; "place {place} kept {kept} newest {newest}")?)
 }
 
+/// The numbers of the calls of these items: the first one, the last one, and how many there are.
+fn calls_text(alloc: Global, items: &[Item]) -> Result<String, Fail> {
+    let count = items.len();
+    match (items.first(), items.last()) {
+        (Some(first), Some(last)) => {
+            Ok(format!(in alloc; "calls {} to {}, {count} in all", first.call, last.call)?)
+        }
+        _ => Ok(String::from_str(alloc, "none")?),
+    }
+}
+
+/// What a checkpoint moves to a list.
+fn moved_text(alloc: Global, test_head: &mut TestHead) -> Result<String, Fail> {
+    let mut older = Vec::with_capacity(alloc, 64)?;
+    test_head.checkpoint_into(&mut older);
+    calls_text(alloc, older.as_slice())
+}
+
 fn answer_to(alloc: Global, test_head: &mut TestHead, words: &[&str]) -> Result<String, Fail> {
     match word(words, 0) {
         "COMMIT" => commits(alloc, test_head, words),
@@ -110,6 +128,7 @@ fn answer_to(alloc: Global, test_head: &mut TestHead, words: &[&str]) -> Result<
         "ITEM" => item(alloc, test_head, number(words, 1)?),
         "HEAD" => state_text(alloc, test_head),
         "CHECKPOINT" => number_text(alloc, test_head.checkpoint()),
+        "CHECKPOINT-INTO" => moved_text(alloc, test_head),
         _ => Err(Fail::from("no such question")),
     }
 }
@@ -152,8 +171,9 @@ fn plays_line(
 /// Plays a table, beginning with the empty book. `BEGIN` begins a work, which waits after the others. A line with a
 /// question has ` => ` and the expected answer: `COMMIT` and `COMMIT-IN-TWO`, with an index from 0 among the waiting works,
 /// a seat and a call, commit this work and remove it from the waiting ones; `ITEM` gives an item of the journal, `HEAD` the
-/// place, the journal and the window, `CHECKPOINT` the number of dropped items. `AGAIN` and a number begin and commit a
-/// batch that many times. Any other line that isn't empty is a batch to begin and commit immediately.
+/// place, the journal and the window, `CHECKPOINT` the number of dropped items, `CHECKPOINT-INTO` the calls of those moved
+/// to a list. `AGAIN` and a number begin and commit a batch that many times. Any other line that isn't empty is a batch to
+/// begin and commit immediately.
 pub fn plays(rt: &impl Abort, alloc: Global, table: &str) -> Result<(), Fail> {
     let mut test_head = first_test_head(alloc)?;
     for line in table.lines() {

@@ -6,7 +6,7 @@ ghost use Rattle.batch_work.specs.declared.status.Status.TheVariants as status;
 ghost use Rattle.commit_head.specs.Heads.{BeganOn, IsCommit};
 
 use batch_work::{Status, Work};
-use commit_head::{Commit, Head};
+use commit_head::{Commit, Head, Item};
 use entry_book::Batch;
 use spiffe_name::TrustDomain;
 use std::alloc::{AllocError, Global};
@@ -97,7 +97,7 @@ impl Model for TestHead {
 }
 
 impl TestHead {
-    ghost use Rattle.std.specs.Prelude.{◌≡◌, IfOk};
+    ghost use Rattle.std.specs.Prelude.{◌≡◌, ◌≤◌, [], IfOk, vec_capacity};
     ghost use Rattle.batch_work.specs.Working.{status_of};
     ghost use Rattle.batch_work.specs.declared.status.Status.TheVariants as status;
     ghost use Rattle.commit_head.specs.Heads.{BeganOn};
@@ -172,5 +172,13 @@ impl TestHead {
     /// Drops all but the last 64 items of the journal (the commit log).
     pub fn checkpoint(&mut self) -> u64 {
         self.head.checkpoint()
+    }
+
+    /// Removes the same items, and moves them to the end of the list, which is empty.
+    pub fn checkpoint_into(&mut self, older: &mut Vec<Item>)
+        requires empty { older.old.items ≡ [] }
+        requires room { 64 ≤ vec_capacity older.old }
+    {
+        self.head.checkpoint_into(older);
     }
 }

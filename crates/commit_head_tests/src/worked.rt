@@ -172,6 +172,27 @@ CHECKPOINT => 0
 HEAD => place 101 kept 64 newest 101
 ";
 
+/// A checkpoint that moves the items to a list does the same, and commits continue.
+const CHECKPOINT_INTO: &str = "
+AGAIN 63 set_agent n9 x:1
+CHECKPOINT-INTO => none
+set_agent n9 x:1
+CHECKPOINT-INTO => none
+BEGIN create 1 n1 /web x:1 0
+set_agent n9 x:1
+CHECKPOINT-INTO => calls 0 to 0, 1 in all
+HEAD => place 65 kept 64 newest 65
+ITEM 1 => none
+ITEM 2 => seat 0 call 1 operations 1 writes 1; agent n9 1
+COMMIT 0 1 1 => committed at 66
+AGAIN 34 set_agent n9 x:1
+CHECKPOINT-INTO => calls 1 to 35, 35 in all
+ITEM 36 => none
+ITEM 37 => seat 0 call 36 operations 1 writes 1; agent n9 1
+ITEM 66 => seat 1 call 1 operations 1 writes 1; entry 1.0
+HEAD => place 100 kept 64 newest 100
+";
+
 /// An entry of the group is created and deleted, and a checkpoint drops the first of these two commits.
 const DROPPED_ITEMS: &str = "
 BEGIN create 1 n1 /web x:1 0
@@ -265,6 +286,11 @@ fn a_row_that_came_and_went_is_a_conflict_by_its_writes_alone(rt: HostRuntime) -
 #[test]
 fn a_checkpoint_keeps_the_last_items(rt: HostRuntime) -> Result<(), Fail> {
     plays(&rt, rt.alloc(), CHECKPOINT)
+}
+
+#[test]
+fn a_checkpoint_moves_the_older_items_to_a_list(rt: HostRuntime) -> Result<(), Fail> {
+    plays(&rt, rt.alloc(), CHECKPOINT_INTO)
 }
 
 #[test]

@@ -1,6 +1,6 @@
 //! How is a ready work committed under the lock?
 
-ghost use Rattle.std.specs.Prelude.{◌≡◌, ◌⊎◌, ◌<◌, ◌+◌, ◌++◌, ◌∷◌, [], drop, length, IfOk};
+ghost use Rattle.std.specs.Prelude.{◌≡◌, ◌⊎◌, ◌<◌, ◌≤◌, ◌+◌, ◌++◌, ◌∷◌, [], drop, length, vec_capacity, IfOk};
 ghost use mathlib.Core.List.{IsPrefix};
 ghost use Rattle.batch_work.specs.Windows.{pushed};
 ghost use Rattle.batch_work.specs.Working.{status_of};
@@ -18,7 +18,7 @@ use crate::rule::Sees;
 use crate::seat::{NoEntry, Seat};
 use crate::writer_state::PublishedWriter;
 use batch_work::{Status, Work};
-use commit_head::{Commit, Head, Prepared};
+use commit_head::{Commit, Head, Item, Prepared};
 use entry_book::Shared;
 use std::alloc::{AllocError, Global};
 use std::sync::Wait;
@@ -26,13 +26,21 @@ use std::sync::Wait;
 // The maximum number of stored items: with this number, a commit makes a checkpoint first.
 const MOST_KEPT: u64 = 4096;
 
-/// Makes a checkpoint if 4,096 items are stored, so that there is room for one more.
-fn checkpoint_if_full(head: &mut Head)
+/// Makes a checkpoint if 4,096 items are stored, so that there is room for one more. The items that it removes are moved to
+/// `older`, to be dropped without the lock. If that isn't empty yet, they are dropped.
+pub(crate) fn checkpoint_if_full(head: &mut Head, older: &mut Vec<Item>)
+    requires room { 64 ≤ vec_capacity older.old }
     ensures window { head.new.window ≡ head.old.window }
     ensures kept { (head.new ≡ head.old) ⊎ (head.new.kept ≡ last_items head.old.kept) }
     ensures few { length head.new.kept < 4096 }
+    ensures room { 64 ≤ vec_capacity older.new }
 {
-    if head.kept() >= MOST_KEPT {
+    if head.kept() < MOST_KEPT {
+        return;
+    }
+    if older.is_empty() {
+        head.checkpoint_into(older);
+    } else {
         head.checkpoint();
     }
 }
@@ -137,6 +145,7 @@ pub(crate) fn decide<J: RegistryId, R: Wait>(
     Option<PublishedValue>,
 )
     requires tied { IsTied J.domain last.old head.old }
+    requires few { length head.old.kept < 4096 }
     requires published { IsPublished J.history J.domain last.old writer.desk.shown.value }
     requires clear { drop writer.behind writer.log.items ≡ [] }
     requires call { AllBelow seat.old.calls seat.old.own }
@@ -154,7 +163,6 @@ pub(crate) fn decide<J: RegistryId, R: Wait>(
     if !seat.fits(published) {
         return (writer, Err(NoEntry), None);
     }
-    checkpoint_if_full(head);
     let prepared = match head.prepare(seat.number(), seat.calls(), work) {
         Ok(prepared) => prepared,
         Err(refusal) => {

@@ -1,6 +1,9 @@
-//! Which published states are retained, so that readers seldom free one?
+//! Which published states are retained, so that readers seldom free one, and what does a commit drop without the lock?
+
+ghost use Rattle.std.specs.Prelude.{◌≡◌, ◌-◌, IsSome, length, vec_capacity};
 
 use crate::published::{PublishedState, PublishedValue};
+use commit_head::Item;
 use entry_book::Shared;
 use std::alloc::{AllocError, Global};
 use std::collections::VecDeque;
@@ -16,12 +19,14 @@ pub(crate) struct Recent {
     published_states: VecDeque<Shared<PublishedState>>,
 }
 
-/// What a commit has replaced, to be dropped without the lock: the snapshot that the seat had before it, and the oldest of the
-/// retained published states, if the list was full.
+/// What a commit has replaced or removed, to be dropped without the lock: the snapshot that the seat had before it, the oldest
+/// of the retained published states, if the list was full, and one of the items that a checkpoint has removed. As a commit adds
+/// one item, all are dropped when the next checkpoint comes, and no commit waits until thousands of them are dropped.
 #[derive(Drop)]
 pub(crate) struct Replaced {
     snapshot: PublishedValue,
     published_state: Option<Shared<PublishedState>>,
+    item: Option<Item>,
 }
 
 impl Recent {
@@ -32,19 +37,25 @@ impl Recent {
         })
     }
 
-    /// After a commit, retains the published state, and returns what the commit has replaced; `before` is the snapshot that its
-    /// seat had. Without a commit `before` is `None`, and nothing is done.
+    /// After a commit, retains the published state, takes one of the items that are to be dropped, and returns what is to be
+    /// dropped; `before` is the snapshot that its seat had. Without a commit `before` is `None`, and nothing is done.
     pub(crate) fn replace(
         &mut self,
         published: &PublishedValue,
         before: Option<PublishedValue>,
-    ) -> Option<Replaced> {
+        older: &mut Vec<Item>,
+    ) -> Option<Replaced>
+        ensures capacity { vec_capacity older.new ≡ vec_capacity older.old }
+        ensures taken { IsSome before → length older.new.items ≡ length older.old.items - 1 }
+    {
         match before {
             Some(snapshot) => {
                 let published_state = self.keep(published);
+                let item = older.pop();
                 Some(Replaced {
                     snapshot,
                     published_state,
+                    item,
                 })
             }
             None => None,

@@ -8,14 +8,14 @@ ghost use Rattle.shared_registry.specs.Seated.{DuringCall};
 ghost use Rattle.shared_registry.specs.SeatCalls.{AllBelow};
 ghost use Rattle.shared_registry.specs.Works.{IsRead};
 
-use crate::commit::decide;
+use crate::commit::{checkpoint_if_full, decide};
 use crate::history::{History, HistoryPrefix, RegistryId};
 use crate::published::{PublishedValue, opening};
 use crate::recent::{Recent, Replaced};
 use crate::rule::{PublishedRule, View};
 use crate::seat::{NoEntry, Receipt, Seat};
 use batch_work::{Status, Work};
-use commit_head::{Commit, Head};
+use commit_head::{Commit, Head, Item};
 use left_right::writer::Writer;
 use spiffe_name::TrustDomain;
 use std::alloc::{AllocError, Global};
@@ -30,13 +30,15 @@ pub(crate) type PublishedWriter<J> = Writer<PublishedValue, PublishedValue, View
 #[derive(Clone, Copy, Debug, PartialEq, Eq, Drop)]
 pub struct NoSeat;
 
-/// State guarded by the registry's writer lock: the head, the writer, the published states of the last commits, the number of
-/// seats given, that of all seats, and the whole journal. The model in contracts is the journal.
+/// State guarded by the registry's writer lock: the head, the writer, the published states of the last commits, the items of the
+/// last checkpoint that are still to be dropped, the number of seats given, that of all seats, and the whole journal. The model
+/// in contracts is the journal.
 pub(crate) struct WriterState<J: RegistryId> {
     alloc: Global,
     head: Head,
     writer: Option<PublishedWriter<J>>,
     recent: Recent,
+    older: Vec<Item>,
     seats: usize,
     most: usize,
     start: HistoryPrefix<J>,
@@ -44,7 +46,7 @@ pub(crate) struct WriterState<J: RegistryId> {
 }
 
 impl<J: RegistryId> Model for WriterState<J> {
-    ghost use Rattle.std.specs.Prelude.{◌≡◌, ◌≤◌, List, [], IsSome, IfSome, drop};
+    ghost use Rattle.std.specs.Prelude.{◌≡◌, ◌≤◌, List, [], IsSome, IfSome, drop, vec_capacity};
     ghost use Rattle.commit_head.specs.declared.item.Item.{Item};
     ghost use Rattle.shared_registry.specs.WriterStates.{IsPublished, IsTied};
 
@@ -52,7 +54,7 @@ impl<J: RegistryId> Model for WriterState<J> {
 
     ghost view = { λ c. c.last };
 
-    ghost invariant = { λ c. IsTied J.domain c.last c.head × (c.most ≤ 32) × (c.start ≡ []) × IsSome c.writer × IfSome c.writer (λ w. IsPublished J.history J.domain c.last w.desk.shown.value × (drop w.behind w.log.items ≡ [])) };
+    ghost invariant = { λ c. IsTied J.domain c.last c.head × (64 ≤ vec_capacity c.older) × (c.most ≤ 32) × (c.start ≡ []) × IsSome c.writer × IfSome c.writer (λ w. IsPublished J.history J.domain c.last w.desk.shown.value × (drop w.behind w.log.items ≡ [])) };
 }
 
 impl<J: RegistryId> WriterState<J> {
@@ -74,12 +76,14 @@ impl<J: RegistryId> WriterState<J> {
         let first = opening(alloc, &prefix, &head)?;
         let second = first.again()?;
         let recent = Recent::none(alloc)?;
+        let older = Vec::with_capacity(alloc, 64)?;
         let writer = PublishedWriter::<J>::new(alloc, first, second, most)?;
         Ok(WriterState {
             alloc,
             head,
             writer: Some(writer),
             recent,
+            older,
             seats: 0,
             most,
             start: prefix.again(),
@@ -146,6 +150,7 @@ impl<J: RegistryId> WriterState<J> {
         let Some(writer) = self.writer.take() else {
             unreachable!()
         };
+        checkpoint_if_full(&mut self.head, &mut self.older);
         let (writer, decided, before) = decide(
             rt,
             self.alloc,
@@ -156,7 +161,9 @@ impl<J: RegistryId> WriterState<J> {
             seat,
             work,
         );
-        let replaced = self.recent.replace(writer.published(), before);
+        let replaced = self
+            .recent
+            .replace(writer.published(), before, &mut self.older);
         match replace(&mut self.writer, Some(writer)) {
             None => {}
             Some(_other) => unreachable!(),
@@ -178,6 +185,7 @@ impl<J: RegistryId> WriterState<J> {
             head: _,
             writer,
             recent: _,
+            older: _,
             seats: _,
             most: _,
             start: _,

@@ -20,7 +20,7 @@ FAMILIES = [
     ["Version::number", "Version::count", "Version::unchanged", "Window::newest", "Window::book", "Version::server", "Version::entry",
      "Version::agent", "Version::bundle"],
     ["Work::status", "Changes::hits", "Batch::is_query"],
-    ["Head::place", "Head::kept", "Head::window", "Head::item", "Head::checkpoint"],
+    ["Head::place", "Head::kept", "Head::window", "Head::item", "Head::checkpoint", "Head::checkpoint_into"],
     ["Window::push"],
     ["Head::finish"],
     ["PlainBook::place"],

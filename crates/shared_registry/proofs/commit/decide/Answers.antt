@@ -8,7 +8,7 @@ use Rattle.shared_registry.specs.Seated.{Seated}
 use Rattle.shared_registry.specs.SeatCalls.{AllBelow, calls_of}
 use Rattle.shared_registry.specs.ShownPrivate.{IsCounted, ShowsJournal, whole_head}
 use Rattle.shared_registry.specs.Shown.{Shown}
-use Rattle.shared_registry.proofs.Committing.{journal_low, lawful_more, next_fits, place_is, refused_there, shows_more, checkpointed, tied_more, tied_unchanged}
+use Rattle.shared_registry.proofs.Committing.{journal_low, lawful_more, next_fits, place_is, refused_there, shows_more, tied_more, tied_unchanged}
 use Rattle.shared_registry.proofs.Overtaken.{began}
 use Rattle.shared_registry.proofs.Tries.{during_call_joined, during_call_replaced}
 use Rattle.shared_registry.proofs.commit.decide.Goals as goal
@@ -17,43 +17,37 @@ pub prepare-requires-clause-began : goal.prepare-requires-clause-began
 prepare-requires-clause-began g c =
     let log = ap (λ (p : Shown). p.journal) c.published-published.ensures ∙ c.requires.published.journal_is in
     let pre = subst (IsPrefix c.args.seat.now.seen) log (c.fits.ensures.seen c.if-not-fits.false) in
-    let checkpoint_if_full = checkpointed g.J.RegistryId.domain c.args.last.now c.args.head.now c.checkpoint_if_full.new.head c.requires.tied c.checkpoint_if_full.ensures.window c.checkpoint_if_full.ensures.kept c.checkpoint_if_full.ensures.few in
-    began g.J.RegistryId.domain c.args.seat.now.seen c.args.last.now c.args.work.now.batch c.args.work.now c.checkpoint_if_full.new.head c.requires.read pre checkpoint_if_full
+    began g.J.RegistryId.domain c.args.seat.now.seen c.args.last.now c.args.work.now.batch c.args.work.now c.args.head.now c.requires.read pre c.requires.tied
 
 pub returns-in-Err-clause-tied : goal.returns-in-Err-clause-tied
 returns-in-Err-clause-tied g c =
-    let checkpoint_if_full = checkpointed g.J.RegistryId.domain c.args.last.now c.args.head.now c.checkpoint_if_full.new.head c.requires.tied c.checkpoint_if_full.ensures.window c.checkpoint_if_full.ensures.kept c.checkpoint_if_full.ensures.few in
-    let tied = tied_unchanged g.J.RegistryId.domain c.args.last.now c.checkpoint_if_full.new.head c.prepare.new.self checkpoint_if_full c.prepare.ensures.is_unchanged in
+    let tied = tied_unchanged g.J.RegistryId.domain c.args.last.now c.args.head.now c.prepare.new.self c.requires.tied c.prepare.ensures.is_unchanged in
     tied
 
 pub returns-in-Err-clause-decided : goal.returns-in-Err-clause-decided
 returns-in-Err-clause-decided g c =
     let log = ap (λ (p : Shown). p.journal) c.published-published.ensures ∙ c.requires.published.journal_is in
     let pre = subst (IsPrefix c.args.seat.now.seen) log (c.fits.ensures.seen c.if-not-fits.false) in
-    let checkpoint_if_full = checkpointed g.J.RegistryId.domain c.args.last.now c.args.head.now c.checkpoint_if_full.new.head c.requires.tied c.checkpoint_if_full.ensures.window c.checkpoint_if_full.ensures.kept c.checkpoint_if_full.ensures.few in
-    refused_there g.J.RegistryId.domain c.args.last.now c.args.seat.now c.see.new.self c.args.work.now c.checkpoint_if_full.new.head c.in-Err.refusal c.requires.read c.requires.ready pre checkpoint_if_full
+    refused_there g.J.RegistryId.domain c.args.last.now c.args.seat.now c.see.new.self c.args.work.now c.args.head.now c.in-Err.refusal c.requires.read c.requires.ready pre c.requires.tied
     (record { same = refl; seen = c.see.ensures.seen ∙ c.again.ensures; own = c.see.ensures.own })
     c.in-Err.ensures.refused
 
 pub published_states_with-requires-clause-fits : goal.published_states_with-requires-clause-fits
 published_states_with-requires-clause-fits g c =
     let log = ap (λ (p : Shown). p.journal) c.published-published.ensures ∙ c.requires.published.journal_is in
-    let checkpoint_if_full = checkpointed g.J.RegistryId.domain c.args.last.now c.args.head.now c.checkpoint_if_full.new.head c.requires.tied c.checkpoint_if_full.ensures.window c.checkpoint_if_full.ensures.kept c.checkpoint_if_full.ensures.few in
-    let tied = tied_unchanged g.J.RegistryId.domain c.args.last.now c.checkpoint_if_full.new.head c.prepare.new.self checkpoint_if_full c.prepare.ensures.is_unchanged in
+    let tied = tied_unchanged g.J.RegistryId.domain c.args.last.now c.args.head.now c.prepare.new.self c.requires.tied c.prepare.ensures.is_unchanged in
     let domain = ap (λ (p : Shown). p.window.newest.domain) c.published-published.ensures ∙ c.requires.published.of_it.domain_is in
     let journal : IsJournal c.args.last.now (whole_head c.published-published.result.now.window c.args.last.now) = subst (λ l. IsJournal l (whole_head c.published-published.result.now.window l)) log c.window-window.ensures.journal in
     next_fits g.J.RegistryId.domain c.args.last.now c.prepare.new.self c.published-published.result.now.window c.in-Ok.prepared tied journal domain c.in-Ok.ensures.fits.goes
 
 pub returns-in_default-clause-tied : goal.returns-in_default-clause-tied
 returns-in_default-clause-tied g c =
-    let checkpoint_if_full = checkpointed g.J.RegistryId.domain c.args.last.now c.args.head.now c.checkpoint_if_full.new.head c.requires.tied c.checkpoint_if_full.ensures.window c.checkpoint_if_full.ensures.kept c.checkpoint_if_full.ensures.few in
-    let tied = tied_unchanged g.J.RegistryId.domain c.args.last.now c.checkpoint_if_full.new.head c.prepare.new.self checkpoint_if_full c.prepare.ensures.is_unchanged in
+    let tied = tied_unchanged g.J.RegistryId.domain c.args.last.now c.args.head.now c.prepare.new.self c.requires.tied c.prepare.ensures.is_unchanged in
     tied
 
 pub add-requires-clause-room : goal.add-requires-clause-room
 add-requires-clause-room g c =
-    let checkpoint_if_full = checkpointed g.J.RegistryId.domain c.args.last.now c.args.head.now c.checkpoint_if_full.new.head c.requires.tied c.checkpoint_if_full.ensures.window c.checkpoint_if_full.ensures.kept c.checkpoint_if_full.ensures.few in
-    let tied = tied_unchanged g.J.RegistryId.domain c.args.last.now c.checkpoint_if_full.new.head c.prepare.new.self checkpoint_if_full c.prepare.ensures.is_unchanged in
+    let tied = tied_unchanged g.J.RegistryId.domain c.args.last.now c.args.head.now c.prepare.new.self c.requires.tied c.prepare.ensures.is_unchanged in
     let low = journal_low g.J.RegistryId.domain c.args.last.now c.prepare.new.self tied in
     let same = ap length c.again-prefix.ensures in
     omega arith
@@ -61,8 +55,7 @@ add-requires-clause-room g c =
 pub add-requires-clause-lawful : goal.add-requires-clause-lawful
 add-requires-clause-lawful g c =
     let log = ap (λ (p : Shown). p.journal) c.published-published.ensures ∙ c.requires.published.journal_is in
-    let checkpoint_if_full = checkpointed g.J.RegistryId.domain c.args.last.now c.args.head.now c.checkpoint_if_full.new.head c.requires.tied c.checkpoint_if_full.ensures.window c.checkpoint_if_full.ensures.kept c.checkpoint_if_full.ensures.few in
-    let tied = tied_unchanged g.J.RegistryId.domain c.args.last.now c.checkpoint_if_full.new.head c.prepare.new.self checkpoint_if_full c.prepare.ensures.is_unchanged in
+    let tied = tied_unchanged g.J.RegistryId.domain c.args.last.now c.args.head.now c.prepare.new.self c.requires.tied c.prepare.ensures.is_unchanged in
     let of_work = c.in-Ok.ensures.of_work in
     let own = sym (c.fits.ensures.own c.if-not-fits.false) ∙ ap (calls_of c.args.seat.now.number) log in
     let below = subst (AllBelow c.args.seat.now.calls) own c.requires.call in
@@ -72,15 +65,13 @@ add-requires-clause-lawful g c =
 
 pub returns-then-not-add-clause-tied : goal.returns-then-not-add-clause-tied
 returns-then-not-add-clause-tied g c =
-    let checkpoint_if_full = checkpointed g.J.RegistryId.domain c.args.last.now c.args.head.now c.checkpoint_if_full.new.head c.requires.tied c.checkpoint_if_full.ensures.window c.checkpoint_if_full.ensures.kept c.checkpoint_if_full.ensures.few in
-    let tied = tied_unchanged g.J.RegistryId.domain c.args.last.now c.checkpoint_if_full.new.head c.prepare.new.self checkpoint_if_full c.prepare.ensures.is_unchanged in
+    let tied = tied_unchanged g.J.RegistryId.domain c.args.last.now c.args.head.now c.prepare.new.self c.requires.tied c.prepare.ensures.is_unchanged in
     tied
 
 pub snapshots-snapshot-requires-clause-shows : goal.snapshots-snapshot-requires-clause-shows
 snapshots-snapshot-requires-clause-shows g c =
     let log = ap (λ (p : Shown). p.journal) c.published-published.ensures ∙ c.requires.published.journal_is in
-    let checkpoint_if_full = checkpointed g.J.RegistryId.domain c.args.last.now c.args.head.now c.checkpoint_if_full.new.head c.requires.tied c.checkpoint_if_full.ensures.window c.checkpoint_if_full.ensures.kept c.checkpoint_if_full.ensures.few in
-    let tied = tied_unchanged g.J.RegistryId.domain c.args.last.now c.checkpoint_if_full.new.head c.prepare.new.self checkpoint_if_full c.prepare.ensures.is_unchanged in
+    let tied = tied_unchanged g.J.RegistryId.domain c.args.last.now c.args.head.now c.prepare.new.self c.requires.tied c.prepare.ensures.is_unchanged in
     let domain = ap (λ (p : Shown). p.window.newest.domain) c.published-published.ensures ∙ c.requires.published.of_it.domain_is in
     let journal : IsJournal c.args.last.now (whole_head c.published-published.result.now.window c.args.last.now) = subst (λ l. IsJournal l (whole_head c.published-published.result.now.window l)) log c.window-window.ensures.journal in
     let of_work = c.in-Ok.ensures.of_work in
@@ -101,9 +92,8 @@ see-requires-2-clause-seen g c =
 
 pub returns-clause-tied : goal.returns-clause-tied
 returns-clause-tied g c =
-    let few = subst (λ (l : List Item). length l < 4096) (sym c.prepare.ensures.is_unchanged.kept) c.checkpoint_if_full.ensures.few in
-    let checkpoint_if_full = checkpointed g.J.RegistryId.domain c.args.last.now c.args.head.now c.checkpoint_if_full.new.head c.requires.tied c.checkpoint_if_full.ensures.window c.checkpoint_if_full.ensures.kept c.checkpoint_if_full.ensures.few in
-    let tied = tied_unchanged g.J.RegistryId.domain c.args.last.now c.checkpoint_if_full.new.head c.prepare.new.self checkpoint_if_full c.prepare.ensures.is_unchanged in
+    let few = subst (λ (l : List Item). length l < 4096) (sym c.prepare.ensures.is_unchanged.kept) c.requires.few in
+    let tied = tied_unchanged g.J.RegistryId.domain c.args.last.now c.args.head.now c.prepare.new.self c.requires.tied c.prepare.ensures.is_unchanged in
     let whole : c.add.new.self ≡ c.args.last.now ++ c.in-Ok.prepared.item ∷ [] = c.if-not-add.ensures ∙ (λ i. c.again-prefix.ensures i ++ c.item.ensures i ∷ []) in
     subst (λ l. IsTied g.J.RegistryId.domain l c.finish-place.new.self) (sym whole) (tied_more g.J.RegistryId.domain c.args.last.now c.in-Ok.prepared.item c.prepare.new.self c.finish-place.new.self tied c.in-Ok.ensures.fits.goes.joins c.finish-place.ensures.appended few)
 
@@ -114,8 +104,7 @@ returns-clause-during_call g c =
 
 pub returns-clause-decided : goal.returns-clause-decided
 returns-clause-decided g c =
-    let checkpoint_if_full = checkpointed g.J.RegistryId.domain c.args.last.now c.args.head.now c.checkpoint_if_full.new.head c.requires.tied c.checkpoint_if_full.ensures.window c.checkpoint_if_full.ensures.kept c.checkpoint_if_full.ensures.few in
-    let tied = tied_unchanged g.J.RegistryId.domain c.args.last.now c.checkpoint_if_full.new.head c.prepare.new.self checkpoint_if_full c.prepare.ensures.is_unchanged in
+    let tied = tied_unchanged g.J.RegistryId.domain c.args.last.now c.args.head.now c.prepare.new.self c.requires.tied c.prepare.ensures.is_unchanged in
     let whole : c.add.new.self ≡ c.args.last.now ++ c.in-Ok.prepared.item ∷ [] = c.if-not-add.ensures ∙ (λ i. c.again-prefix.ensures i ++ c.item.ensures i ∷ []) in
     let of_work = c.in-Ok.ensures.of_work in record {
       item = c.in-Ok.prepared.item;
