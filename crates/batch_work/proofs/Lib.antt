@@ -12,6 +12,7 @@ pub mod Ranks
 pub mod Plays
 pub mod Questions
 pub mod Ready
+pub mod SharedWindows
 pub mod WorkInvariants
 pub mod Statuses
 pub mod Taking

@@ -2,6 +2,7 @@ pub mod Bounds
 pub mod Laws
 pub mod BorrowedReplies
 pub mod Ranks
+pub mod SharedWindows
 pub mod Questions
 pub mod Reads
 pub mod WorkInvariants

@@ -1,27 +1,30 @@
 //! On which versions does a batch begin, and what does it do first?
 
-ghost use Rattle.std.specs.Prelude.{◌≡◌, [], IfOk, IfSome};
-ghost use Rattle.entry_book.specs.Batches.{past_place};
+ghost use Rattle.std.specs.Prelude.{◌≡◌, ◌≤◌, ◌^◌, [], IfOk, IfSome};
+ghost use Rattle.std.specs.Option.{option_copied};
 ghost use Rattle.batch_work.specs.WorkInvariants.{IsStartOf, IsReadableVersion, StageInvariant, base_of};
-ghost use Rattle.batch_work.specs.Working.{MayBegin, base_in, earlier_in};
 
 use crate::phase::Phase;
 use crate::stage::{Begun, Stage};
 use crate::take::settled;
-use crate::versions::{Versions, earlier_in};
-use crate::window::Window;
+use crate::versions::Versions;
 use entry_book::{Batch, Refusal, ReplyOutcome, both};
 use std::alloc::AllocError;
 use version_book::Version;
 
-/// Returns a clone of the version of the earlier book that a batch asks for, if it asks for one and the window has it. The
-/// error is a reference count at its maximum.
-fn earlier_clone(batch: &Batch, window: &Window) -> Result<Option<Version>, AllocError>
-    requires fits { MayBegin batch.now window.now }
-    ensures found { IfOk result (λ earlier. earlier ≡ earlier_in (past_place batch.now.ops) window.now) }
-    ensures readable { IfOk result (λ earlier. IfSome earlier (IsReadableVersion batch.now.domain)) }
+/// Returns a clone of the version of the earlier book that a batch asks for, if it asks for one and that is there. The error is a
+/// reference count at its maximum.
+fn earlier_clone(
+    batch: &Batch,
+    newest: &Version,
+    earlier: Option<&Version>,
+) -> Result<Option<Version>, AllocError>
+    requires fits { (batch.now.domain ≡ newest.now.domain) × (newest.now.number ≤ 2 ^ 48) }
+    requires earlier { IfSome earlier (λ version. (version.now.domain ≡ newest.now.domain) × (version.now.number ≤ newest.now.number)) }
+    ensures found { IfOk result (λ clone. clone ≡ option_copied earlier.entry) }
+    ensures readable { IfOk result (λ clone. IfSome clone (IsReadableVersion batch.now.domain)) }
 {
-    let Some(version) = earlier_in(batch, window) else {
+    let Some(version) = earlier else {
         return Ok(None);
     };
     // its contract says that the version's book is lawful
@@ -29,18 +32,22 @@ fn earlier_clone(batch: &Batch, window: &Window) -> Result<Option<Version>, Allo
     Ok(Some(version.clone()?))
 }
 
-/// Returns the versions on which a batch begins, with the server's ID. The error is a reference count at its maximum.
-pub(crate) fn begun_on(batch: &Batch, window: &Window) -> Result<Begun, AllocError>
-    requires fits { MayBegin batch.now window.now }
-    ensures base { IfOk result (λ begun. base_of begun ≡ base_in batch.now window.now) }
+/// Returns clones of the versions on which a batch begins, with the server's ID. The error is a reference count at its maximum.
+pub(crate) fn begun_on(
+    batch: &Batch,
+    newest: &Version,
+    earlier: Option<&Version>,
+) -> Result<Begun, AllocError>
+    requires fits { (batch.now.domain ≡ newest.now.domain) × (newest.now.number ≤ 2 ^ 48) }
+    requires earlier { IfSome earlier (λ version. (version.now.domain ≡ newest.now.domain) × (version.now.number ≤ newest.now.number)) }
+    ensures base { IfOk result (λ begun. base_of begun ≡ record { newest = newest.now; earlier = option_copied earlier.entry }) }
     ensures began { IfOk result (IsStartOf batch.now) }
 {
-    let newest = window.newest();
     // these contracts say that the version's book is lawful, and that the batch was made for its trust domain
     let _ = newest.number();
     let _ = batch.domain();
     let names = both(newest.server().clone(), newest.clone());
-    let ((server, newest), earlier) = both(names, earlier_clone(batch, window))?;
+    let ((server, newest), earlier) = both(names, earlier_clone(batch, newest, earlier))?;
     Ok(Begun {
         newest,
         earlier,

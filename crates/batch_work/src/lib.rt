@@ -12,7 +12,8 @@
 //! - [`BorrowedReply`]: such a reply, whose rows are borrowed from the version, so that it changes no reference count. It has a
 //!   [`BorrowedOpReply`] for each operation, which has its [`BorrowedRows`].
 //! - [`Window`]: the newest version of one history and up to 63 before it. A batch reads the newest one, or the one of the
-//!   earlier book that its page names.
+//!   earlier book that its page names. [`SharedWindow`]: the same in a small value that never changes; the next one shares most
+//!   versions with it. [`answer_shared`] is for it.
 //! - [`laws`]: theorems. They state that what a batch reads decides its outcome, and what its outcome at a commit is; how many
 //!   reads it makes, and which; and how a window represents the list of all books.
 //!
@@ -40,6 +41,7 @@ mod look;
 mod phase;
 mod read_only;
 mod rows;
+mod shared_window;
 mod sorted;
 mod stage;
 mod status;
@@ -50,7 +52,8 @@ mod window;
 mod work;
 
 pub use borrowed_reply::{BorrowedOpReply, BorrowedReply, BorrowedRows};
-pub use read_only::answer;
+pub use read_only::{answer, answer_shared};
+pub use shared_window::SharedWindow;
 pub use status::Status;
 pub use window::Window;
 pub use work::Work;

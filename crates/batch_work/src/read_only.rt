@@ -2,7 +2,7 @@
 //!
 //! Nothing commits on what such a batch reads. So it records no read set, makes no steps, and its rows are borrowed.
 
-ghost use Rattle.std.specs.Prelude.{◌≡◌, IfOk, true, ℕ};
+ghost use Rattle.std.specs.Prelude.{◌≡◌, IfOk, IfSome, true, ℕ};
 ghost use Rattle.entry_book.specs.Batches.{Batch as BatchRow, is_query, is_question};
 ghost use Rattle.entry_book.specs.History.{reply_with, verdict_run};
 ghost use Rattle.entry_book.specs.Ops.{op_of};
@@ -20,6 +20,7 @@ use crate::borrowed_reply::{
     BorrowedOpReply, BorrowedOutcome, BorrowedReply, BorrowedRows, borrowed,
 };
 use crate::read_only::authorised::{authorised_reply, trust_reply};
+use crate::shared_window::SharedWindow;
 use crate::versions::Versions;
 use crate::window::Window;
 use entry_book::{Batch, Op, OpRefusal, PageQuery, Refusal, Sequence};
@@ -99,23 +100,39 @@ fn outcome_on<'a>(
     }
 }
 
-/// Returns the outcome of a read-only batch on a window. The error is out of memory.
+/// Returns the outcome of a read-only batch on the versions that it may read. The error is out of memory.
 fn outcome_in<'a>(
     alloc: Global,
     batch: &Batch,
-    window: &'a Window,
+    versions: &Versions<'a>,
 ) -> Result<BorrowedOutcome<'a>, AllocError>
     requires query { is_query batch.now.ops ≡ true }
-    requires fits { MayBegin batch.now window.now }
-    ensures { IfOk result (λ outcome. reply_there batch.now (base_in batch.now window.now)
-        ≡ record { place = window.now.newest.number; outcome = outcome_of outcome }) }
+    requires domain { batch.now.domain ≡ versions.now.newest.domain }
+    requires earlier { IfSome versions.now.earlier (λ earlier. earlier.domain ≡ versions.now.newest.domain) }
+    ensures { IfOk result (λ outcome. reply_there batch.now versions.now
+        ≡ record { place = versions.now.newest.number; outcome = outcome_of outcome }) }
 {
     let ops = batch.ops();
-    let versions = Versions::in_window(batch, window);
     match versions.version_for(batch) {
         Ok(version) => outcome_on(alloc, version, ops),
         Err(refusal) => Ok(Err(refusal)),
     }
+}
+
+/// Returns the reply to a read-only batch on the versions that it may read. The error is out of memory.
+fn answer_in<'a>(
+    alloc: Global,
+    batch: &Batch,
+    versions: &Versions<'a>,
+) -> Result<BorrowedReply<'a>, AllocError>
+    requires query { is_query batch.now.ops ≡ true }
+    requires domain { batch.now.domain ≡ versions.now.newest.domain }
+    requires earlier { IfSome versions.now.earlier (λ earlier. earlier.domain ≡ versions.now.newest.domain) }
+    ensures { IfOk result (λ reply. reply ≡ reply_there batch.now versions.now) }
+{
+    let outcome = outcome_in(alloc, batch, versions)?;
+    let place = versions.newest().number();
+    Ok(BorrowedReply::of(place, outcome))
 }
 
 /// Returns the reply to a read-only batch: that of a work which begins on the window, once it is settled. Its rows are borrowed
@@ -129,7 +146,18 @@ pub fn answer<'a>(
     requires fits { MayBegin batch.now window.now }
     ensures { IfOk result (λ reply. reply ≡ reply_there batch.now (base_in batch.now window.now)) }
 {
-    let outcome = outcome_in(alloc, batch, window)?;
-    let place = window.newest().number();
-    Ok(BorrowedReply::of(place, outcome))
+    answer_in(alloc, batch, &Versions::in_window(batch, window))
+}
+
+/// Does the same on a shared window.
+pub fn answer_shared<'a>(
+    alloc: Global,
+    batch: &Batch,
+    window: &'a SharedWindow,
+) -> Result<BorrowedReply<'a>, AllocError>
+    requires query { is_query batch.now.ops ≡ true }
+    requires fits { MayBegin batch.now window.now }
+    ensures { IfOk result (λ reply. reply ≡ reply_there batch.now (base_in batch.now window.now)) }
+{
+    answer_in(alloc, batch, &Versions::in_shared(batch, window))
 }

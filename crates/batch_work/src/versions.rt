@@ -5,6 +5,7 @@ ghost use Rattle.std.specs.Option.{option_copied};
 ghost use Rattle.entry_book.specs.Batches.{past_place};
 ghost use Rattle.batch_work.specs.Working.{earlier_in};
 
+use crate::shared_window::SharedWindow;
 use crate::stage::Begun;
 use crate::window::Window;
 use entry_book::{Batch, OpRefusal, Refusal};
@@ -20,6 +21,15 @@ pub(crate) fn earlier_in<'a>(batch: &Batch, window: &'a Window) -> Option<&'a Ve
         None => None,
         Some(place) => window.book(place),
     }
+}
+
+/// Returns the same of a shared window.
+pub(crate) fn earlier_in_shared<'a>(batch: &Batch, window: &'a SharedWindow) -> Option<&'a Version>
+    ensures found { option_copied result ≡ earlier_in (past_place batch.now.ops) window.now }
+    ensures earlier { IfSome result (λ version. (version.now.domain ≡ window.now.newest.domain) × (version.now.number ≤ window.now.newest.number)) }
+{
+    let place = batch.past_place()?;
+    window.book(place)
 }
 
 /// Returns the refusal of a batch whose page asks for a book that isn't there.
@@ -66,6 +76,17 @@ impl<'a> Versions<'a> {
         }
     }
 
+    /// Returns those of a shared window.
+    pub(crate) fn in_shared(batch: &Batch, window: &'a SharedWindow) -> Versions<'a>
+        ensures base { result ≡ base_in batch.now window.now }
+        ensures domain { IfSome result.earlier (λ earlier. earlier.domain ≡ window.now.newest.domain) }
+    {
+        Versions {
+            newest: window.newest(),
+            earlier: earlier_in_shared(batch, window),
+        }
+    }
+
     /// Returns those on which a work began.
     pub(crate) fn begun(begun: &'a Begun) -> Versions<'a>
         ensures { result ≡ base_of begun.now }
@@ -74,6 +95,13 @@ impl<'a> Versions<'a> {
             newest: &begun.newest,
             earlier: begun.earlier.as_ref(),
         }
+    }
+
+    /// Returns the newest one.
+    pub(crate) fn newest(&self) -> &'a Version
+        ensures { result.now ≡ self.now.newest }
+    {
+        self.newest
     }
 
     /// Returns the one that a batch reads, if it is there.

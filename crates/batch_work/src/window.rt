@@ -21,7 +21,7 @@ fn push_last<T: Default + Drop>(items: &mut ArrayVec<T, 63>, item: T)
 }
 
 /// Returns the version in the slot with this index, if there is one.
-fn version_in(places: &[Option<Version>], index: usize) -> Option<&Version>
+pub(crate) fn version_in(places: &[Option<Version>], index: usize) -> Option<&Version>
     requires held { places.now ≡ map Some (held places.now) }
     ensures { option_copied result ≡ slice_get (held places.now) index }
 {

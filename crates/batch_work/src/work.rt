@@ -6,9 +6,11 @@ ghost use Rattle.batch_work.specs.WorkInvariants.{IsStartOf, IsRunning, StageInv
 
 use crate::begin::{begun_on, first_stage};
 use crate::look::{look, next_mark};
+use crate::shared_window::SharedWindow;
 use crate::stage::{Begun, Found, Progress, Stage};
 use crate::status::Status;
 use crate::take::take_down;
+use crate::versions::{earlier_in, earlier_in_shared};
 use crate::window::Window;
 use entry_book::{Batch, OpReply, Reply, Sequence, Shared};
 use std::alloc::{AllocError, Global};
@@ -144,7 +146,25 @@ impl Work {
     {
         // its contract says that the batch was made for its trust domain
         let _ = self.batch.ops();
-        let begun = begun_on(&self.batch, window)?;
+        let earlier = earlier_in(&self.batch, window);
+        let begun = begun_on(&self.batch, window.newest(), earlier)?;
+        let stage = first_stage(&self.batch, &begun);
+        self.begun = Some(begun);
+        discard(replace(&mut self.stage, stage));
+        Ok(())
+    }
+
+    /// Does the same on a shared window.
+    pub fn begin_shared(&mut self, window: &SharedWindow) -> Result<(), AllocError>
+        requires is_new { status_of self.old ≡ Status.New }
+        requires fits { MayBegin self.old.batch window.now }
+        ensures begun { OnOk result (self.new ≡ record self.old { base = Some (base_in self.old.batch window.now) }) }
+        ensures err { OnErr result (self.new ≡ self.old) }
+    {
+        // its contract says that the batch was made for its trust domain
+        let _ = self.batch.ops();
+        let earlier = earlier_in_shared(&self.batch, window);
+        let begun = begun_on(&self.batch, window.newest(), earlier)?;
         let stage = first_stage(&self.batch, &begun);
         self.begun = Some(begun);
         discard(replace(&mut self.stage, stage));

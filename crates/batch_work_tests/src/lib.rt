@@ -2,8 +2,8 @@
 //!
 //! The crate has tests alone, over the public calls of `batch_work`:
 //!
-//! - `windows`: which versions a window has; `worked`: the marks and the outcomes of works on small books, as tables.
-//!   `playing` plays a table.
+//! - `windows`: which versions a window has; `shared_windows`: the same of a shared window; `worked`: the marks and the outcomes
+//!   of works on small books, as tables. `playing` plays a table.
 //! - `random`: long histories of random batches, compared with the plain book. Their reads are compared with those that
 //!   `footprints` computes over `plain_rows`.
 //! - `elsewhere`: random batches on pairs of books.
@@ -27,6 +27,8 @@ mod playing;
 mod random;
 #[cfg(test)]
 mod running;
+#[cfg(test)]
+mod shared_windows;
 #[cfg(test)]
 mod wanted;
 #[cfg(test)]

@@ -58,7 +58,7 @@ fn continues_often(
 }
 
 /// The number of the version that the window returns for this one.
-fn found_number(window: &Window, number: u64) -> Option<u64> {
+pub fn found_number(window: &Window, number: u64) -> Option<u64> {
     let version = window.book(number)?;
     Some(version.number())
 }
