@@ -100,8 +100,8 @@ fn published_states_with(
     ensures counts { IfOk result (λ published_states. IsCounted published_states.0.counts (published.now.journal ++ prepared.now.item ∷ [])) }
     ensures same { IfOk result (λ published_states. published_states.1 ≡ published_states.0) }
 {
-    let mut window = published.window().clone()?;
-    window.push(prepared.version().clone()?);
+    let version = prepared.version().clone()?;
+    let window = published.window().next(alloc, version)?;
     let counts = published.counts_with(seat, prepared.item());
     let published_state = Shared::of(alloc, PublishedState { window, counts })?;
     let same = published_state.clone()?;

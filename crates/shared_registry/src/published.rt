@@ -7,7 +7,7 @@ ghost use Rattle.shared_registry.specs.SeatCalls.{calls_of};
 ghost use Rattle.shared_registry.specs.ShownPrivate.{IsCounted, IsOf, ShowsJournal};
 
 use crate::history::{HistoryPrefix, HistoryRule, RegistryId};
-use batch_work::Window;
+use batch_work::SharedWindow;
 use commit_head::{Head, Item};
 use entry_book::Shared;
 use left_right::Absorb;
@@ -18,7 +18,7 @@ use std::marker::Model;
 /// The published state: the window on which works begin, and the number of commits of each seat.
 #[derive(Drop)]
 pub(crate) struct PublishedState {
-    pub(crate) window: Window,
+    pub(crate) window: SharedWindow,
     pub(crate) counts: [u64; 32],
 }
 
@@ -74,7 +74,7 @@ impl PublishedValue {
     }
 
     /// Returns the window on which a work begins.
-    pub(crate) fn window(&self) -> &Window
+    pub(crate) fn window(&self) -> &SharedWindow
         ensures window { result.now ≡ self.now.window }
         ensures low { self.now.window.newest.number ≤ 2 ^ 48 }
         ensures journal { IsJournal self.now.journal (whole_head self.now.window self.now.journal) }
@@ -137,10 +137,12 @@ pub(crate) fn opening<J: RegistryId>(
 ) -> Result<PublishedValue, AllocError>
     requires prefix { prefix.now ≡ [] }
     requires head { IsJournal [] head.now }
+    requires alone { head.now.window.older ≡ [] }
     ensures { IfOk result (λ p. (p.history ≡ J.history) × (p.journal ≡ []) × (p.window ≡ head.now.window)) }
 {
+    let newest = head.window().newest().clone()?;
     let published_state = PublishedState {
-        window: head.window().clone()?,
+        window: SharedWindow::of(alloc, newest)?,
         counts: [0; 32],
     };
     Ok(PublishedValue::of(prefix, Shared::of(alloc, published_state)?))

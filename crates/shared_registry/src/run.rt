@@ -30,7 +30,7 @@ pub(crate) fn begun(
     ensures { IfOk result (λ work. HasJustBegun batch snapshot.now work) }
 {
     let mut work = Work::new(alloc, batch);
-    let done = work.begin(snapshot.window());
+    let done = work.begin_shared(snapshot.window());
     kept_if(done, work)
 }
 
