@@ -7,3 +7,5 @@ pub mod EventDomain
 pub mod RecordDomain
 pub mod Kept
 pub mod Others
+pub mod Trees
+pub mod Parsed

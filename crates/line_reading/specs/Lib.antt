@@ -2,6 +2,7 @@ pub mod Codes
 pub mod Ids
 pub mod Fields
 pub mod FieldsPrivate
+pub mod Trees
 pub mod Operations
 pub mod Batches
 pub mod Requests

@@ -5,25 +5,26 @@
 //! none.
 
 ghost use Rattle.std.specs.Prelude.{◌≡◌};
-ghost use Rattle.serde_json.specs.View.{items_view, members_view, view};
+ghost use Rattle.line_reading.specs.Trees.{items_view, members_view, view};
 ghost use Rattle.line_reading.specs.Batches.{batch_alone_in, batch_in, batch_of, items_at, listed_in, missing_with_token};
 ghost use Rattle.line_reading.specs.FieldsPrivate.{Gives};
 
 use crate::fault::{Code, Fault, Key};
 use crate::fields::{at_key, no_others, optional_number_at, optional_uuid_at, value_at};
-use crate::ids::{Ids, MissingId};
+use crate::ids::{IdStream, MissingId};
 use crate::ops::ops_in;
+use crate::tree::{Members, items_of};
 use entry_book::{Batch, Op, Sequence};
-use serde_json::{Map, Value};
+use json::Value;
 use spiffe_name::{Failure, TrustDomain};
 use std::alloc::Global;
 use uuid::Uuid;
 
 /// The values at a batch's own keys.
 #[derive(Drop)]
-pub(crate) struct Listed<'a> {
+pub(crate) struct Listed<'v, 'a> {
     /// The operations, not read yet, in the order of the list.
-    pub(super) items: &'a [Value],
+    pub(super) items: &'v Vec<Value<'a>>,
     /// The smallest place (commit number) at which the batch may run.
     pub(super) after: u64,
     /// The token under which its commit is stored, if it has one.
@@ -32,10 +33,10 @@ pub(crate) struct Listed<'a> {
 
 /// Returns the list of operations of an object.
 #[tactic(auto, unfolding(crate::specs::Batches::items_at))]
-fn items_at(object: &Value) -> Result<&[Value], Failure<Fault>>
-    ensures { Gives (λ items. items_view items.now) result (items_at (view object.now)) }
+fn items_at<'v, 'a>(object: &'v Value<'a>) -> Result<&'v Vec<Value<'a>>, Failure<Fault>>
+    ensures { Gives (λ items. items_view items.now.items) result (items_at (view object.now)) }
 {
-    match value_at(object, Key::Ops).and_then(Value::as_array) {
+    match value_at(object, Key::Ops).and_then(items_of) {
         Some(items) => Ok(items),
         None => Err(at_key(Code::Field, Key::Ops)),
     }
@@ -43,9 +44,9 @@ fn items_at(object: &Value) -> Result<&[Value], Failure<Fault>>
 
 /// Reads a batch's own keys of an object. Without `after` the batch may run at any place.
 #[tactic(auto, unfolding(crate::specs::Batches::listed_in))]
-pub(crate) fn listed_in(object: &Value) -> Result<Listed<'_>, Failure<Fault>>
+pub(crate) fn listed_in<'v, 'a>(object: &'v Value<'a>) -> Result<Listed<'v, 'a>, Failure<Fault>>
     ensures { Gives (λ listed. record {
-      items = items_view listed.items.now;
+      items = items_view listed.items.now.items;
       after = listed.after;
       token = listed.token;
     }) result (listed_in (view object.now)) }
@@ -96,12 +97,12 @@ fn missing_with_token(token: &Option<Uuid>) -> MissingId
 pub(crate) fn batch_in(
     alloc: Global,
     domain: &TrustDomain,
-    ids: &mut Ids,
-    listed: &Listed<'_>,
+    ids: &mut IdStream,
+    listed: &Listed<'_, '_>,
 ) -> Result<Batch, Failure<Fault>>
     ensures { Gives (λ batch. (batch, ids.new)) result
         (batch_in domain.now ids.old (record {
-          items = items_view listed.now.items.now;
+          items = items_view listed.now.items.now.items;
           after = listed.now.after;
           token = listed.now.token;
         })) }
@@ -116,12 +117,12 @@ pub(crate) fn batch_in(
 pub(crate) fn batch_alone_in(
     alloc: Global,
     domain: &TrustDomain,
-    ids: &mut Ids,
-    object: &Value,
-    members: &Map<String, Value>,
+    ids: &mut IdStream,
+    object: &Value<'_>,
+    members: &Members<'_>,
 ) -> Result<Batch, Failure<Fault>>
     ensures { Gives (λ batch. (batch, ids.new)) result
-        (batch_alone_in domain.now ids.old (view object.now) (members_view members.now.entries)) }
+        (batch_alone_in domain.now ids.old (view object.now) (members_view members.now.items)) }
 {
     let listed = listed_in(object)?;
     no_others(members, &[Key::Ops, Key::After, Key::Token])?;

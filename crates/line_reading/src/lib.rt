@@ -11,13 +11,13 @@
 //! The definitions are in `specs/`. `Requests`, `Events` and `Records` define what a line parses to. `Batches` and `Operations`
 //! define what an object with a batch parses to, and `Fields` the values at the keys. `Codes` has the codes and keys, `Ids` the
 //! ids. `RecordViews` says which audit record a [`Record`] represents, and `Kept` has the theorem on the bytes that are kept of a
-//! line. `FieldsPrivate` is for this crate's own contracts.
+//! line. `FieldsPrivate` and `Trees` are for this crate's own contracts.
 //!
 //! - `fault`: what can be wrong with a line; `refusal`: the same with the line's number.
 //! - `request`: a line, and a request's keys next to those of its batch; `tries`: how often a batch may be tried.
 //! - `event`: a line that is an event of a call; `record`: a line that reports a call with its reply.
 //! - `batch`, `ops`: an object that holds a batch, and its operations; `ids`: the ids for entries without one.
-//! - `fields`: the values at an object's keys; `kept_lines`: the bytes kept of a line.
+//! - `tree`: a line's JSON value; `fields`: the values at an object's keys; `kept_lines`: the bytes kept of a line.
 //!
 //! `docs/GLOSSARY.md` explains the terms.
 #![tactic(auto)]
@@ -32,6 +32,7 @@ mod ops;
 mod record;
 mod refusal;
 mod request;
+mod tree;
 mod tries;
 
 pub use event::read_event;

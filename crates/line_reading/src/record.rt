@@ -1,7 +1,7 @@
 //! Which record of a call does a line parse to?
 
 ghost use Rattle.std.specs.Prelude.{◌≡◌, IfErr, Ok, IfOk, MatchResult};
-ghost use Rattle.serde_json.specs.View.{members_view, view};
+ghost use Rattle.line_reading.specs.Trees.{members_view, view};
 ghost use Rattle.spiffe_name.specs.Failures.{IsNoMemory};
 ghost use Rattle.line_reading.specs.Fields.{Fails};
 ghost use Rattle.line_reading.specs.FieldsPrivate.{Gives};
@@ -12,12 +12,13 @@ ghost use Rattle.line_reading.specs.Requests.{NeedsMemory};
 use crate::batch::{batch_of, listed_in};
 use crate::fault::{Code, Fault, Key};
 use crate::fields::{at_key, no_others, number_at, number_in, value_at};
-use crate::ids::{Ids, MissingId};
+use crate::ids::{IdStream, MissingId};
 use crate::ops::ops_in;
 use crate::refusal::LineRefusal;
-use crate::request::{framed, object_in, text_in, value_in};
+use crate::request::{framed, object_in, text_in};
+use crate::tree::{Members, is_null, members_of, owned, value_in};
 use entry_book::Batch;
-use serde_json::{Map, Value};
+use json::{Scratch, Value};
 use spiffe_name::{Failure, TrustDomain};
 use std::alloc::Global;
 
@@ -33,18 +34,18 @@ pub struct Record {
     /// The number of its reply; `None` if it hasn't replied.
     pub replied: Option<u64>,
     /// Its reply; a record with a reply that isn't an object is refused.
-    pub reply: Value,
+    pub reply: serde_json::Value,
 }
 
 /// Reads the whole number at a key, or `None` if the value is null. The key must be there.
 #[tactic(auto, unfolding(crate::specs::Records::number_or_null_at))]
-fn number_or_null_at(object: &Value, key: Key) -> Result<Option<u64>, Failure<Fault>>
+fn number_or_null_at(object: &Value<'_>, key: Key) -> Result<Option<u64>, Failure<Fault>>
     ensures { Gives (λ n. n) result (number_or_null_at key (view object.now)) }
 {
     let Some(value) = value_at(object, key) else {
         return Err(at_key(Code::Field, key));
     };
-    if value.is_null() {
+    if is_null(value) {
         return Ok(None);
     }
     Ok(Some(number_in(value, key)?))
@@ -52,13 +53,13 @@ fn number_or_null_at(object: &Value, key: Key) -> Result<Option<u64>, Failure<Fa
 
 /// Reads the object at a key.
 #[tactic(auto, unfolding(crate::specs::Records::object_at))]
-fn object_at(object: &Value, key: Key) -> Result<&Value, Failure<Fault>>
+fn object_at<'v, 'a>(object: &'v Value<'a>, key: Key) -> Result<&'v Value<'a>, Failure<Fault>>
     ensures { Gives (λ value. view value.now) result (object_at key (view object.now)) }
 {
     let Some(value) = value_at(object, key) else {
         return Err(at_key(Code::Field, key));
     };
-    if !value.is_object() {
+    if members_of(value).is_none() {
         return Err(at_key(Code::Field, key));
     }
     Ok(value)
@@ -69,15 +70,15 @@ fn object_at(object: &Value, key: Key) -> Result<&Value, Failure<Fault>>
 fn recorded_batch_in(
     alloc: Global,
     domain: &TrustDomain,
-    object: &Value,
-    members: &Map<String, Value>,
+    object: &Value<'_>,
+    members: &Members<'_>,
 ) -> Result<Batch, Failure<Fault>>
     ensures { Gives (λ batch. batch) result
-        (recorded_batch_in domain.now (view object.now) (members_view members.now.entries)) }
+        (recorded_batch_in domain.now (view object.now) (members_view members.now.items)) }
 {
     let listed = listed_in(object)?;
     no_others(members, &[Key::Ops, Key::After, Key::Token])?;
-    let mut ids = Ids::of_seed([0; 32]);
+    let mut ids = IdStream::of_seed([0; 32]);
     let ops = ops_in(alloc, MissingId::Refused, &mut ids, listed.items)?;
     batch_of(alloc, domain, ops, listed.after, listed.token)
 }
@@ -87,16 +88,16 @@ fn recorded_batch_in(
 fn record_in(
     alloc: Global,
     domain: &TrustDomain,
-    object: &Value,
-    members: &Map<String, Value>,
+    object: &Value<'_>,
+    members: &Members<'_>,
 ) -> Result<Record, Failure<Fault>>
     ensures { Gives recorded result
-        (record_in domain.now (view object.now) (members_view members.now.entries)) }
+        (record_in domain.now (view object.now) (members_view members.now.items)) }
 {
     let Some(inner) = value_at(object, Key::Batch) else {
         return Err(at_key(Code::Field, Key::Batch));
     };
-    let Some(inner_members) = inner.as_object() else {
+    let Some(inner_members) = members_of(inner) else {
         return Err(at_key(Code::Field, Key::Batch));
     };
     let call = number_at(object, Key::Call)?;
@@ -119,7 +120,7 @@ fn record_in(
         call,
         invoked,
         replied,
-        reply: reply.clone()?,
+        reply: owned(alloc, reply)?,
     })
 }
 
@@ -135,7 +136,8 @@ fn spelled_record(
 {
     framed(line)?;
     let text = text_in(line)?;
-    let value = value_in(alloc, text)?;
+    let mut scratch = Scratch::new(alloc);
+    let value = value_in(alloc, text, &mut scratch)?;
     let members = object_in(&value)?;
     record_in(alloc, domain, &value, members)
 }
