@@ -5,6 +5,7 @@ mod Cutting
 mod Ends
 mod First
 mod Flat
+mod InPlace
 mod Paths
 mod Shelves
 mod Split

@@ -99,6 +99,26 @@ pub record IsPath {X : Type 0} (inners inners_below : List (List (List X))) (lea
   pub are_leaves : AreNodes least_rows (flatten inners)
   pub size : length inners ≤ most_inners
 
+-- these parts are cut at a position: between those below and those above is one more part if `is_there`, and otherwise none
+abbrev pub IsCutAt : {X : Type 0} → Bool → List X → List X → List X → Type 0
+IsCutAt {X} true parts below above = (part : X) × (parts ≡ below ++ part ∷ above)
+IsCutAt false parts below above = parts ≡ below ++ above
+
+-- the nodes have the parts of the nodes below, these parts, and those of the nodes above, and the sizes of nodes; there is at
+-- most one node less than before the change, and at most one more
+pub record IsRebuilt {X : Type 0} (least : ℕ) (below : List (List X)) (parts : List X) (above nodes : List (List X)) : Type 0 where
+  pub flat : flatten nodes ≡ flatten below ++ (parts ++ flatten above)
+  pub are_nodes : AreNodes least nodes
+  pub fewest : length below + length above ≤ length nodes
+  pub most : length nodes ≤ length below + length above + 2
+
+-- the inner nodes after the path to a leaf was put back with these rows: the rows on both sides of that leaf are around them, and
+-- all nodes have the sizes of nodes
+pub record IsPathPutBack {X : Type 0} (inners_below : List (List (List X))) (below : List (List X)) (rows : List X) (above : List (List X)) (inners_above inners : List (List (List X))) : Type 0 where
+  pub flat : flatten (flatten inners) ≡ flatten (flatten inners_below) ++ (flatten below ++ (rows ++ (flatten above ++ flatten (flatten inners_above))))
+  pub are_inners : AreNodes least_leaves inners
+  pub are_leaves : AreNodes least_rows (flatten inners)
+
 -- ---- walks
 
 -- the remaining rows of a walk, in order

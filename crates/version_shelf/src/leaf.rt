@@ -1,7 +1,8 @@
 //! How are the rows of one leaf searched and changed?
 
-ghost use Rattle.std.specs.Prelude.{◌≡◌, ◌++◌, ◌∷◌, ◌+◌, ◌<◌, ◌≤◌, ◌^◌, IfOk, length};
+ghost use Rattle.std.specs.Prelude.{◌≡◌, ◌++◌, ◌∷◌, ◌+◌, ◌<◌, ◌≤◌, ◌^◌, IfOk, is_some, length};
 ghost use Rattle.std.specs.Option.{option_copied};
+ghost use Rattle.version_shelf.specs.Nodes.{IsCutAt};
 ghost use Rattle.version_shelf.specs.Shelf.{IsInOrder, get, rows_below, rows_above, rows_between, rows_from};
 
 use crate::bound::Bound;
@@ -30,6 +31,7 @@ pub(crate) fn split<'a, K: Ord, V, B: Bound<K>>(
     requires room { count.old + 9 < 2 ^ 64 }
     ensures below { result.0.now ≡ rows_below K.cmp rows.now (B.position bound.now) }
     ensures others { result.1.now ≡ rows_from K.cmp rows.now (B.position bound.now) }
+    ensures whole { rows.now ≡ result.0.now ++ result.1.now }
     ensures counted { (count.old ≤ count.new) × (count.new ≤ count.old + 9) }
 {
     rows.split_at(position(rows, bound, count))
@@ -63,6 +65,7 @@ pub(crate) fn part<'a, K: Ord, V>(
     ensures below { result.below.now ≡ rows_below K.cmp rows.now key.now }
     ensures value { option_copied result.value ≡ get K.cmp rows.now key.now }
     ensures above { result.above.now ≡ rows_above K.cmp rows.now key.now }
+    ensures whole { IsCutAt (is_some result.value) rows.now result.below.now result.above.now }
     ensures counted { (count.old ≤ count.new) × (count.new ≤ count.old + 10) }
 {
     let (below, others) = split(rows, key, count);

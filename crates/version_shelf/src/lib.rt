@@ -1,9 +1,10 @@
 //! A persistent (immutable) ordered map: readers keep the shelf that they have while a writer makes a changed copy.
 //!
-//! A [`Shelf`] maps keys to values, in the order of its keys. It never changes: [`Shelf::with`] and [`Shelf::without`]
-//! return a new shelf, and all older ones remain as they were. A contract sees a shelf as the list of its rows, each a key
-//! with its value, in strictly ascending order of keys. `specs/Shelf.antt` defines the terms of the contracts. [`Range`] is
-//! an iterator over all rows, those from a key on, or those between two bounds. [`Bound`] is an end of a range: a key, or
+//! A [`Shelf`] maps keys to values, in the order of its keys. It never changes: [`Shelf::with`] and [`Shelf::without`] return
+//! a new shelf, and all older ones remain as they were. [`Shelf::into_with`] and [`Shelf::into_without`] consume the shelf,
+//! and change the nodes that no other shelf has without copying them. A contract sees a shelf as the list of its rows, each a
+//! key with its value, in strictly ascending order of keys. `specs/Shelf.antt` defines the terms of the contracts. [`Range`]
+//! is an iterator over all rows, those from a key on, or those between two bounds. [`Bound`] is an end of a range: a key, or
 //! the position of a key that need not be constructed. [`Count`] counts the work of a call.
 //!
 //! A shelf is a B-tree of three fixed levels, with nodes of three kinds. The leaves contain the rows, the inner nodes
@@ -25,6 +26,8 @@
 //! | `clone` | none | none | none; increments the root's reference count |
 //! | `with`, `with_counted` | as `get` | none | the row, and new nodes with 1,024 parts in total |
 //! | `without`, `without_counted` | as `get` | none | new nodes with 1,024 parts in total; as `clone` if no row has the key |
+//! | `into_with` | as `get` | none | as `with`, without the parts of nodes that no other shelf has |
+//! | `into_without` | as `get` | none | as `without`, without those parts; the root if no row has the key |
 //!
 //! The contract of `find` states at most 32 comparisons, those of `with_counted` and `without_counted` at most 1,024 parts,
 //! each by a [`Count`]. All comparisons of keys are made in `count::compared` and `count::is_below`, which calls
@@ -34,7 +37,7 @@
 //! Shelves share rows and nodes by reference counts. A row or a node taken over from an older shelf is the same object in
 //! memory. Putting it into a new node increments its count, and it is freed with the last shelf that contains it. Dropping a
 //! shelf decrements the root's count. A node that is freed decrements the counts of its parts. A clone of a shelf also shares
-//! its root.
+//! its root. A node on the path of an `into_` call is changed in place if its count and those of all nodes above it are 1.
 //!
 //! The only error is `AllocError`: out of memory, or a reference count at its maximum. Calls that neither allocate nor
 //! increment a reference count return no error. After an error the old shelf is unchanged.
@@ -45,6 +48,7 @@
 //! - `count`: the counter of the work of a call.
 //! - `path`: where in a shelf a key belongs, and the inner nodes after a change of its leaf.
 //! - `rebuilt`: a list of nodes after the parts of one of them changed.
+//! - `in_place`: how the nodes on the path to a key are changed in place.
 //! - `search`: where in an ordered list of parts a bound belongs.
 //! - `walk`: how an iterator moves from node to node.
 //! - `leaf`: the rows of one leaf.
@@ -58,6 +62,7 @@
 
 mod bound;
 mod count;
+mod in_place;
 mod leaf;
 mod node;
 mod path;

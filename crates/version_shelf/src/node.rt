@@ -49,6 +49,30 @@ impl<T> Node<T> {
     {
         &self.parts
     }
+
+    /// Returns the parts in a list. If this is the only reference to the node, they are moved out of it. Otherwise the node is
+    /// unchanged, and each part is cloned. The error is out of memory, or that of a clone.
+    pub(crate) fn into_parts(self, alloc: Global) -> Result<Vec<T>, AllocError>
+    where
+        T: Clone,
+        requires clones { ClonesEqual T.is_clone }
+        ensures { IfOk result (λ parts. parts.items ≡ self) }
+    {
+        match Arc::try_unwrap(self.parts) {
+            Ok(parts) => Ok(parts),
+            Err(shared) => clones_of(alloc, &shared),
+        }
+    }
+}
+
+/// Returns a list of clones of the parts, with room for one more. The error is out of memory, or that of a clone.
+fn clones_of<T: Clone>(alloc: Global, parts: &[T]) -> Result<Vec<T>, AllocError>
+    requires clones { ClonesEqual T.is_clone }
+    ensures { IfOk result (λ clones. clones.items ≡ parts.now) }
+{
+    let mut clones = Vec::with_capacity(alloc, parts.len().saturating_add(1))?;
+    append(&mut clones, parts, &mut Count::new())?;
+    Ok(clones)
 }
 
 /// Increments the reference count. The only error is that the count is at its maximum.

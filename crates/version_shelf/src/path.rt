@@ -1,9 +1,9 @@
 //! Where in a shelf does a key belong, and what is on both sides of it?
 
-ghost use Rattle.std.specs.Prelude.{◌≡◌, ◌++◌, ◌+◌, ◌<◌, ◌≤◌, ◌^◌, IfOk, List, length};
+ghost use Rattle.std.specs.Prelude.{◌≡◌, ◌++◌, ◌+◌, ◌<◌, ◌≤◌, ◌^◌, IfOk, List, is_some, length};
 ghost use Rattle.std.specs.Option.{option_copied};
 ghost use Rattle.version_shelf.specs.Shelf.{IsInOrder, get, rows_below, rows_above};
-ghost use Rattle.version_shelf.specs.Nodes.{AreNodes, IsPath, flatten, least_leaves, least_rows, most_inners};
+ghost use Rattle.version_shelf.specs.Nodes.{AreNodes, IsCutAt, IsPath, flatten, least_leaves, least_rows, most_inners};
 
 use crate::count::Count;
 use crate::leaf::{Parts, part};
@@ -13,9 +13,9 @@ use crate::search::{Cut, cut_at};
 use crate::shared_row::SharedRow;
 use std::alloc::{AllocError, Global};
 
-const LEAST_ROWS: usize = 16;
+pub(crate) const LEAST_ROWS: usize = 16;
 
-const LEAST_LEAVES: usize = 32;
+pub(crate) const LEAST_LEAVES: usize = 32;
 
 /// The path from the root to a key: the inner nodes of a shelf, the leaves of one inner node, and the rows of one
 /// leaf. Each list is cut at the key.
@@ -43,6 +43,7 @@ pub(crate) fn path_to<'a, K: Ord, V>(
     ensures below { flatten (flatten result.inners.below.now) ++ (flatten result.leaves.below.now ++ result.rows.below.now) ≡ rows_below K.cmp (flatten (flatten inners.now)) key.now }
     ensures value { option_copied result.rows.value ≡ get K.cmp (flatten (flatten inners.now)) key.now }
     ensures above { result.rows.above.now ++ (flatten result.leaves.above.now ++ flatten (flatten result.inners.above.now)) ≡ rows_above K.cmp (flatten (flatten inners.now)) key.now }
+    ensures whole { IsCutAt (is_some result.rows.value) result.leaves.at.now result.rows.below.now result.rows.above.now }
     ensures counted { (count.old ≤ count.new) × (count.new ≤ count.old + 28) }
 {
     let inners = cut_at(inners, key, count);

@@ -115,7 +115,10 @@ fn put_nodes<T: Drop>(
 
 /// Splits the parts into two halves. The second half moves to a new list, and its length is added to the count. The only
 /// error is out of memory.
-fn in_halves<T: Drop>(parts: Vec<T>, count: &mut Count) -> Result<(Vec<T>, Vec<T>), AllocError>
+pub(crate) fn in_halves<T: Drop>(
+    parts: Vec<T>,
+    count: &mut Count,
+) -> Result<(Vec<T>, Vec<T>), AllocError>
     requires { count.old + (length parts.items - length parts.items / 2) < 2 ^ 64 }
     ensures first { IfOk result (λ halves. halves.0.items ≡ take (length parts.items / 2) parts.items) }
     ensures second { IfOk result (λ halves. halves.1.items ≡ drop (length parts.items / 2) parts.items) }

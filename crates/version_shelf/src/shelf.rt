@@ -7,6 +7,7 @@ ghost use Rattle.version_shelf.specs.Nodes.{AreNodes, flatten, least_leaves, lea
 
 use crate::bound::Bound;
 use crate::count::Count;
+use crate::in_place::{inners_in, put_path_back, put_row_at, take_path};
 use crate::leaf::{rows_with, rows_without};
 use crate::node::{InnerNode, Node};
 use crate::path::{inners_with, path_to};
@@ -188,6 +189,55 @@ impl<K: Ord + Clone, V: Clone> Shelf<K, V> {
         let rows = rows_without(self.alloc, path.rows.below, path.rows.above, count)?;
         let inners = inners_with(self.alloc, &path, rows, count)?;
         Shelf::of(self.alloc, inners, self.len - 1)
+    }
+
+    /// Returns the shelf with this row, as `with` does and under the same conditions. Nodes that no other shelf has are changed
+    /// and not copied. So a list of rows that are put one after another copies each node at most once.
+    pub fn into_with(self, key: K, value: V) -> Result<Shelf<K, V>, AllocError>
+        requires room { HasRoom self }
+        requires keys { ClonesEqual K.is_clone }
+        requires values { ClonesEqual V.is_clone }
+        ensures rows { IfOk result (λ new. new ≡ with_key K.cmp self key value) }
+        ensures map { IfOk result (λ new. ChangesAt K.cmp self new key (Some value)) }
+        ensures count { IfOk result (λ new. length new + count_of K.cmp self key ≡ length self + 1) }
+        ensures order { IfOk result (IsInOrder K.cmp) }
+    {
+        let Shelf { alloc, len, inners } = self;
+        let inners = inners_in(alloc, inners)?;
+        let path = path_to(inners.as_slice(), &key, &mut Count::new());
+        let len = len_with(len, path.rows.value);
+        let is_there = path.rows.value.is_some();
+        let (at_inner, at_leaf) = (path.inners.below.len(), path.leaves.below.len());
+        let at_row = path.rows.below.len();
+        let mut taken = take_path(alloc, inners, at_inner, at_leaf)?;
+        let row = SharedRow::new(alloc, key, value)?;
+        put_row_at(&mut taken.rows, at_row, is_there, row)?;
+        let inners = put_path_back(alloc, taken)?;
+        Shelf::of(alloc, inners, len)
+    }
+
+    /// Returns the shelf without the row that has the key, as `without` does and under the same conditions. Nodes that no other
+    /// shelf has are changed and not copied. If no row has the key, the root is copied if another shelf has it.
+    pub fn into_without(self, key: &K) -> Result<Shelf<K, V>, AllocError>
+        requires keys { ClonesEqual K.is_clone }
+        requires values { ClonesEqual V.is_clone }
+        ensures rows { IfOk result (λ new. new ≡ without_key K.cmp self key.now) }
+        ensures map { IfOk result (λ new. ChangesAt K.cmp self new key.now None) }
+        ensures count { IfOk result (λ new. length new + count_of K.cmp self key.now ≡ length self) }
+        ensures order { IfOk result (IsInOrder K.cmp) }
+    {
+        let Shelf { alloc, len, inners } = self;
+        let inners = inners_in(alloc, inners)?;
+        let path = path_to(inners.as_slice(), key, &mut Count::new());
+        if path.rows.value.is_none() {
+            return Shelf::of(alloc, inners, len);
+        }
+        let (at_inner, at_leaf) = (path.inners.below.len(), path.leaves.below.len());
+        let at_row = path.rows.below.len();
+        let mut taken = take_path(alloc, inners, at_inner, at_leaf)?;
+        let _ = taken.rows.remove(at_row);
+        let inners = put_path_back(alloc, taken)?;
+        Shelf::of(alloc, inners, len - 1)
     }
 
     /// Makes the shelf of these inner nodes, which have `len` rows. The only error is out of memory.

@@ -117,11 +117,53 @@ fn keep<'a>(kept: &mut Vec<CountedShelf<'a>>, shelf: &CountedShelf<'a>) -> Resul
     Ok(kept.push(shelf.clone()?)?)
 }
 
+/// How the next shelf is made: from a shelf that remains, or from one that is consumed.
+#[derive(Clone, Copy)]
+enum Way {
+    Borrowed,
+    Consumed,
+}
+
+/// The shelf with the key, whose value is the turn, made in this way.
+fn with_next<'a>(
+    rt: &impl Abort,
+    shelf: CountedShelf<'a>,
+    counts: &'a Counts,
+    way: Way,
+    key: u64,
+    turn: u64,
+) -> Result<CountedShelf<'a>, AllocError> {
+    if let Way::Borrowed = way {
+        return with_key(rt, &shelf, counts, key, turn);
+    }
+    is_met(rt, shelf.has_room(), "has_room");
+    let more = shelf.into_with(counts.number(key), counts.number(turn))?;
+    is_number(rt, counts.copies(), 0, "copies");
+    Ok(more)
+}
+
+/// The shelf without the key, made in this way.
+fn without_next<'a>(
+    rt: &impl Abort,
+    shelf: CountedShelf<'a>,
+    counts: &'a Counts,
+    way: Way,
+    key: u64,
+) -> Result<CountedShelf<'a>, AllocError> {
+    if let Way::Borrowed = way {
+        return without_key(rt, &shelf, counts, key);
+    }
+    let fewer = shelf.into_without(&counts.number(key))?;
+    is_number(rt, counts.copies(), 0, "copies");
+    Ok(fewer)
+}
+
 /// The shelf of all keys, which are set in this order. Every thousandth shelf before it is kept, from the empty one on.
 fn filled<'a>(
     rt: &impl Abort,
     alloc: Global,
     counts: &'a Counts,
+    way: Way,
     order: Order,
     kept: &mut Vec<CountedShelf<'a>>,
 ) -> Result<CountedShelf<'a>, AllocError> {
@@ -130,7 +172,7 @@ fn filled<'a>(
         if turn % 1_000 == 0 {
             keep(kept, &shelf)?;
         }
-        shelf = with_key(rt, &shelf, counts, order.key(turn), turn)?;
+        shelf = with_next(rt, shelf, counts, way, order.key(turn), turn)?;
     }
     Ok(shelf)
 }
@@ -140,11 +182,12 @@ fn emptied<'a>(
     rt: &impl Abort,
     shelf: CountedShelf<'a>,
     counts: &'a Counts,
+    way: Way,
     order: Order,
 ) -> Result<CountedShelf<'a>, AllocError> {
     let mut shelf = shelf;
     for turn in 0..ROWS {
-        shelf = without_key(rt, &shelf, counts, order.key(turn))?;
+        shelf = without_next(rt, shelf, counts, way, order.key(turn))?;
     }
     Ok(shelf)
 }
@@ -163,15 +206,17 @@ fn assert_kept<'a>(rt: &impl Abort, kept: &[CountedShelf<'a>], counts: &'a Count
 fn assert_filled_and_emptied(
     rt: &impl Abort,
     alloc: Global,
+    way: Way,
     order: Order,
     emptying: Order,
 ) -> Result<(), Fail> {
     let counts = Counts::new();
     let mut kept = Vec::new(alloc);
-    let full = filled(rt, alloc, &counts, order, &mut kept)?;
+    let full = filled(rt, alloc, &counts, way, order, &mut kept)?;
     assert_turns(rt, &full, &counts, order, ROWS);
-    let empty = emptied(rt, full, &counts, emptying)?;
+    let empty = emptied(rt, full.clone()?, &counts, way, emptying)?;
     assert_turns(rt, &empty, &counts, order, 0);
+    assert_turns(rt, &full, &counts, order, ROWS);
     assert_kept(rt, kept.as_slice(), &counts, order);
     Ok(())
 }
@@ -180,17 +225,50 @@ fn assert_filled_and_emptied(
 fn a_shelf_is_filled_by_rising_keys_and_emptied_by_falling_ones(
     rt: HostRuntime,
 ) -> Result<(), Fail> {
-    assert_filled_and_emptied(&rt, rt.alloc(), Order::Rising, Order::Falling)
+    assert_filled_and_emptied(
+        &rt,
+        rt.alloc(),
+        Way::Borrowed,
+        Order::Rising,
+        Order::Falling,
+    )
 }
 
 #[test]
 fn a_shelf_is_filled_by_falling_keys_and_emptied_by_mixed_ones(
     rt: HostRuntime,
 ) -> Result<(), Fail> {
-    assert_filled_and_emptied(&rt, rt.alloc(), Order::Falling, Order::Mixed)
+    assert_filled_and_emptied(&rt, rt.alloc(), Way::Borrowed, Order::Falling, Order::Mixed)
 }
 
 #[test]
 fn a_shelf_is_filled_by_mixed_keys_and_emptied_by_rising_ones(rt: HostRuntime) -> Result<(), Fail> {
-    assert_filled_and_emptied(&rt, rt.alloc(), Order::Mixed, Order::Rising)
+    assert_filled_and_emptied(&rt, rt.alloc(), Way::Borrowed, Order::Mixed, Order::Rising)
+}
+
+#[test]
+fn a_shelf_is_filled_in_place_by_rising_keys_and_emptied_by_falling_ones(
+    rt: HostRuntime,
+) -> Result<(), Fail> {
+    assert_filled_and_emptied(
+        &rt,
+        rt.alloc(),
+        Way::Consumed,
+        Order::Rising,
+        Order::Falling,
+    )
+}
+
+#[test]
+fn a_shelf_is_filled_in_place_by_falling_keys_and_emptied_by_mixed_ones(
+    rt: HostRuntime,
+) -> Result<(), Fail> {
+    assert_filled_and_emptied(&rt, rt.alloc(), Way::Consumed, Order::Falling, Order::Mixed)
+}
+
+#[test]
+fn a_shelf_is_filled_in_place_by_mixed_keys_and_emptied_by_rising_ones(
+    rt: HostRuntime,
+) -> Result<(), Fail> {
+    assert_filled_and_emptied(&rt, rt.alloc(), Way::Consumed, Order::Mixed, Order::Rising)
 }

@@ -4,7 +4,8 @@ ghost use Rattle.std.specs.Prelude.{◌<◌};
 
 use crate::bounds::is_met;
 use crate::wanted::{holds, is_number};
-use std::alloc::Global;
+use std::alloc::{AllocError, Global};
+use std::mem;
 use std::process::Abort;
 use std::test::Fail;
 use version_shelf::Shelf;
@@ -50,8 +51,49 @@ fn copy_of(pair: &Pair) -> Result<Pair, Fail> {
     })
 }
 
+/// How the next shelf is made: from a shelf that remains, or from one that is consumed.
+#[derive(Clone, Copy)]
+enum Way {
+    Borrowed,
+    Consumed,
+}
+
+/// The shelf with a row.
+fn with_row(
+    rt: &impl Abort,
+    shelf: Shelf<u64, u64>,
+    way: Way,
+    key: u64,
+    value: u64,
+) -> Result<Shelf<u64, u64>, AllocError> {
+    is_met(rt, shelf.has_room(), "has_room");
+    match way {
+        Way::Borrowed => shelf.with(key, value),
+        Way::Consumed => shelf.into_with(key, value),
+    }
+}
+
+/// The shelf without a key.
+fn without_key(shelf: Shelf<u64, u64>, way: Way, key: u64) -> Result<Shelf<u64, u64>, AllocError> {
+    match way {
+        Way::Borrowed => shelf.without(&key),
+        Way::Consumed => shelf.into_without(&key),
+    }
+}
+
 /// Sets or removes a random key, in both.
-fn change(rt: &impl Abort, pair: &mut Pair, draws: &mut Draws, turn: u64) -> Result<(), Fail> {
+fn change(
+    rt: &impl Abort,
+    alloc: Global,
+    pair: &mut Pair,
+    draws: &mut Draws,
+    turn: u64,
+) -> Result<(), Fail> {
+    let way = if draws.below(4) > 0 {
+        Way::Consumed
+    } else {
+        Way::Borrowed
+    };
     let key = draws.below(KEYS);
     let place = pair
         .list
@@ -59,11 +101,12 @@ fn change(rt: &impl Abort, pair: &mut Pair, draws: &mut Draws, turn: u64) -> Res
         .expect(rt, "a place for each key");
     if draws.below(3) > 0 {
         *place = Some(turn);
-        is_met(rt, pair.shelf.has_room(), "has_room");
-        pair.shelf = pair.shelf.with(key, turn)?;
+        let shelf = mem::replace(&mut pair.shelf, Shelf::new(alloc));
+        pair.shelf = with_row(rt, shelf, way, key, turn)?;
     } else {
         *place = None;
-        pair.shelf = pair.shelf.without(&key)?;
+        let shelf = mem::replace(&mut pair.shelf, Shelf::new(alloc));
+        pair.shelf = without_key(shelf, way, key)?;
     }
     Ok(())
 }
@@ -111,7 +154,7 @@ fn a_thousand_random_changes_are_those_of_a_plain_list(rt: HostRuntime) -> Resul
     let mut pair = new_pair(rt.alloc())?;
     let mut kept = Vec::new(rt.alloc());
     for turn in 0..1_000 {
-        change(&rt, &mut pair, &mut draws, turn)?;
+        change(&rt, rt.alloc(), &mut pair, &mut draws, turn)?;
         let (lo, hi) = (draws.below(KEYS + 1), draws.below(KEYS + 1));
         assert_same(&rt, &pair, lo, hi);
         if turn % 10 == 0 {

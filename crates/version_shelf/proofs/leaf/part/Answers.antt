@@ -1,4 +1,4 @@
-use Rattle.std.proofs.Common.{◌≡◌, sym, None, ap, ◌∙◌}
+use Rattle.std.proofs.Common.{◌≡◌, ◌++◌, sym, None, ap, ◌∙◌}
 use Rattle.version_shelf.specs.Shelf.{get, rows_above}
 use Rattle.version_shelf.proofs.First.{first_equal, first_greater, no_first}
 use Rattle.version_shelf.proofs.leaf.part.Goals as goal
@@ -23,3 +23,6 @@ returns-in_default-clause-value g c = sym (none_at g c).0
 
 pub returns-in_default-clause-above : goal.returns-in_default-clause-above
 returns-in_default-clause-above g c = sym (none_at g c).1
+
+pub returns-in-Some-clause-whole : goal.returns-in-Some-clause-whole
+returns-in-Some-clause-whole g c = (c.in-Some.row.now, c.split.ensures.whole ∙ ap (λ l. c.split.result.0.now ++ l) c.in-Some.ensures.cases.0)
