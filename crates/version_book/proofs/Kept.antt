@@ -1,11 +1,8 @@
 -- Which rows remain after one is removed, and which are there after another is put?
 use Rattle.std.proofs.Common.{◌≡◌, ◌+◌, ◌≤◌, true, false, List, [], ◌∷◌, ◌++◌, length, map, Some, None, refl, sym, ap, subst, ◌∙◌, inl, ⊎_elim, arith, length-append}
-use Rattle.std.specs.Prelude.{filter, option_to_list, bytes_eq}
-use Rattle.std.specs.Ordering.{nat_cmp}
-use Rattle.std.specs.Cmp.Lexicographic.{slice_cmp}
-use Rattle.std.specs.Map.{values_of}
+use Rattle.std.specs.Prelude.{filter, bytes_eq}
 use Rattle.std.proofs.lemmas.List.Elements.{filter-append}
-use Rattle.version_shelf.specs.Shelf.{IsInOrder, get, most_rows}
+use Rattle.version_shelf.specs.Shelf.{most_rows}
 use Rattle.entry_book.specs.Rows.{Bytes, Entry, entry_key}
 use Rattle.entry_book.specs.Order.{Within, Ascending, is_before, with_row}
 use Rattle.entry_book.proofs.Sets.{All-from_within, from_within_filter, within_filter, before-trans, before-irrefl, text_is, text_same}
@@ -13,9 +10,10 @@ use Rattle.entry_book.proofs.Keys.{from_with_row, without_none}
 use Rattle.version_book.specs.declared.committed_row.CommittedRow.{CommittedRow}
 use Rattle.version_book.specs.CommittedRows.{of_row, row_of}
 use Rattle.version_book.specs.Room.{count_of_names}
-use Rattle.version_book.specs.Stores.{IsAbsent, IsKeyed}
+use Rattle.version_book.specs.Stores.{IsAbsent}
+use Rattle.version_book.proofs.Mapped.{within_map}
 use Rattle.version_book.proofs.NamedRows.{map-with_row}
-use Rattle.version_book.proofs.Shelves.{filter-twice, filter-apart, row_at}
+use Rattle.version_book.proofs.Shelves.{filter-twice, filter-apart}
 
 -- ---- a removed row
 
@@ -106,15 +104,13 @@ module _ (k : Bytes) (rows : List (CommittedRow Entry)) where
   absent_after = All-from_within (λ r. r.row.id ≡ k → ⊥) (with_row (of_row entry_key) k None rows)
       (λ r w. ⊎_elim (λ n. absurd n) (λ o. o.1) (from_with_row (of_row entry_key) k None rows r w))
 
--- the row of a key, and the rows without it if there is none
-module _ (k : Bytes) (shelf : List (Bytes × CommittedRow Entry)) (sorted : IsInOrder (slice_cmp nat_cmp) shelf) (keyed : IsKeyed entry_key shelf) where
-  pub row_within : (r : CommittedRow Entry) → get (slice_cmp nat_cmp) shelf k ≡ Some r → Within (values_of shelf) r × (r.row.id ≡ k)
-  row_within r e =
-      let alone : filter (λ r. bytes_eq r.row.id k) (values_of shelf) ≡ r ∷ [] = row_at entry_key k shelf sorted keyed ∙ ap option_to_list e in
-      let there = from_within_filter (λ r. bytes_eq r.row.id k) (values_of shelf) r (subst (λ l. Within l r) (sym alone) (inl refl)) in
-      (there.0, text_is r.row.id k there.1)
+-- the entry that was found at an id, and the rows without it if none was found
+module _ (k : Bytes) (rows : List (CommittedRow Entry)) where
+  pub one_found : (old : Entry) → filter (λ e. bytes_eq e.id k) (map row_of rows) ≡ old ∷ [] → Within (map row_of rows) old × (old.id ≡ k)
+  one_found old alone =
+      let there = from_within_filter (λ e. bytes_eq e.id k) (map row_of rows) old (subst (λ l. Within l old) (sym alone) (inl refl)) in
+      (there.0, text_is old.id k there.1)
 
-  pub none_left : Ascending (of_row entry_key) (values_of shelf) → get (slice_cmp nat_cmp) shelf k ≡ None → with_row (of_row entry_key) k None (values_of shelf) ≡ values_of shelf
-  none_left ascending e =
-      let alone : filter (λ r. bytes_eq r.row.id k) (values_of shelf) ≡ [] = row_at entry_key k shelf sorted keyed ∙ ap option_to_list e in
-      without_none (of_row entry_key) k (values_of shelf) ascending (λ r w q. subst (λ l. Within l r) alone (within_filter (λ r. bytes_eq r.row.id k) (values_of shelf) r w (text_same r.row.id k q)))
+  pub none_found : Ascending (of_row entry_key) rows → filter (λ e. bytes_eq e.id k) (map row_of rows) ≡ [] → with_row (of_row entry_key) k None rows ≡ rows
+  none_found ascending none = without_none (of_row entry_key) k rows ascending
+      (λ r w q. subst (λ l. Within l r.row) none (within_filter (λ e. bytes_eq e.id k) (map row_of rows) r.row (within_map row_of rows r w) (text_same r.row.id k q)))

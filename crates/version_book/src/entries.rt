@@ -1,6 +1,9 @@
 //! How are the entries of a version stored?
 
 ghost use Rattle.std.specs.Prelude.{◌≡◌, IfOk, IsTrue};
+ghost use Rattle.entry_book.specs.Order.{Ascending};
+ghost use Rattle.entry_book.specs.Rows.{entry_key};
+ghost use Rattle.version_book.specs.CommittedRows.{of_row};
 ghost use Rattle.version_book.specs.Index.{HaveSameKeys, group_keys, user_keys, expiry_keys};
 
 use crate::borrowed::Borrowed;
@@ -116,7 +119,7 @@ fn have_same_keys(one: &Entry, other: &Entry) -> bool
 }
 
 impl Entries {
-    ghost use Rattle.std.specs.Prelude.{◌≡◌, ◌&&◌, ◌+◌, ◌≤◌, [], IfOk, IfSome, IsTrue, Some, None, bytes_eq, filter, length, map, nat_lt, option_map, take, if◌then◌else◌};
+    ghost use Rattle.std.specs.Prelude.{◌≡◌, ◌&&◌, ◌+◌, ◌≤◌, [], IfOk, IfSome, IsTrue, Some, None, bytes_eq, filter, length, map, nat_lt, option_map, option_to_list, take, if◌then◌else◌};
     ghost use Rattle.std.specs.Option.{option_copied};
     ghost use Rattle.entry_book.specs.Order.{Ascending, Within, first, with_row};
     ghost use Rattle.entry_book.specs.Pages.{comes_after, last_id, passes};
@@ -149,38 +152,50 @@ impl Entries {
     }
 
     /// Returns the entries without this one, which must be among them. The error is out of memory.
-    fn without(&self, alloc: Global, entry: &Entry) -> Result<Entries, AllocError>
-        requires there { Within (map row_of self.now) entry.now }
-        ensures { IfOk result (λ entries. entries ≡ with_row (of_row entry_key) entry.now.id None self.now) }
+    fn without(self, alloc: Global, entry: &Entry) -> Result<Entries, AllocError>
+        requires there { Within (map row_of self) entry.now }
+        ensures { IfOk result (λ entries. entries ≡ with_row (of_row entry_key) entry.now.id None self) }
     {
         let group_keys = group_keys(alloc, entry)?;
         let user_keys = user_keys(alloc, entry)?;
         let expiry_keys = expiry_keys(alloc, entry)?;
-        let rows = self.rows.without(entry.id())?;
+        let Entries {
+            rows,
+            groups,
+            users,
+            expiries,
+        } = self;
+        let rows = rows.into_without(entry.id())?;
         Ok(Entries {
             rows,
-            groups: without_keys(&self.groups, group_keys.as_slice())?,
-            users: without_keys(&self.users, user_keys.as_slice())?,
-            expiries: without_keys(&self.expiries, expiry_keys.as_slice())?,
+            groups: without_keys(groups, group_keys.as_slice())?,
+            users: without_keys(users, user_keys.as_slice())?,
+            expiries: without_keys(expiries, expiry_keys.as_slice())?,
         })
     }
 
     /// Returns the entries with this one added. No entry may have its id yet, and there must be room for it. The error is out
     /// of memory.
-    fn with(&self, alloc: Global, row: CommittedRow<Entry>) -> Result<Entries, AllocError>
-        requires absent { IsAbsent entry_key row.row.id self.now }
-        requires room { length self.now + 1 ≤ most_rows }
-        requires names { count_of_names (map row_of self.now) + length row.row.domains ≤ most_rows }
-        ensures { IfOk result (λ entries. entries ≡ with_row (of_row entry_key) row.row.id (Some row) self.now) }
+    fn with(self, alloc: Global, row: CommittedRow<Entry>) -> Result<Entries, AllocError>
+        requires absent { IsAbsent entry_key row.row.id self }
+        requires room { length self + 1 ≤ most_rows }
+        requires names { count_of_names (map row_of self) + length row.row.domains ≤ most_rows }
+        ensures { IfOk result (λ entries. entries ≡ with_row (of_row entry_key) row.row.id (Some row) self) }
     {
         let group_keys = group_keys(alloc, &row.row)?;
         let user_keys = user_keys(alloc, &row.row)?;
         let expiry_keys = expiry_keys(alloc, &row.row)?;
-        let groups = with_keys(&self.groups, group_keys, &row)?;
-        let users = with_keys(&self.users, user_keys, &row)?;
-        let expiries = with_keys(&self.expiries, expiry_keys, &row)?;
+        let Entries {
+            rows,
+            groups,
+            users,
+            expiries,
+        } = self;
+        let groups = with_keys(groups, group_keys, &row)?;
+        let users = with_keys(users, user_keys, &row)?;
+        let expiries = with_keys(expiries, expiry_keys, &row)?;
         let id = *row.row.id();
-        let rows = self.rows.with(id, row)?;
+        let rows = rows.into_with(id, row)?;
         Ok(Entries {
             rows,
             groups,
@@ -189,39 +204,35 @@ impl Entries {
         })
     }
 
-    /// Returns the entries without the one of an id, if there is one. The error is out of memory.
-    fn rest_of(&self, alloc: Global, id: &Uuid) -> Result<Entries, AllocError>
-        ensures { IfOk result (λ rest. rest ≡ with_row (of_row entry_key) id.now None self.now) }
-    {
-        match self.rows.get(id) {
-            Some(old) => Ok(self.without(alloc, &old.row)?),
-            None => Ok(self.clone()?),
-        }
-    }
-
     /// Returns the entries with this one in place of the one that has its id, which has the same keys. The error is out of
     /// memory.
     fn replaced(
-        &self,
+        self,
         alloc: Global,
         old: &Entry,
         row: CommittedRow<Entry>,
     ) -> Result<Entries, AllocError>
-        requires there { Within (map row_of self.now) old.now }
+        requires there { Within (map row_of self) old.now }
         requires same { HaveSameKeys old.now row.row }
-        requires room { length (with_row entry_key row.row.id (Some row.row) (map row_of self.now)) ≤ most_rows }
-        ensures { IfOk result (λ entries. entries ≡ with_row (of_row entry_key) row.row.id (Some row) self.now) }
+        requires room { length (with_row entry_key row.row.id (Some row.row) (map row_of self)) ≤ most_rows }
+        ensures { IfOk result (λ entries. entries ≡ with_row (of_row entry_key) row.row.id (Some row) self) }
     {
         // the old entry occurs in the contract alone
         let _ = old;
         let group_keys = group_keys(alloc, &row.row)?;
         let user_keys = user_keys(alloc, &row.row)?;
         let expiry_keys = expiry_keys(alloc, &row.row)?;
-        let groups = replace_keys(&self.groups, group_keys, &row)?;
-        let users = replace_keys(&self.users, user_keys, &row)?;
-        let expiries = replace_keys(&self.expiries, expiry_keys, &row)?;
+        let Entries {
+            rows,
+            groups,
+            users,
+            expiries,
+        } = self;
+        let groups = replace_keys(groups, group_keys, &row)?;
+        let users = replace_keys(users, user_keys, &row)?;
+        let expiries = replace_keys(expiries, expiry_keys, &row)?;
         let id = *row.row.id();
-        let rows = put_row(&self.rows, id, row)?;
+        let rows = put_row(rows, id, row)?;
         Ok(Entries {
             rows,
             groups,
@@ -230,43 +241,71 @@ impl Entries {
         })
     }
 
-    /// Returns the entries with this one, in place of the one that has its id, if there is one. If that has the same keys, each
+    /// Returns the entries with this one, in place of the old one of its id, if there is one. If that has the same keys, each
     /// shelf is changed once; otherwise the old keys are removed first. The error is out of memory.
-    fn put(&self, alloc: Global, row: CommittedRow<Entry>) -> Result<Entries, AllocError>
-        requires room { length (with_row entry_key row.row.id (Some row.row) (map row_of self.now)) ≤ most_rows }
-        requires names { count_of_names (with_row entry_key row.row.id (Some row.row) (map row_of self.now)) ≤ most_rows }
-        ensures { IfOk result (λ entries. entries ≡ with_row (of_row entry_key) row.row.id (Some row) self.now) }
+    fn put(
+        self,
+        alloc: Global,
+        old: Option<&Entry>,
+        row: CommittedRow<Entry>,
+    ) -> Result<Entries, AllocError>
+        requires found { filter (λ (entry : EntryRow). bytes_eq entry.id row.row.id) (map row_of self) ≡ option_to_list (option_copied old) }
+        requires room { length (with_row entry_key row.row.id (Some row.row) (map row_of self)) ≤ most_rows }
+        requires names { count_of_names (with_row entry_key row.row.id (Some row.row) (map row_of self)) ≤ most_rows }
+        ensures { IfOk result (λ entries. entries ≡ with_row (of_row entry_key) row.row.id (Some row) self) }
     {
-        match self.rows.get(row.row.id()) {
-            None => self.with(alloc, row),
+        match old {
+            None => {
+                in_order(&self);
+                self.with(alloc, row)
+            }
             Some(old) => {
-                if have_same_keys(&old.row, &row.row) {
-                    return self.replaced(alloc, &old.row, row);
+                if have_same_keys(old, &row.row) {
+                    return self.replaced(alloc, old, row);
                 }
-                let rest = self.without(alloc, &old.row)?;
+                let rest = self.without(alloc, old)?;
                 rest.with(alloc, row)
             }
         }
     }
 
-    /// Returns the entries after a change of one of them by this commit. The error is out of memory.
+    /// Returns the entries without the old one of an id, if there is one. The error is out of memory.
+    fn rest_of(self, alloc: Global, id: &Uuid, old: Option<&Entry>) -> Result<Entries, AllocError>
+        requires found { filter (λ (entry : EntryRow). bytes_eq entry.id id.now) (map row_of self) ≡ option_to_list (option_copied old) }
+        ensures { IfOk result (λ rest. rest ≡ with_row (of_row entry_key) id.now None self) }
+    {
+        // the id occurs in the contract alone
+        let _ = id;
+        match old {
+            Some(old) => self.without(alloc, old),
+            None => {
+                in_order(&self);
+                Ok(self)
+            }
+        }
+    }
+
+    /// Returns the entries after a change of one of them by this commit. The change's old entry must be the one of its key. The
+    /// error is out of memory.
     pub(crate) fn after(
-        &self,
+        self,
         alloc: Global,
         change: &RowChange<Uuid, Entry>,
         commit: u64,
     ) -> Result<Entries, AllocError>
+        requires found { filter (λ (entry : EntryRow). bytes_eq entry.id change.now.key) (map row_of self) ≡ option_to_list change.now.old }
         requires keyed { IfSome change.now.new (λ new. new.id ≡ change.now.key) }
-        requires room { IfSome change.now.new (λ new. length (with_row entry_key change.now.key change.now.new (map row_of self.now)) ≤ most_rows) }
-        requires names { IfSome change.now.new (λ new. count_of_names (with_row entry_key change.now.key change.now.new (map row_of self.now)) ≤ most_rows) }
-        ensures { IfOk result (λ entries. entries ≡ with_row (of_row entry_key) change.now.key (option_map (numbered commit) change.now.new) self.now) }
+        requires room { IfSome change.now.new (λ new. length (with_row entry_key change.now.key change.now.new (map row_of self)) ≤ most_rows) }
+        requires names { IfSome change.now.new (λ new. count_of_names (with_row entry_key change.now.key change.now.new (map row_of self)) ≤ most_rows) }
+        ensures { IfOk result (λ entries. entries ≡ with_row (of_row entry_key) change.now.key (option_map (numbered commit) change.now.new) self) }
     {
+        let old = change.old.as_ref();
         match &change.new {
             Some(new) => {
                 let row = new.clone()?;
-                self.put(alloc, CommittedRow { row, commit })
+                self.put(alloc, old, CommittedRow { row, commit })
             }
-            None => self.rest_of(alloc, &change.key),
+            None => self.rest_of(alloc, &change.key, old),
         }
     }
 
@@ -350,6 +389,14 @@ impl Entries {
             },
         }
     }
+}
+
+/// The entries are in strictly ascending order of their ids. The function only brings this fact into a proof.
+fn in_order(entries: &Entries)
+    ensures { Ascending (of_row entry_key) entries.now }
+{
+    // its contract says that the entries are in order
+    let _ = entries.len();
 }
 
 /// Clones both indexes. The error is out of memory.

@@ -23,39 +23,39 @@ const FEW: usize = 16;
 
 /// Returns the index without these keys, which must be those of a removed row. The error is out of memory.
 pub(crate) fn without_keys<K: Ord + Clone + Drop>(
-    index: &Shelf<K, CommittedRow<Entry>>,
+    index: Shelf<K, CommittedRow<Entry>>,
     keys: &[K],
 ) -> Result<Shelf<K, CommittedRow<Entry>>, AllocError>
     requires clones { ClonesEqual K.is_clone }
     requires is_exact { IsExactOrder K.cmp }
     ensures { IfOk result (λ rest. (keys_of : EntryRow → List K) (rows : List (NumberedRow EntryRow)) (old : NumberedRow EntryRow)
-        → KeysIdentify keys_of → Ascending (of_row entry_key) rows → IsIndex keys_of rows index.now → Within rows old → keys.now ≡ keys_of old.row
+        → KeysIdentify keys_of → Ascending (of_row entry_key) rows → IsIndex keys_of rows index → Within rows old → keys.now ≡ keys_of old.row
         → IsIndex keys_of (with_row (of_row entry_key) old.row.id None rows) rest) }
 {
-    let mut rest = index.clone()?;
+    let mut rest = index;
     for key in keys {
-        rest = rest.without(key)?;
+        rest = rest.into_without(key)?;
     }
     Ok(rest)
 }
 
 /// Returns the index with a row under these keys, which must be those of the row. The error is out of memory.
 pub(crate) fn with_keys<K: Ord + Clone + Drop>(
-    index: &Shelf<K, CommittedRow<Entry>>,
+    index: Shelf<K, CommittedRow<Entry>>,
     keys: Vec<K>,
     row: &CommittedRow<Entry>,
 ) -> Result<Shelf<K, CommittedRow<Entry>>, AllocError>
     requires clones { ClonesEqual K.is_clone }
     requires is_exact { IsExactOrder K.cmp }
-    requires room { IsInOrder K.cmp index.now → length index.now + length keys.items ≤ most_rows }
+    requires room { IsInOrder K.cmp index → length index + length keys.items ≤ most_rows }
     ensures { IfOk result (λ more. (keys_of : EntryRow → List K) (rows : List (NumberedRow EntryRow))
-        → KeysIdentify keys_of → IsAbsent entry_key row.now.row.id rows → IsIndex keys_of rows index.now → keys.items ≡ keys_of row.now.row
+        → KeysIdentify keys_of → IsAbsent entry_key row.now.row.id rows → IsIndex keys_of rows index → keys.items ≡ keys_of row.now.row
         → IsIndex keys_of (with_row (of_row entry_key) row.now.row.id (Some row.now) rows) more) }
 {
-    in_order(index);
-    let mut more = index.clone()?;
+    in_order(&index);
+    let mut more = index;
     for key in keys {
-        more = more.with(key, row.clone()?)?;
+        more = more.into_with(key, row.clone()?)?;
     }
     Ok(more)
 }
@@ -63,22 +63,22 @@ pub(crate) fn with_keys<K: Ord + Clone + Drop>(
 /// Returns the index with a row under these keys, in place of the rows under them, which must be those of the old row with its
 /// id. The error is out of memory.
 pub(crate) fn replace_keys<K: Ord + Clone + Drop>(
-    index: &Shelf<K, CommittedRow<Entry>>,
+    index: Shelf<K, CommittedRow<Entry>>,
     keys: Vec<K>,
     row: &CommittedRow<Entry>,
 ) -> Result<Shelf<K, CommittedRow<Entry>>, AllocError>
     requires clones { ClonesEqual K.is_clone }
     requires is_exact { IsExactOrder K.cmp }
-    requires there { AreThere keys.items index.now }
+    requires there { AreThere keys.items index }
     ensures { IfOk result (λ new. (keys_of : EntryRow → List K) (rows : List (NumberedRow EntryRow)) (old : NumberedRow EntryRow)
-        → KeysIdentify keys_of → Ascending (of_row entry_key) rows → IsIndex keys_of rows index.now → Within rows old
+        → KeysIdentify keys_of → Ascending (of_row entry_key) rows → IsIndex keys_of rows index → Within rows old
         → old.row.id ≡ row.now.row.id → keys_of old.row ≡ keys_of row.now.row → keys.items ≡ keys_of row.now.row
         → IsIndex keys_of (with_row (of_row entry_key) row.now.row.id (Some row.now) rows) new) }
 {
-    let mut new = index.clone()?;
+    let mut new = index;
     for key in keys {
         in_order(&new);
-        new = put_row(&new, key, row.clone()?)?;
+        new = put_row(new, key, row.clone()?)?;
     }
     Ok(new)
 }

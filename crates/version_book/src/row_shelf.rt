@@ -69,17 +69,18 @@ impl<K: Ord + Clone + Drop, T: KeyedRow<K> + Clone> RowShelf<K, T> {
 
     /// Returns the rows after a change of one of them by this commit. The error is out of memory.
     pub(crate) fn after(
-        &self,
+        self,
         change: &RowChange<K, T>,
         commit: u64,
     ) -> Result<RowShelf<K, T>, AllocError>
         requires keys { ClonesEqual K.is_clone }
         requires rows { ClonesEqual T.is_clone }
         requires keyed { IfSome change.now.new (λ new. T.key new ≡ T.bytes change.now.key) }
-        requires room { IfSome change.now.new (λ new. length (with_row T.key (T.bytes change.now.key) change.now.new (map row_of self.now)) ≤ most_rows) }
-        ensures { IfOk result (λ shelf. shelf ≡ with_row (of_row T.key) (T.bytes change.now.key) (option_map (numbered commit) change.now.new) self.now) }
+        requires room { IfSome change.now.new (λ new. length (with_row T.key (T.bytes change.now.key) change.now.new (map row_of self)) ≤ most_rows) }
+        ensures { IfOk result (λ shelf. shelf ≡ with_row (of_row T.key) (T.bytes change.now.key) (option_map (numbered commit) change.now.new) self) }
     {
-        let rows = after_change(&self.rows, change, commit)?;
+        let RowShelf { rows } = self;
+        let rows = after_change(rows, change, commit)?;
         Ok(RowShelf { rows })
     }
 
@@ -119,37 +120,37 @@ impl<K: Ord + Clone + Drop, T: KeyedRow<K> + Clone> RowShelf<K, T> {
 /// Returns the shelf with a row under a key, in place of the one that has this key. If the shelf is full, that one is removed
 /// first, which makes room. The error is out of memory.
 pub(crate) fn put_row<K: Ord + Clone + Drop, T: Clone + Drop>(
-    shelf: &Shelf<K, CommittedRow<T>>,
+    shelf: Shelf<K, CommittedRow<T>>,
     key: K,
     row: CommittedRow<T>,
 ) -> Result<Shelf<K, CommittedRow<T>>, AllocError>
     requires keys { ClonesEqual K.is_clone }
     requires rows { ClonesEqual T.is_clone }
-    requires room { length (without_key K.cmp shelf.now key) + 1 ≤ most_rows }
-    ensures { IfOk result (λ more. more ≡ with_key K.cmp shelf.now key row) }
+    requires room { length (without_key K.cmp shelf key) + 1 ≤ most_rows }
+    ensures { IfOk result (λ more. more ≡ with_key K.cmp shelf key row) }
 {
     if shelf.has_room() {
-        return shelf.with(key, row);
+        return shelf.into_with(key, row);
     }
-    shelf.without(&key)?.with(key, row)
+    shelf.into_without(&key)?.into_with(key, row)
 }
 
 /// Returns the shelf after a change of one row by this commit. The error is out of memory.
 fn after_change<K: Ord + Clone + Drop, T: Clone + Drop>(
-    shelf: &Shelf<K, CommittedRow<T>>,
+    shelf: Shelf<K, CommittedRow<T>>,
     change: &RowChange<K, T>,
     commit: u64,
 ) -> Result<Shelf<K, CommittedRow<T>>, AllocError>
     requires keys { ClonesEqual K.is_clone }
     requires rows { ClonesEqual T.is_clone }
-    requires room { IfSome change.now.new (λ new. length (without_key K.cmp shelf.now change.now.key) + 1 ≤ most_rows) }
-    ensures { IfOk result (λ after. after ≡ shelf_after K.cmp change.now.key (option_map (numbered commit) change.now.new) shelf.now) }
+    requires room { IfSome change.now.new (λ new. length (without_key K.cmp shelf change.now.key) + 1 ≤ most_rows) }
+    ensures { IfOk result (λ after. after ≡ shelf_after K.cmp change.now.key (option_map (numbered commit) change.now.new) shelf) }
 {
     match &change.new {
         Some(new) => {
             let row = new.clone()?;
             put_row(shelf, change.key.clone()?, CommittedRow { row, commit })
         }
-        None => shelf.without(&change.key),
+        None => shelf.into_without(&change.key),
     }
 }

@@ -3,7 +3,7 @@
 ghost use Rattle.std.specs.Prelude.{◌≡◌};
 
 use crate::borrowed::Borrowed;
-use crate::changes::{RowWrite, TokenWrite};
+use crate::changes::RowWrite;
 use crate::entries::Entries;
 use crate::mark::Mark;
 use crate::row_shelf::RowShelf;
@@ -50,7 +50,6 @@ impl Store {
     ghost use Rattle.version_book.specs.CommittedRows.{book_of, marked, no_rows, of_row, rows_after, rows_after_write};
     ghost use Rattle.version_book.specs.Room.{RoomAll, RoomFor};
     ghost use Rattle.version_book.specs.Stores.{NumbersIdentify};
-    ghost use Rattle.version_book.specs.declared.changes.RowWrite.TheVariants as write;
     ghost use Rattle.version_book.specs.Written.{placed, placed_write, write_of};
 
     /// Makes a store without rows. Allocates no memory.
@@ -123,68 +122,43 @@ impl Store {
 
     /// Returns the rows after one write by this commit. The commit's number is set as the place of a stored batch. The error is
     /// out of memory.
-    fn after_write(&self, alloc: Global, write: &RowWrite, commit: u64) -> Result<Store, AllocError>
-        requires fits { FitsBook (placed_write commit (write_of write.now)) (book_of self.now) }
-        requires room { RoomFor (placed_write commit (write_of write.now)) (book_of self.now) }
-        ensures { IfOk result (λ store. store ≡ rows_after_write commit (placed_write commit (write_of write.now)) self.now) }
+    fn after_write(self, alloc: Global, write: &RowWrite, commit: u64) -> Result<Store, AllocError>
+        requires fits { FitsBook (placed_write commit (write_of write.now)) (book_of self) }
+        requires room { RoomFor (placed_write commit (write_of write.now)) (book_of self) }
+        ensures { IfOk result (λ store. store ≡ rows_after_write commit (placed_write commit (write_of write.now)) self) }
     {
-        let (entries, agents, bundles, tokens) = (
-            &self.entries,
-            &self.agents,
-            &self.bundles,
-            &self.tokens,
-        );
+        let Store {
+            entries,
+            agents,
+            bundles,
+            tokens,
+        } = self;
         match write {
-            RowWrite::Entry(change) => {
-                let entries = entries.after(alloc, change, commit);
-                Store::of(
-                    entries,
-                    agents.duplicate(),
-                    bundles.duplicate(),
-                    tokens.duplicate(),
-                )
-            }
-            RowWrite::Agent(change) => {
-                let agents = agents.after(change, commit);
-                Store::of(
-                    entries.clone(),
-                    agents,
-                    bundles.duplicate(),
-                    tokens.duplicate(),
-                )
-            }
-            RowWrite::Bundle(change) => {
-                let bundles = bundles.after(change, commit);
-                Store::of(
-                    entries.clone(),
-                    agents.duplicate(),
-                    bundles,
-                    tokens.duplicate(),
-                )
-            }
-            RowWrite::Token(token) => {
-                let tokens = self.tokens_after(token, commit);
-                Store::of(
-                    entries.clone(),
-                    agents.duplicate(),
-                    bundles.duplicate(),
-                    tokens,
-                )
-            }
+            RowWrite::Entry(change) => Ok(Store {
+                entries: entries.after(alloc, change, commit)?,
+                agents,
+                bundles,
+                tokens,
+            }),
+            RowWrite::Agent(change) => Ok(Store {
+                entries,
+                agents: agents.after(change, commit)?,
+                bundles,
+                tokens,
+            }),
+            RowWrite::Bundle(change) => Ok(Store {
+                entries,
+                agents,
+                bundles: bundles.after(change, commit)?,
+                tokens,
+            }),
+            RowWrite::Token(token) => Ok(Store {
+                entries,
+                agents,
+                bundles,
+                tokens: tokens.after(&token.at_place(commit)?, commit)?,
+            }),
         }
-    }
-
-    /// Returns the stored batches after a write by this commit. The error is out of memory.
-    fn tokens_after(
-        &self,
-        token: &TokenWrite,
-        commit: u64,
-    ) -> Result<RowShelf<Uuid, KeptBatch>, AllocError>
-        requires room { RoomFor (placed_write commit (write_of (write.Token token.now))) (book_of self.now) }
-        ensures { IfOk result (λ tokens. tokens ≡ (rows_after_write commit (placed_write commit (write_of (write.Token token.now))) self.now).tokens) }
-    {
-        let change = token.at_place(commit)?;
-        self.tokens.after(&change, commit)
     }
 
     /// Returns the rows after these writes, one after another, by this commit. The commit's number is set as the place of a

@@ -9,7 +9,7 @@ use Rattle.version_book.proofs.index.replace_keys.Goals as goal
 pub loop-key-init : goal.loop-key-init
 loop-key-init g c = record {
   split = c.into_iter-key-iterator.ensures.into_iter_gives.0;
-  puts = subst (λ new. Puts [] c.args.row.now c.args.index.now new) (sym c.in_ok-new.ensures.cases) (puts_none c.args.row.now c.args.index.now);
+  puts = puts_none c.args.row.now c.args.index;
 }
 
 pub put_row-requires-clause-room : goal.put_row-requires-clause-room
@@ -26,12 +26,12 @@ loop-key-preserved g c =
     let same : c.in_ok-clone.field-0 ≡ c.args.row.now = let e = c.in_ok-clone.ensures.cases in λ i. record { row = e.0 i; commit = e.1 i } in
     record {
       split = append_assoc c.loop-key.yielded (c.in-Some.key ∷ []) c.next.new.self.rest.items ∙ (ap (λ l. c.loop-key.yielded ++ l) (sym c.in-Some.ensures.steps.0) ∙ c.loop-key.invariant.split);
-      puts = rw (c.in_ok-new-2.ensures, same) (puts_one g.K.Ord.cmp c.requires.is_exact (tied_itself g.met.K.Ord.total) c.loop-key.yielded c.in-Some.key c.args.row.now c.args.index.now c.loop-key.new c.loop-key.invariant.puts);
+      puts = rw (c.in_ok-new.ensures, same) (puts_one g.K.Ord.cmp c.requires.is_exact (tied_itself g.met.K.Ord.total) c.loop-key.yielded c.in-Some.key c.args.row.now c.args.index c.loop-key.new c.loop-key.invariant.puts);
     }
 
 pub returns : goal.returns
 returns g c = λ keys_of rows old identify sorted index there id same e.
     let none : length c.loop-key.key-iterator.rest.items ≡ 0 = sym c.loop-key.key-iterator.rest.ok.0 ∙ c.in-None.ensures.steps.0 in
     let all = nothing_left c.loop-key.yielded c.loop-key.key-iterator.rest.items c.args.keys.items c.loop-key.invariant.split none in
-    index_replaced keys_of identify rows c.args.index.now c.loop-key.new index c.args.row.now old sorted there id same
-    (subst (λ ks. Puts ks c.args.row.now c.args.index.now c.loop-key.new) (all ∙ e) c.loop-key.invariant.puts)
+    index_replaced keys_of identify rows c.args.index c.loop-key.new index c.args.row.now old sorted there id same
+    (subst (λ ks. Puts ks c.args.row.now c.args.index c.loop-key.new) (all ∙ e) c.loop-key.invariant.puts)

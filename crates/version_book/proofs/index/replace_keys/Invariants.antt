@@ -5,5 +5,5 @@ use Rattle.version_book.proofs.index.replace_keys.Given as goal
 abbrev pub invariant-loop-key : goal.invariant-loop-key
 invariant-loop-key g l = record {
   split : l.yielded ++ l.key-iterator.rest.items ≡ l.fn.keys.items;
-  puts : Puts l.yielded l.row l.index l.new;
+  puts : Puts l.yielded l.row l.fn.index l.new;
 }

@@ -6,5 +6,5 @@ use Rattle.version_book.proofs.row_shelf.put_row.Goals as goal
 pub returns : goal.returns
 returns g c =
     let cmp = g.K.Ord.cmp in
-    let same = ap (λ s. with_key cmp s c.args.key c.args.row) c.in_ok-without.ensures.rows ∙ with_after_without cmp c.args.key c.args.row c.args.shelf.now in
-    subst (λ rows. IfOk c.with-3.result (λ more. more ≡ rows)) same c.with-3.ensures.rows
+    let same = ap (λ s. with_key cmp s c.args.key c.args.row) c.in_ok-into_without.ensures.rows ∙ with_after_without cmp c.args.key c.args.row c.args.shelf in
+    subst (λ rows. IfOk c.into_with-2.result (λ more. more ≡ rows)) same c.into_with-2.ensures.rows
