@@ -1,18 +1,18 @@
--- What a search finds in rows in order, and what is put at its index or removed there.
+-- What a search finds in rows in order, what is put at its index or removed there, and which keys no row has.
 use Rattle.std.proofs.Common.{◌≡◌, ℕ, zero, suc, ◌+◌, ◌<◌, ◌≤◌, true, false, List, [], ◌∷◌, ◌++◌, length, get_or, set, take, drop, Some, None, Result, Ok, Err, refl, sym, ap, subst, ◌∙◌, inl, inr, ⊎_elim, arith}
-use Rattle.std.specs.Prelude.{filter, bytes_eq, Bool}
+use Rattle.std.specs.Prelude.{filter, bytes_eq, is_err, not, Bool}
 use Rattle.std.specs.List.{AllByRecursion, HoldsAt, list_any, insert}
 use Rattle.std.specs.List.Sorted.{IsBinarySearchResult, IsSearchInRange, IsNonDecreasingBy}
 use Rattle.std.specs.declared.cmp.Ordering.TheVariants.{Less, Equal, Greater}
 use Rattle.std.specs.Ordering.{is_lt, nat_cmp, ordering_index, ordering_reverse}
 use Rattle.std.specs.Cmp.Lexicographic.{slice_cmp, nat_list_cmp_total}
 use Rattle.std.specs.FinMap.{slice_cmp-IsAntisymmetric, nat_cmp-IsAntisymmetric}
-use Rattle.std.proofs.lemmas.Bool.{cases_Bool}
+use Rattle.std.proofs.lemmas.Bool.{cases_Bool, false≢true}
 use Rattle.std.proofs.lemmas.List.{take-append-drop, set_split}
 use Rattle.std.proofs.lemmas.List.Sorted.{searchable_from_sorted}
 use Rattle.entry_book.specs.Rows.{Bytes}
 use Rattle.entry_book.specs.Order.{Within, Ascending, is_before, with_row}
-use Rattle.entry_book.proofs.Sets.{All-within, before-irrefl, before-trans, from_any, within_any, from_within_append, from_within_filter, text_is, text_same}
+use Rattle.entry_book.proofs.Sets.{All-within, before-irrefl, before-total, before-trans, from_any, within_any, from_within_append, from_within_filter, text_is, text_same}
 use Rattle.version_book.specs.RowRanks.{IsRowRank}
 
 -- ---- the items before the first that fails a test, and those after
@@ -32,6 +32,10 @@ within_at (x ∷ xs) (suc n) d h = inr (within_at xs n d (omega arith))
 
 not_before : (x y : Bytes) → is_before x y ≡ true → is_before y x ≡ false
 not_before x y h = ⊎_elim (λ t. absurd (before-irrefl x (before-trans x y x h t))) (λ f. f) (cases_Bool (is_before y x))
+
+not_true : (b : Bool) → not b ≡ true → b ≡ false
+not_true true h = absurd (false≢true h)
+not_true false h = refl
 
 not_itself : (x : Bytes) → is_before x x ≡ false
 not_itself x = ⊎_elim (λ t. absurd (before-irrefl x t)) (λ f. f) (cases_Bool (is_before x x))
@@ -163,3 +167,36 @@ module _ {X : Type 0} (key : X → Bytes) where
         let below = p.1 in
         let above = p.2 in
         sym (take-append-drop n xs) ∙ (λ i. below i ++ above i)
+
+    -- ---- rows without a row of the key stay: none, a single row of another key, and rows in which a search finds none
+
+    pub none_left : (xs : List X) → length xs < 1 → xs ≡ with_row key k None xs
+    unfolding with_row
+    none_left [] below = refl
+    none_left (x ∷ xs) below = absurd (omega (arith, below))
+
+    -- the row is below the key or above it
+    single : (x : X) → bytes_eq (key x) k ≡ false → x ∷ [] ≡ with_row key k None (x ∷ [])
+    unfolding with_row
+    single x other = ⊎_elim
+        (λ less.
+        let below = sym (all_pass (λ x. is_before (key x) k) (x ∷ []) (less, tt)) in
+        let above = sym (none_pass (λ x. is_before k (key x)) (x ∷ []) (not_before (key x) k less, tt)) in
+        λ i. below i ++ above i)
+        (λ rest. ⊎_elim
+        (λ same. absurd (false≢true (sym other ∙ text_same (key x) k same)))
+        (λ more.
+        let below = sym (none_pass (λ x. is_before (key x) k) (x ∷ []) (not_before k (key x) more, tt)) in
+        let above = sym (all_pass (λ x. is_before k (key x)) (x ∷ []) (more, tt)) in
+        λ i. below i ++ above i)
+        rest)
+        (before-total (key x) k)
+
+    pub other_left : (xs : List X) (x : X) → 1 ≤ length xs → length xs < 2 → x ≡ get_or xs 0 x → not (bytes_eq (key x) k) ≡ true → xs ≡ with_row key k None xs
+    other_left [] x from below at other = absurd (omega (arith, from))
+    other_left (y ∷ []) x from below at other = single y (subst (λ z. bytes_eq (key z) k ≡ false) at (not_true (bytes_eq (key x) k) other))
+    other_left (y ∷ z ∷ xs) x from below at other = absurd (omega (arith, below))
+
+    pub missing_left : (xs : List X) (r : Result ℕ ℕ) → IsRowRank key xs k r → is_err r ≡ true → xs ≡ with_row key k None xs
+    missing_left xs (Ok n) place err = absurd (false≢true err)
+    missing_left xs (Err n) place err = not_there xs n place

@@ -11,7 +11,7 @@ use crate::row::BookRow;
 use uuid::Uuid;
 
 /// Returns true if there is a row and the mark names it.
-fn is_passed<T: BookRow>(mark: &Mark, row: &Option<T>) -> bool
+pub(crate) fn is_passed<T: BookRow>(mark: &Mark, row: &Option<T>) -> bool
     ensures { result ≡ passes_if_some (T.names mark.now) row.now }
 {
     match row {

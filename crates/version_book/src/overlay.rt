@@ -10,6 +10,7 @@ ghost use Rattle.version_book.specs.RowRanks.{IsRowRank};
 ghost use Rattle.version_book.specs.Written.{HasOwnKey, write_of};
 
 use crate::changes::{Changes, RowWrite, TokenWrite};
+use crate::hits::is_passed;
 use crate::mark::Mark;
 use crate::row::BookRow;
 use crate::rows_read::RowsRead;
@@ -223,31 +224,29 @@ fn put_token(tokens: &mut Vec<KeptBatch>, mark: &Mark, write: &TokenWrite) -> Re
     put_named(tokens, mark, key, &change.new)
 }
 
-/// Returns what the mark reads after one more write, given what it read before. The new row must have the key of the write. The
-/// error is out of memory.
-fn put_write(reading: RowsRead, mark: &Mark, write: &RowWrite) -> Result<RowsRead, AllocError>
-    requires order { AscendingBook reading }
+/// Makes what the mark reads into what it reads after one more write. The new row must have the key of the write. The error is
+/// out of memory.
+fn put_write(reading: &mut RowsRead, mark: &Mark, write: &RowWrite) -> Result<(), AllocError>
+    requires order { AscendingBook reading.old }
     requires keyed { HasOwnKey (write_of write.now) }
-    ensures next { IfOk result (λ next. next ≡ after_write (seen mark.now (write_of write.now)) reading) }
-    ensures order { IfOk result AscendingBook }
+    ensures next { OnOk result (reading.new ≡ after_write (seen mark.now (write_of write.now)) reading.old) }
+    ensures order { OnOk result (AscendingBook reading.new) }
 {
-    let mut reading = reading;
     match write {
         RowWrite::Entry(change) => {
             let key = change.key.as_bytes().as_slice();
-            put_named(&mut reading.entries, mark, key, &change.new)?;
+            put_named(&mut reading.entries, mark, key, &change.new)
         }
         RowWrite::Agent(change) => {
             let key = change.key.get().as_str().as_bytes();
-            put_named(&mut reading.agents, mark, key, &change.new)?;
+            put_named(&mut reading.agents, mark, key, &change.new)
         }
         RowWrite::Bundle(change) => {
             let key = change.key.get().as_str().as_bytes();
-            put_named(&mut reading.bundles, mark, key, &change.new)?;
+            put_named(&mut reading.bundles, mark, key, &change.new)
         }
-        RowWrite::Token(write) => put_token(&mut reading.tokens, mark, write)?,
+        RowWrite::Token(write) => put_token(&mut reading.tokens, mark, write),
     }
-    Ok(reading)
 }
 
 /// Returns true if there is no row, or it has this key.
@@ -272,9 +271,48 @@ fn has_own_key(write: &RowWrite) -> bool
     }
 }
 
+/// Returns true if the mark neither names the new row nor reads a row with this key.
+fn is_unseen<T: BookRow>(rows: &[T], mark: &Mark, key: &[u8], new: &Option<T>) -> bool
+    requires order { Ascending T.key rows.now }
+    ensures { IsTrue result → rows.now ≡ with_row T.key key.now (kept_if (T.names mark.now) new.now) rows.now }
+{
+    if is_passed(mark, new) {
+        return false;
+    }
+    // most marks read no row or one
+    match rows {
+        [] => true,
+        [row] => row.key() != key,
+        _ => rank_of(rows, key).is_err(),
+    }
+}
+
+/// Returns true if the write leaves what the mark reads as it is. Returns false for each write of a token, the last of a batch.
+fn is_left(reading: &RowsRead, mark: &Mark, write: &RowWrite) -> bool
+    requires order { AscendingBook reading.now }
+    ensures { IsTrue result → reading.now ≡ after_write (seen mark.now (write_of write.now)) reading.now }
+{
+    match write {
+        RowWrite::Entry(change) => {
+            let key = change.key.as_bytes().as_slice();
+            is_unseen(reading.entries.as_slice(), mark, key, &change.new)
+        }
+        RowWrite::Agent(change) => {
+            let key = change.key.get().as_str().as_bytes();
+            is_unseen(reading.agents.as_slice(), mark, key, &change.new)
+        }
+        RowWrite::Bundle(change) => {
+            let key = change.key.get().as_str().as_bytes();
+            is_unseen(reading.bundles.as_slice(), mark, key, &change.new)
+        }
+        RowWrite::Token(_) => false,
+    }
+}
+
 /// Returns what the mark reads after these changes, given what it reads before them, in order. A write that the mark doesn't see
-/// costs a search in the rows that were read. A write whose new row has another key than the write can put the rows out of order.
-/// That write and all later ones are made in new lists. The error is out of memory.
+/// costs a look at its new row, and a search in the rows that were read. A write that the mark sees, whose new row has another
+/// key than the write, can put the rows out of order. That write and all later ones are made in new lists. The error is out of
+/// memory.
 pub(crate) fn after_changes(
     alloc: Global,
     reading: RowsRead,
@@ -287,10 +325,12 @@ pub(crate) fn after_changes(
     let mut reading = reading;
     let mut writes = changes.writes();
     while let Some((write, rest)) = writes.split_first() {
-        if !has_own_key(write) {
-            return after_writes(alloc, reading, mark, writes);
+        if !is_left(&reading, mark, write) {
+            if !has_own_key(write) {
+                return after_writes(alloc, reading, mark, writes);
+            }
+            put_write(&mut reading, mark, write)?;
         }
-        reading = put_write(reading, mark, write)?;
         writes = rest;
     }
     Ok(reading)
