@@ -6,8 +6,8 @@
 //! Costs for readers and writers. No call copies the text of a row: cloning a row increments the reference counts of its parts.
 //! A row is stored in a shelf of `version_shelf` once for each of its keys. Each row has its own key. An entry also has one for
 //! its parent and identity, one for each trust domain that it names, and one for an expiry. A search in a shelf compares at
-//! most 32 keys, and two searches find a range. A change of a shelf builds new nodes on the path from the root to the row. They
-//! have about 90 parts at 16,384 rows, and at most 1,024.
+//! most 32 keys, and two searches find a range. A change of a shelf copies the nodes on the path from the root to the row,
+//! unless the call copied them before. They have about 90 parts at 16,384 rows, and at most 1,024.
 //!
 //! | Call | Rows read, besides those that a search compares | Reference counts incremented | Memory allocated |
 //! |---|---|---|---|
@@ -19,14 +19,15 @@
 //! | `unchanged` | those that the mark names, up to the first difference | none | none |
 //! | `read` | those that the mark names | those of these rows | two lists of them, and for sorting one |
 //! | `read_after` | as `read`, and see below | as `read`, and of rows that changes add | as `read`, and room for added rows |
-//! | `apply` | none | see below | the new nodes, and a written row once for each of its keys |
+//! | `apply` | none | see below | the copied nodes, and a written row once for each of its keys |
 //!
 //! For each change, `read_after` also searches the rows of the mark for the change's row.
 //!
-//! For each key of a removed or written row, `apply` makes a search and builds new nodes. A row that replaces one with the same
-//! keys is put once under each of them; otherwise the old row is removed first. `apply` increments a reference count for each
-//! part of a new node, for each other shelf, and for the server's names. It increments those of a written row once for each of
-//! its keys.
+//! For each key of a removed or written row, `apply` makes a search and changes the nodes on the path. It copies each node at
+//! most once, however many changes it makes, and allocates a small block for each node of each path. A row that replaces one
+//! with the same keys is put once under each of them; otherwise the old row is removed first. `apply` increments a reference
+//! count for each part of a copied node, for each shelf, and for the server's names. It increments those of a written row once
+//! for each of its keys.
 //!
 //! Sharing: a version has in common with the previous one each node that no change touched, and in the other nodes each row
 //! that is unchanged. The last version that has them frees them.

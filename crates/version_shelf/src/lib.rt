@@ -40,7 +40,7 @@
 //! its root. A node on the path of an `into_` call is changed in place if its count and those of all nodes above it are 1.
 //!
 //! The only error is `AllocError`: out of memory, or a reference count at its maximum. Calls that neither allocate nor
-//! increment a reference count return no error. After an error the old shelf is unchanged.
+//! increment a reference count return no error. After an error no other shelf has changed, and a consumed shelf is freed.
 //!
 //! - `shelf`: the public type: how a shelf is read, and how a changed copy is made.
 //! - `bound`: where a range begins or ends.
