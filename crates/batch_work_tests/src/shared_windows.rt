@@ -160,7 +160,7 @@ fn answered_text(alloc: Global, shared: &SharedWindow, text: &str) -> Result<Str
     Ok(text?)
 }
 
-/// Plays a batch on both windows, which must come to the same end.
+/// Plays a batch on both windows, which must have the same outcome.
 fn comes_alike(
     rt: &impl Abort,
     alloc: Global,
