@@ -3,7 +3,7 @@ use Rattle.std.proofs.Common.{◌≡◌, ◌+◌, ◌≤◌, ◌<◌, ℕ, Bool,
 use Rattle.std.specs.Prelude.{MatchBool, OnErr, OnOk, IfErr, IfSome}
 use Rattle.std.specs.Io.KnownBytes.{Consumes, IsAtEnd}
 use Rattle.line_devices.specs.Lines.{has_lf, lines_of, most_lines, TakesLine}
-use Rattle.line_devices.specs.Runs.{AppendsRun, IsRun, StepsKept, TakesLines, first_lines}
+use Rattle.line_devices.specs.Runs.{AppendsRun, IsRun, StepsKept, first_lines}
 use Rattle.line_devices.specs.Stream.{InputState, IsOut, OutputState, Puts}
 use Rattle.line_devices.proofs.Puts.{Puts-then, Puts-same}
 use Rattle.line_devices.proofs.RunLemmas.{IsOnTheWay, RunsFrom, RunsFrom-start, RunsFrom-flush, RunsFrom-more, IsRun-on, IsRun-append, AppendsRun-so_far, all_put, prefix_put, prefix_longer, lines_done, lines_end, lines_more}

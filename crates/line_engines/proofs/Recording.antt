@@ -44,7 +44,7 @@ use Rattle.line_engines.specs.Driver.{AnswersKept, AppendsClosed, Closes, Closes
 use Rattle.line_engines.specs.Recorded.{AppendsAllRecords, AppendsRecords, RecordedAreLegal, AreRecords, ClosesRecording, ClosesWithRecords, HasStamps, IsEnded, IsEndedAt, IsNotPast, IsRecordOf, IsWritten, Recorded, Recording, RecordsLine, RunsRecord, StampsInOrder, WritesRecords, events_by, events_of, first_recording, record_line, was_lost, was_taken}
 use Rattle.line_engines.specs.RecordedPrivate.{RecordRepresents, RecordKept}
 use Rattle.line_engines.specs.declared.fault.RunFault.{RunFault}
-use Rattle.line_engines.specs.Schedules.{Scheduled, TakesEvent, lacks_memory, schedule_skips, schedule_start, stepped, took, took_none}
+use Rattle.line_engines.specs.Schedules.{Scheduled, TakesEvent, lacks_memory, schedule_skips, stepped, took, took_none}
 use Rattle.line_engines.specs.SchedulesPrivate.{ScheduleKept, TakesKept}
 
 -- ---- one record after another

@@ -1,9 +1,6 @@
-use Rattle.std.proofs.Common.{◌≡◌, List, ℕ, Err, IfOk, refl, subst, sym, arith}
+use Rattle.std.proofs.Common.{◌≡◌, List, ℕ, Err, refl, subst, arith}
 use Rattle.std.specs.Prelude.{⊤, IfErr, IfSome, OnOk}
 use Rattle.std.proofs.lemmas.Grind.{common_steps}
-use Rattle.line_devices.specs.Lines.{most_lines}
-use Rattle.line_devices.specs.Runs.{first_lines}
-use Rattle.call_audit.specs.Verdicts.{verdict_of_lines}
 use Rattle.line_engines.specs.Audited.{AnswersRecord, ClosesWithVerdict, is_audit_over, audit_start}
 use Rattle.line_engines.specs.AuditedPrivate.{AuditRepresents, an_audit}
 use Rattle.line_engines.specs.Driver.{ClosesAs, RunsOver, StepsUntilEnd, TakesNoMore, TakesSoFar, TakesUntilEnd}

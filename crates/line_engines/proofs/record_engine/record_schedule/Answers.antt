@@ -1,10 +1,8 @@
-use Rattle.std.proofs.Common.{◌≡◌, List, ℕ, Err, IfOk, refl, subst, sym, arith}
-use Rattle.std.specs.Prelude.{⊤, IfSome}
+use Rattle.std.proofs.Common.{◌≡◌, List, ℕ, Err, refl, subst, arith}
+use Rattle.std.specs.Prelude.{⊤}
 use Rattle.std.proofs.lemmas.Grind.{common_steps}
-use Rattle.line_devices.specs.Lines.{most_lines}
-use Rattle.line_devices.specs.Runs.{first_lines}
 use Rattle.line_engines.specs.Driver.{ClosesAs, RunsOver}
-use Rattle.line_engines.specs.Recorded.{AppendsAllRecords, AppendsRecords, ClosesRecording, RecordsLine, RunsRecord, first_recording}
+use Rattle.line_engines.specs.Recorded.{ClosesRecording, RecordsLine, first_recording}
 use Rattle.line_engines.specs.RecordedPrivate.{RecordRepresents, a_line_recorded}
 use Rattle.line_engines.specs.declared.fault.RunFault.TheVariants.{NoMemory}
 use Rattle.line_engines.proofs.Driving.{RunsOver-closes, RunsOver-err, RunsOver-no_memory, RunsOver-ok}
