@@ -1,8 +1,8 @@
 -- The list of all parents with their entries, an index of the entries of a book. For this crate's own contracts.
-use Rattle.std.specs.Prelude.{◌≡◌, Bool, List, [], ◌∷◌, filter, not, Option, Some, None, bytes_eq, is_some}
+use Rattle.std.specs.Prelude.{◌≡◌, List, [], filter, Option, Some, None, bytes_eq}
 use Rattle.plain_book.specs.declared.siblings.Siblings.{Siblings}
-use Rattle.entry_book.specs.Rows.{Bytes, Entry, entry_key}
-use Rattle.entry_book.specs.Order.{Ascending, first, with_row}
+use Rattle.entry_book.specs.Rows.{Bytes, Entry}
+use Rattle.entry_book.specs.Order.{Ascending, first}
 
 -- the key of a row of the list: the parent
 abbrev pub parent_key : Siblings → Bytes
