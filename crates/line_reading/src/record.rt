@@ -152,13 +152,13 @@ pub fn read_record(
     number: u64,
 ) -> Result<Record, LineRefusal>
     ensures spelled { MatchResult result
-        (λ least_of_others. spelled_record domain.now line.now ≡ Ok (recorded least_of_others))
+        (λ parsed. spelled_record domain.now line.now ≡ Ok (recorded parsed))
         (λ refusal. (refusal.line ≡ number) × Fails refusal.failure (spelled_record domain.now line.now)) }
     ensures memory { IfErr result (λ refusal. IsNoMemory refusal.failure → NeedsMemory line.now) }
-    ensures domain { IfOk result (λ least_of_others. least_of_others.batch.domain ≡ domain.now) }
+    ensures domain { IfOk result (λ parsed. parsed.batch.domain ≡ domain.now) }
 {
     match spelled_record(alloc, domain, line) {
-        Ok(least_of_others) => Ok(least_of_others),
+        Ok(parsed) => Ok(parsed),
         Err(failure) => Err(LineRefusal {
             line: number,
             failure,
