@@ -1,9 +1,13 @@
 //! How are the rows of a version stored?
 
-ghost use Rattle.std.specs.Prelude.{◌≡◌};
+ghost use Rattle.std.specs.Prelude.{◌≡◌, IfOk};
+ghost use Rattle.version_book.specs.CommittedRows.{book_of, no_rows, rows_after_write};
+ghost use Rattle.version_book.specs.Room.{RoomFor};
+ghost use Rattle.version_book.specs.Written.{placed_write, write_of};
+ghost use Rattle.version_book.specs.declared.changes.RowWrite.TheVariants as write;
 
 use crate::borrowed::Borrowed;
-use crate::changes::RowWrite;
+use crate::changes::{RowWrite, TokenWrite};
 use crate::entries::Entries;
 use crate::mark::Mark;
 use crate::row_shelf::RowShelf;
@@ -134,30 +138,22 @@ impl Store {
             tokens,
         } = self;
         match write {
-            RowWrite::Entry(change) => Ok(Store {
-                entries: entries.after(alloc, change, commit)?,
-                agents,
-                bundles,
-                tokens,
-            }),
-            RowWrite::Agent(change) => Ok(Store {
-                entries,
-                agents: agents.after(change, commit)?,
-                bundles,
-                tokens,
-            }),
-            RowWrite::Bundle(change) => Ok(Store {
-                entries,
-                agents,
-                bundles: bundles.after(change, commit)?,
-                tokens,
-            }),
-            RowWrite::Token(token) => Ok(Store {
-                entries,
-                agents,
-                bundles,
-                tokens: tokens.after(&token.at_place(commit)?, commit)?,
-            }),
+            RowWrite::Entry(change) => {
+                let entries = entries.after(alloc, change, commit);
+                Store::of(entries, Ok(agents), Ok(bundles), Ok(tokens))
+            }
+            RowWrite::Agent(change) => {
+                let agents = agents.after(change, commit);
+                Store::of(Ok(entries), agents, Ok(bundles), Ok(tokens))
+            }
+            RowWrite::Bundle(change) => {
+                let bundles = bundles.after(change, commit);
+                Store::of(Ok(entries), Ok(agents), bundles, Ok(tokens))
+            }
+            RowWrite::Token(token) => {
+                let tokens = tokens_after(tokens, token, commit);
+                Store::of(Ok(entries), Ok(agents), Ok(bundles), tokens)
+            }
         }
     }
 
@@ -248,6 +244,19 @@ impl Store {
             && self.bundles.is_same_at(&older.bundles, mark)
             && self.tokens.is_same_at(&older.tokens, mark)
     }
+}
+
+/// Returns the stored batches after a write by this commit, whose number becomes their place. The error is out of memory.
+fn tokens_after(
+    tokens: RowShelf<Uuid, KeptBatch>,
+    token: &TokenWrite,
+    commit: u64,
+) -> Result<RowShelf<Uuid, KeptBatch>, AllocError>
+    requires room { RoomFor (placed_write commit (write_of (write.Token token.now))) (book_of (record no_rows { tokens = tokens })) }
+    ensures { IfOk result (λ after. after
+        ≡ (rows_after_write commit (placed_write commit (write_of (write.Token token.now))) (record no_rows { tokens = tokens })).tokens) }
+{
+    tokens.after(&token.at_place(commit)?, commit)
 }
 
 impl Clone for Store {
