@@ -14,7 +14,6 @@ use Rattle.entry_book.specs.Ops.{OpEffect, OpResult, op_of}
 use Rattle.entry_book.specs.Runs.{RunEffect, RunResult, onto, then_run, run}
 use Rattle.entry_book.proofs.Changed.{after-append}
 use Rattle.version_book.specs.declared.mark.MarkKind.{MarkKind}
-use Rattle.version_book.specs.declared.mark.MarkKind.TheVariants as mark
 use Rattle.batch_work.specs.Bounds.{ReadsInOrder, TokenReadFirst, KeptReadOnly}
 use Rattle.batch_work.specs.Reads.{kept, runs, case_on, marks_of, marks_after, marks_of_ops, token_marks, footprint_in}
 
