@@ -161,6 +161,14 @@ func run(ctx context.Context, s settings) error {
 		dial = s.Etcd.Dial
 	}
 	log := etcd.New(strings.Split(s.members, ","), s.prefix, dial)
+	g := server.New(log, s.Options)
+	if s.status != "" && !s.isSnapshot && s.skip == (etcd.Line{}) { // also while etcd doesn't answer
+		on, err := net.Listen("tcp", s.status)
+		if err != nil {
+			return err
+		}
+		go (&http.Server{Handler: g.Handler(), ReadTimeout: statusTime, WriteTimeout: statusTime}).Serve(on)
+	}
 	if err := log.Open(ctx, s.Replica.Domain); err != nil {
 		return err
 	}
@@ -169,14 +177,6 @@ func run(ctx context.Context, s settings) error {
 		return snapshot.Make(ctx, log, s.Replica, s.keep)
 	case s.skip != etcd.Line{}:
 		return snapshot.Skip(ctx, log, s.skip, wire.NewID())
-	}
-	g := server.New(log, s.Options)
-	if s.status != "" {
-		on, err := net.Listen("tcp", s.status)
-		if err != nil {
-			return err
-		}
-		go (&http.Server{Handler: g.Handler(), ReadTimeout: statusTime, WriteTimeout: statusTime}).Serve(on)
 	}
 	work, end := context.WithCancel(context.Background())
 	defer end()

@@ -283,11 +283,12 @@ func TestOutvoted(t *testing.T) {
 // TestSkipOption runs the program to skip a line.
 func TestSkipOption(t *testing.T) {
 	s := newSite(t)
-	_, address := s.start()
+	state := s.freeAddress()
+	_, address := s.start("-status", state)
 	for place := 1; place <= 3; place++ {
 		s.call(address, prune)
 	}
-	if status := s.status(s.command("-skip", "2.1")); status != 0 {
+	if status := s.status(s.command("-skip", "2.1", "-status", state)); status != 0 {
 		t.Fatalf("the status of a skip is %d", status)
 	}
 	s.expect("the status of a skip of nothing", fmt.Sprint(s.status(s.command("-skip", "99.1"))), "1")
@@ -404,6 +405,59 @@ func TestFailuresAreLoggedOnce(t *testing.T) {
 	gateway.Process.Signal(syscall.SIGTERM)
 	s.status(gateway)
 	for _, event := range []string{`event="etcd doesn't answer" path="/v3/kv/range"`, `event="etcd answers again" path="/v3/kv/range"`} {
+		if count := strings.Count(logged.String(), event); count != 1 {
+			t.Errorf("%s: %d times in %s", event, count, logged.String())
+		}
+	}
+}
+
+// TestStartWithoutEtcd starts the program while etcd refuses everything: its status says so, and the log once. Then it goes on. A snapshot doesn't open
+// the port of the status.
+func TestStartWithoutEtcd(t *testing.T) {
+	s := newSite(t)
+	s.store.Refuse(1 << 30)
+	var logged bytes.Buffer
+	state := s.freeAddress()
+	gateway := s.command("-status", state, "-name", "g")
+	gateway.Stderr = &logged
+	out, _ := gateway.StdoutPipe()
+	if err := gateway.Start(); err != nil {
+		t.Fatal(err)
+	}
+	t.Cleanup(func() { gateway.Process.Kill() })
+	for begin := time.Now(); ; time.Sleep(10 * time.Millisecond) {
+		if conn, err := net.Dial("tcp", state); err == nil {
+			conn.Close()
+			break
+		} else if time.Since(begin) > 10*time.Second {
+			t.Fatal(err)
+		}
+	}
+	time.Sleep(500 * time.Millisecond) // in which etcd is asked again
+	for path, want := range map[string]string{"/ready": "false\n", "/ready/changes": "false\n", "/status": `"name":"g"`, "/metrics": "\nregd_gateway_ready 0\n"} {
+		answer, err := http.Get("http://" + state + path)
+		if err != nil {
+			t.Fatal(err)
+		}
+		text, _ := io.ReadAll(answer.Body)
+		answer.Body.Close()
+		if answer.StatusCode != map[bool]int{true: 200, false: 503}[path == "/metrics"] || !strings.Contains(string(text), want) {
+			t.Errorf("%s: got %d, %s", path, answer.StatusCode, text)
+		}
+	}
+	s.store.Refuse(0)
+	s.expect("the status after a snapshot", fmt.Sprint(s.status(s.command("-snapshot", "-status", state))), "0")
+	var first struct{ Listening string }
+	if err := json.NewDecoder(out).Decode(&first); err != nil {
+		t.Fatal(err)
+	}
+	s.expect("a query", s.call(first.Listening, show), `{"call":1,"place":0,"replies":[],"result":"answered"}`+"\n")
+	if text := s.get("http://" + state + "/ready"); text != "true\n" {
+		t.Errorf("/ready: got %s", text)
+	}
+	gateway.Process.Signal(syscall.SIGTERM)
+	s.expect("the status after a signal", fmt.Sprint(s.status(gateway)), "0")
+	for _, event := range []string{`event="etcd doesn't answer"`, `event="etcd answers again"`} {
 		if count := strings.Count(logged.String(), event); count != 1 {
 			t.Errorf("%s: %d times in %s", event, count, logged.String())
 		}

@@ -60,6 +60,9 @@ FEATURES = [
     ("-prefix", MAIN, "s.prefix, dial", '"regd/", dial', "TestProgram"),
     ("-name", MAIN, '; s.Name == "" {', "; true {", "TestProgram"),
     ("/status", MAIN, "Handler: g.Handler()", "Handler: nil", "TestProgram"),
+    ("also before etcd has answered", MAIN, "\tg := server.New(log, s.Options)\n", "\tg := server.New(log, s.Options)\n\tlog.Get(ctx, \"head\")\n", "TestStartWithoutEtcd"),
+    ("a snapshot doesn't open its port", MAIN, " && !s.isSnapshot && s.skip", " && s.skip", "TestStartWithoutEtcd"),
+    ("nor does a skip", MAIN, " && s.skip == (etcd.Line{}) {", " {", "TestSkipOption"),
     ("the fresh port is fresh", MAIN, "g.Serve(ctx, on, true)", "g.Serve(ctx, on, false)", "TestProgram"),
     ("the usual port is usual", MAIN, "g.Serve(ctx, on, false)", "g.Serve(ctx, on, true)", "TestProgram"),
     # callers
