@@ -145,7 +145,14 @@ func run(ctx context.Context, s settings) error {
 	if err != nil {
 		return err
 	}
-	text, err := os.ReadFile(program)
+	file, err := os.Open(program)
+	if err != nil {
+		return err
+	}
+	defer file.Close()
+	// each replica runs this file, also when another one has taken its place
+	s.Replica.Program = fmt.Sprintf("/proc/%d/fd/%d", os.Getpid(), file.Fd())
+	text, err := os.ReadFile(s.Replica.Program)
 	if err != nil {
 		return err
 	}

@@ -247,6 +247,47 @@ func TestProgram(t *testing.T) {
 	s.expect("a query after a snapshot", s.call(address, show), `{"call":1,"place":3,"replies":[],"result":"answered"}`+"\n")
 }
 
+// TestReplacedProgram replaces the program regd by another file while a gateway runs, and ends the regd of its replica. The next one is the same program
+// again, which the status names.
+func TestReplacedProgram(t *testing.T) {
+	s := newSite(t)
+	t.Setenv("GOGC", "1") // a file that the gateway has forgotten is closed
+	program, state := filepath.Join(t.TempDir(), "regd"), s.freeAddress()
+	text, err := os.ReadFile(os.Args[0])
+	if err == nil {
+		err = os.WriteFile(program, text, 0o700)
+	}
+	if err == nil {
+		err = os.WriteFile(program+".new", []byte("#!/bin/sh\nexit 1\n"), 0o700)
+	}
+	if err != nil {
+		t.Fatal(err)
+	}
+	_, address := s.start("-regd", program, "-status", state)
+	s.call(address, prune)
+	var before, after struct {
+		Program string
+		Regd    int
+	}
+	json.Unmarshal([]byte(s.get("http://"+state+"/status")), &before)
+	if line, _ := os.ReadFile(fmt.Sprintf("/proc/%d/cmdline", before.Regd)); !strings.HasPrefix(string(line), "regd\x00serve\x00") {
+		t.Errorf("the command is %q", line)
+	}
+	if err := os.Rename(program+".new", program); err != nil {
+		t.Fatal(err)
+	}
+	syscall.Kill(before.Regd, syscall.SIGKILL)
+	for begin := time.Now(); after.Regd == 0 || after.Regd == before.Regd; time.Sleep(10 * time.Millisecond) {
+		after.Regd = 0
+		json.Unmarshal([]byte(s.get("http://"+state+"/status")), &after)
+		if time.Since(begin) > 5*time.Second {
+			t.Fatal("there is no other replica")
+		}
+	}
+	s.expect("a query", s.call(address, show), `{"call":1,"place":1,"replies":[],"result":"answered"}`+"\n")
+	s.expect("the program", before.Program+" "+after.Program, checksum(t)+" "+checksum(t))
+}
+
 // checksum returns what the status says of this program as a regd.
 func checksum(t *testing.T) string {
 	text, err := os.ReadFile(os.Args[0])

@@ -43,6 +43,7 @@ func Start(ctx context.Context, options Options, onEntry func(State)) (*Replica,
 	ctx, cancel := context.WithCancel(ctx)
 	command := exec.CommandContext(ctx, options.Program, "serve", "--domain", options.Domain, "--listen", "127.0.0.1:0",
 		"--workers", workers, "--connections", workers)
+	command.Args[0] = "regd" // for ps: Program may be the path of an open file
 	command.Stderr = os.Stderr
 	out, err := command.StdoutPipe()
 	if err == nil {

@@ -79,10 +79,7 @@ func (p *paced) done() {
 }
 
 // what a caller may still send after the gateway has ended its side of a connection
-const (
-	partTime  = time.Second
-	partBytes = 1 << 20
-)
+const partTime, partBytes = time.Second, 1 << 20
 
 // part ends the gateway's side of a connection, and then reads for a short time what the caller still sends. A connection that is closed while
 // it has unread bytes is reset, and the caller may lose the last answers.

@@ -12,10 +12,11 @@ import (
 	"regd/gateway/internal/snapshot"
 )
 
-const (
-	againTime  = 200 * time.Millisecond // before another replica is started, and before the log is read again
-	silentTime = 3 * time.Second        // how long a watch may bring nothing although there are new entries
-)
+// againTime is the time before another replica is started, and before the log is read again.
+const againTime = 200 * time.Millisecond
+
+// silentTime is how long a watch may bring nothing although there are new entries.
+const silentTime = 3 * time.Second
 
 // A failure is a line in which one replica after another has ended.
 type failure struct {

@@ -10,11 +10,11 @@ import (
 	"regd/gateway/internal/replica"
 )
 
-const (
-	voteInterval = 1000 // how many entries are between two votes
-	// entries of which a gateway looks at the votes, and of which it leaves its own
-	votesWatched, votesLeft = 4, 64
-)
+// voteInterval is how many entries are between two votes.
+const voteInterval = 1000
+
+// entries of which a gateway looks at the votes, and of which it leaves its own
+const votesWatched, votesLeft = 4, 64
 
 // ErrOutvoted is returned when a majority of the gateways has another checksum.
 var ErrOutvoted = errors.New("a majority of the gateways has another checksum")
