@@ -8,13 +8,11 @@ import (
 	"flag"
 	"fmt"
 	"net"
-	"net/http"
 	"os"
 	"os/exec"
 	"os/signal"
 	"strings"
 	"syscall"
-	"time"
 
 	"regd/gateway/internal/etcd"
 	"regd/gateway/internal/logline"
@@ -25,9 +23,6 @@ import (
 
 // sumVersion changes with the way in which replies make a checksum. Votes have it in front of the version of the replies.
 const sumVersion = "1"
-
-// statusTime is how long a request for the status, and its answer, may take.
-const statusTime = 10 * time.Second
 
 type settings struct {
 	server.Options
@@ -174,7 +169,7 @@ func run(ctx context.Context, s settings) error {
 		if err != nil {
 			return err
 		}
-		go (&http.Server{Handler: g.Handler(), ReadTimeout: statusTime, WriteTimeout: statusTime}).Serve(on)
+		go g.ServeStatus(on)
 	}
 	if err := log.Open(ctx, s.Replica.Domain); err != nil {
 		return err

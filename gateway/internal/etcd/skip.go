@@ -27,10 +27,8 @@ func ParseLine(text string) (l Line, ok bool) {
 // Skips are the lines that no replica executes, with the times when operators decided that.
 type Skips map[Line]string
 
-const (
-	skipFolder = "skip/"
-	skipPrefix = "skip " // of the name of an entry that records a skip; it precedes the line
-)
+// the folder of skips, and what the name of an entry that records one begins with, before the line
+const skipFolder, skipPrefix = "skip/", "skip "
 
 // Skips returns all lines that are skipped.
 func (l *Log) Skips(ctx context.Context) (Skips, error) {

@@ -560,6 +560,48 @@ func TestPart(t *testing.T) {
 	s.store.Refuse(0)
 }
 
+// endless is a connection whose caller sends without an end after the gateway has ended its side, and counts what is read.
+type endless struct {
+	net.Conn
+	read int
+}
+
+func (c *endless) CloseWrite() error { return nil }
+
+func (c *endless) SetReadDeadline(time.Time) error { return nil }
+
+func (c *endless) Read(to []byte) (int, error) {
+	if c.read += len(to); c.read > 4*partBytes {
+		return 0, io.EOF
+	}
+	return len(to), nil
+}
+
+// TestPartEnds checks that a caller that sends nothing, and one that doesn't stop, don't hold a connection that the gateway has ended.
+func TestPartEnds(t *testing.T) {
+	t.Parallel()
+	c := &endless{}
+	if part(c); c.read > 2*partBytes {
+		t.Errorf("%d bytes were read", c.read)
+	}
+	s := newSite(t)
+	on, err := net.Listen("tcp", "127.0.0.1:0")
+	if err != nil {
+		t.Fatal(err)
+	}
+	defer on.Close()
+	s.dial(on.Addr().String())
+	silent, err := on.Accept()
+	if err != nil {
+		t.Fatal(err)
+	}
+	time.AfterFunc(6*partTime, func() { silent.Close() })
+	begin := time.Now()
+	if part(silent); time.Since(begin) > 4*partTime {
+		t.Errorf("it took %v", time.Since(begin))
+	}
+}
+
 // TestReset checks that no change is made for a caller that has ended its connection in both directions, and that one that has ended one
 // direction may wait.
 func TestReset(t *testing.T) {

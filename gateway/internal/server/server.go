@@ -29,6 +29,7 @@ type Limits struct {
 	Stop      time.Duration // for lines that are under way when the gateway shuts down
 	Votes     time.Duration // between two looks at the votes
 	Members   time.Duration // between two looks at the members of etcd
+	Status    time.Duration // for a request for the status, and for its answer
 
 	LineBytes         int   // of a line, without its line feed
 	Lines             int   // of a connection that are under way
@@ -42,14 +43,14 @@ type Limits struct {
 // UsualLimits are the defaults of the program.
 var UsualLimits = Limits{
 	Answer: 20 * time.Second, After: 2 * time.Second, Handshake: 10 * time.Second, Idle: 15 * time.Minute, Line: 30 * time.Second,
-	Write: 20 * time.Second, Stop: 25 * time.Second, Votes: 5 * time.Second, Members: 10 * time.Second,
+	Write: 20 * time.Second, Stop: 25 * time.Second, Votes: 5 * time.Second, Members: 10 * time.Second, Status: 10 * time.Second,
 	LineBytes: wire.MaxLine, Lines: 256, LongLines: 64, Changes: 4096, ReplyBytes: 512 << 20, Connections: 10000, CallerConnections: 100,
 }
 
 // IsValid returns true if all limits are above 0, and lines are not longer than regd accepts them.
 func (l Limits) IsValid() bool {
 	for _, limit := range []int64{int64(l.Answer), int64(l.After), int64(l.Handshake), int64(l.Idle), int64(l.Line), int64(l.Write), int64(l.Stop),
-		int64(l.Votes), int64(l.Members), int64(l.LineBytes), int64(l.Lines), int64(l.LongLines), int64(l.Changes), l.ReplyBytes,
+		int64(l.Votes), int64(l.Members), int64(l.Status), int64(l.LineBytes), int64(l.Lines), int64(l.LongLines), int64(l.Changes), l.ReplyBytes,
 		int64(l.Connections), int64(l.CallerConnections)} {
 		if limit <= 0 {
 			return false

@@ -4,6 +4,7 @@ import (
 	"context"
 	"encoding/json"
 	"fmt"
+	"net"
 	"net/http"
 	"time"
 
@@ -24,6 +25,12 @@ type stats struct {
 	ended            metrics.Vector    // connections that this gateway ended, by reason
 	dropped          metrics.Counter   // changes of callers that had left
 	replicasEnded    metrics.Counter
+}
+
+// ServeStatus answers requests for the state over HTTP.
+func (g *Gateway) ServeStatus(on net.Listener) error {
+	long := g.options.Limits.Status
+	return (&http.Server{Handler: g.Handler(), ReadTimeout: long, WriteTimeout: long}).Serve(on)
 }
 
 // Handler answers /status, /metrics, /ready and /ready/changes.

@@ -2,7 +2,9 @@ package server
 
 import (
 	"encoding/json"
+	"errors"
 	"fmt"
+	"net"
 	"net/http/httptest"
 	"reflect"
 	"strconv"
@@ -198,5 +200,30 @@ func TestMembersDown(t *testing.T) {
 		if !strings.Contains(p.String(), "\n"+want+"\n") {
 			t.Errorf("%s is missing in %s", want, p.String())
 		}
+	}
+}
+
+// TestStatusLimits checks that half a request for the state, and answers that aren't read, end their connections.
+func TestStatusLimits(t *testing.T) {
+	t.Parallel()
+	s := newSite(t)
+	s.limits.Status = 300 * time.Millisecond
+	on, err := net.Listen("tcp", "127.0.0.1:0")
+	if err != nil {
+		t.Fatal(err)
+	}
+	defer on.Close()
+	go New(s.log, Options{Limits: s.limits}).ServeStatus(small{on})
+	half, in := s.dial(on.Addr().String())
+	half.SetDeadline(time.Now().Add(3 * time.Second))
+	fmt.Fprint(half, "GET /ready HTTP/1.1\r\n")
+	ends(t, in)
+	silent, _ := s.dial(on.Addr().String())
+	silent.SetDeadline(time.Now().Add(5 * time.Second))
+	for err == nil {
+		_, err = fmt.Fprint(silent, strings.Repeat("GET /metrics HTTP/1.1\r\nHost: g\r\n\r\n", 1000))
+	}
+	if late := net.Error(nil); errors.As(err, &late) && late.Timeout() {
+		t.Error("a connection with unread answers doesn't end")
 	}
 }
