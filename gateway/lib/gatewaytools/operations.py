@@ -378,6 +378,32 @@ def units(programs, folder):
     return f"{len(names)} units are valid; exposure {', '.join(levels)}"
 
 
+def _end(file):
+    """Returns when a certificate expires, in seconds."""
+    text = subprocess.run(["openssl", "x509", "-noout", "-enddate", "-in", str(file)], check=True, capture_output=True, text=True).stdout
+    return ssl.cert_time_to_seconds(text.strip().partition("=")[2])
+
+
+def authorities(programs, folder):
+    """No certificate of `deploy/certificates` outlives its authority. An authority that would expire first is refused, and nothing changes."""
+    keys = trial_keys(pathlib.Path(folder) / "keys", "127.0.0.1")
+    for name in ("caller-authority", "etcd-authority"):
+        trial_keys(keys, "127.0.0.1")  # with the authorities that are there
+        made = [file for file in keys.rglob("cert.pem") if (file.parent / "ca.pem").exists()]
+        expect(len(made), 5, "certificates")
+        expect([file for file in made if _end(file) > _end(file.parent / "ca.pem")], [], "certificates that outlive their authorities")
+        authority = keys / name
+        former = (authority / "cert.pem").read_bytes()
+        subprocess.run(["openssl", "req", "-x509", "-key", str(authority / "key.pem"), "-days", "30", "-subj", f"/CN=trial {name} authority",
+                        "-out", str(authority / "cert.pem")], check=True, capture_output=True)
+        before = {file: file.read_bytes() for file in keys.rglob("*.pem")}
+        done = subprocess.run([str(DEPLOY / "certificates"), str(keys), cluster.DOMAIN, "127.0.0.1"], capture_output=True, text=True)
+        expect((done.returncode, str(authority) in done.stderr), (1, True), f"the exit status, and the authority in {done.stderr}")
+        expect({file: file.read_bytes() for file in keys.rglob("*.pem")}, before, "files")
+        (authority / "cert.pem").write_bytes(former)
+    return f"{len(made)} certificates, none outlives its authority; {done.stderr.strip()}"
+
+
 # ---- the commands of docs/GATEWAY.md
 
 SUDO = """#!/bin/sh
@@ -534,4 +560,4 @@ def pages(programs, folder):
 
 
 OPERATIONS = {"crowd": crowd, "handshakes": handshakes, "stop": stop, "certificates": certificates, "upgrade": upgrade, "skip": skip, "restore": restore,
-              "units": units, "pages": pages}
+              "units": units, "authorities": authorities, "pages": pages}
