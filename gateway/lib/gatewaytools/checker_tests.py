@@ -1,8 +1,12 @@
 """Tests of the checker itself: planted faults make it fail. And of the tables of docs/GATEWAY.md. They need no program."""
+import pathlib
 import re
+import subprocess
+import tempfile
 import unittest
+from unittest import mock
 
-from gatewaytools import auditing, rules, tools
+from gatewaytools import auditing, operations, rules, tools
 
 TOKEN = "00000000-0000-4000-8000-00000000000"
 
@@ -115,6 +119,23 @@ class Rules(unittest.TestCase):
         for text, digits in (("URN:UUID:" + TOKEN + "9", TOKEN + "9"), ("{" + TOKEN + "9}", TOKEN + "9"), ("9", None), ("{" + "0" * 32 + "}", None)):
             line = b'{"ops":[{"op":"prune"}],"token":"%s"}' % text.encode()
             self.assertEqual(rules.token_of(line), digits and digits.replace("-", ""))
+
+
+class Units(unittest.TestCase):
+    def test_units_need_systemd_analyze(self):
+        def without(words, **_):
+            if words[0] == "systemd-analyze":
+                raise FileNotFoundError(words[0])
+            return subprocess.CompletedProcess(words, 0, "", "")
+
+        def which(command):
+            return None if command == "systemd-analyze" else f"/usr/bin/{command}"
+
+        programs = tools.Programs("/usr/bin/regd-gateway", "/usr/bin/regd", "load")
+        with tempfile.TemporaryDirectory() as folder, mock.patch("subprocess.run", without), mock.patch("shutil.which", which):
+            self.assertRaises(FileNotFoundError, operations.units, programs, pathlib.Path(folder))
+        for parts, needed in ((["fast"], False), (["operation/pages"], False), (["fast", "operation/units"], True)):
+            self.assertEqual("systemd-analyze" in tools.commands_of(parts), needed, parts)
 
 
 if __name__ == "__main__":

@@ -357,8 +357,6 @@ def units(programs, folder):
     file.write_text(balancer.configuration(1, 2, [(3, 4)] * 3))
     checked = subprocess.run(["haproxy", "-c", "-f", str(file)], capture_output=True, text=True)
     expect(checked.returncode, 0, checked.stderr)
-    if not shutil.which("systemd-analyze"):
-        return "haproxy.cfg is valid; the units are not checked, because systemd-analyze is missing"
     names = sorted(unit.name for unit in DEPLOY.iterdir() if unit.suffix in (".service", ".timer"))
     for name in names:
         text = (DEPLOY / name).read_text()

@@ -9,12 +9,21 @@ import sys
 TOP = next(top for top in pathlib.Path(__file__).resolve().parents if (top / "HANDLES").exists())
 SOURCES = TOP / "gateway"
 # the commands that are needed, by their Debian packages
-COMMANDS = {"go": "golang-go", "etcd": "etcd-server", "etcdctl": "etcd-client", "haproxy": "haproxy", "openssl": "openssl", "jq": "jq", "nc": "netcat-openbsd", "curl": "curl"}
+COMMANDS = {"go": "golang-go", "etcd": "etcd-server", "etcdctl": "etcd-client", "haproxy": "haproxy", "openssl": "openssl", "jq": "jq", "nc": "netcat-openbsd", "curl": "curl",
+            "systemd-analyze": "systemd"}
 
 # how many lines of Go the gateway may have, without tests, comments and blank lines
 LINES = 3000
 
 Programs = collections.namedtuple("Programs", "gateway regd load")
+
+
+def commands_of(parts):
+    """Returns the commands that parts of gateway/test need."""
+    commands = ["go"]
+    if not {*parts} <= {"fast", "unit-race", "fuzz", "oracle", "removals"}:
+        commands += ["etcd", "etcdctl", "haproxy", "openssl", "curl"]
+    return commands + ["systemd-analyze"] * ("operation/units" in parts)
 
 
 def need(*commands):
