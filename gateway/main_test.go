@@ -66,6 +66,7 @@ func TestParse(t *testing.T) {
 		{"-domain ex.org -operators spiffe://ex.org/o", "needs TLS"},
 		{"-domain ex.org -certificate c -key k", "-authorities"},
 		{"-domain ex.org -skip 17.1", ""},
+		{"-domain ex.org -snapshot -keep 1 -listen 0.0.0.0:1 -status 0.0.0.0:2 -operators spiffe://ex.org/o -limit-lines 9" + tls, ""},
 		{"-domain ex.org -skip 17", "-skip"},
 		{"-domain ex.org -limit-lines 0", "limit"},
 		{"-domain ex.org -limit-reply-bytes -1", "limit"},

@@ -496,7 +496,10 @@ def one_machine(programs, folder):
         install, use = page.blocks["One machine"]
         machine.run(install)
         committed(machine.run(use))
+        with open(machine.root / "etc/regd/local.env", "a") as local:
+            local.write('MORE_OPTIONS="-keep 0 -limit-lines 200 -operators spiffe://ex.org/operator"\n')  # of which only the first one concerns a snapshot
         machine.run("systemctl start regd-snapshot", "systemctl restart regd-gateway", READY.format(1))
+        expect('event="snapshot made"' in (machine.root / "run/regd-snapshot.service.log").read_text(), True, "a snapshot with MORE_OPTIONS")
         for commands in page.blocks["Space in etcd"]:
             machine.run(commands)
         machine.run(READY.format(1))
