@@ -33,9 +33,11 @@ def _output(words):
 
 
 def commit():
-    """Returns the short hash of the commit, with `+changes` if the checkout has changes outside bench/results."""
-    changes = _output(["git", "status", "--porcelain", "--", ".", ":!bench/results"])
-    return (_output(["git", "rev-parse", "--short", "HEAD"]) or "unknown") + ("+changes" if changes else "")
+    """Returns the short hash of the last commit that changed anything outside bench/results, with `+changes` if the checkout has
+    changes there."""
+    outside = ["--", ".", ":!bench/results"]
+    changes = _output(["git", "status", "--porcelain", *outside])
+    return (_output(["git", "rev-list", "-1", "--abbrev-commit", "HEAD", *outside]) or "unknown") + ("+changes" if changes else "")
 
 
 def kit():
