@@ -307,12 +307,12 @@ func TestOutvoted(t *testing.T) {
 		s.log.Append(ctx, entry, etcd.JoinEntry(fmt.Sprint(entry), [][]byte{[]byte(prune)}))
 	}
 	for _, name := range []string{"a", "b"} {
-		s.log.Put(ctx, "sum/1-1/00000000000003e8/"+name, []byte("00"))
+		s.log.Put(ctx, "sum/1-1/00000000000003e8/1000/"+name, []byte("00"))
 	}
 	s.expect("the exit status", fmt.Sprint(s.status(s.command())), "4")
 	gateway, _ := s.start("-replies", "2")
 	for begin := time.Now(); ; time.Sleep(10 * time.Millisecond) {
-		if votes, err := s.log.List(ctx, "sum/1-2/00000000000003e8/"); len(votes) == 1 {
+		if votes, err := s.log.List(ctx, "sum/1-2/00000000000003e8/1000/"); len(votes) == 1 {
 			break
 		} else if err != nil || time.Since(begin) > 10*time.Second {
 			t.Fatalf("the votes are %v, %v", votes, err)

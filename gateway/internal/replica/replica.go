@@ -22,6 +22,7 @@ const mostOpen = 4096
 // State is what a replica has executed.
 type State struct {
 	Entry   uint64            // the last entry of which every line is answered
+	Name    string            // of this entry, which no other entry has
 	Place   uint64            // the commit number of the book
 	Sum     [sha256.Size]byte // of all replies to changes, in their order
 	Skipped int               `json:",omitempty"` // how many lines were left out
@@ -84,14 +85,14 @@ func (r *Replica) Query(number int, line []byte, done func(reply []byte)) {
 // Ask sends a query to regd and waits for the reply. It returns nil if regd has ended.
 func (r *Replica) Ask(line []byte) []byte { return r.links[1].call(line) }
 
-// Apply executes the lines of an entry, in order, but for those that skips reports, and calls answer with the number and the reply of each. It
-// returns before the replies come. If regd ends, some lines are not answered.
-func (r *Replica) Apply(entry uint64, lines [][]byte, skips func(number int) bool, answer func(number int, reply []byte)) {
+// Apply executes the lines of an entry with this number and name, in order, but for those that skips reports, and calls answer with the number and
+// the reply of each. It returns before the replies come. If regd ends, some lines are not answered.
+func (r *Replica) Apply(entry uint64, name string, lines [][]byte, skips func(number int) bool, answer func(number int, reply []byte)) {
 	for i, line := range lines {
 		i := i
 		done := func(reply []byte) {
 			if answer(i, reply); i == len(lines)-1 {
-				r.finish(entry)
+				r.finish(entry, name)
 			}
 		}
 		if skips != nil && skips(i) {
@@ -224,9 +225,9 @@ func (r *Replica) retain(kept *Kept, reply []byte) {
 	}
 }
 
-func (r *Replica) finish(entry uint64) {
+func (r *Replica) finish(entry uint64, name string) {
 	r.mu.Lock()
-	r.state.Entry = entry
+	r.state.Entry, r.state.Name = entry, name
 	state := r.state
 	r.mu.Unlock()
 	r.onEntry(state)

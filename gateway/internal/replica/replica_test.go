@@ -56,7 +56,7 @@ func apply(t *testing.T, r *Replica, entry uint64, lines ...string) []string {
 		all = append(all, []byte(line))
 	}
 	tails := make([]string, len(lines))
-	r.Apply(entry, all, nil, func(number int, reply []byte) { tails[number] = string(wire.Tail(reply)) })
+	r.Apply(entry, fmt.Sprint(entry), all, nil, func(number int, reply []byte) { tails[number] = string(wire.Tail(reply)) })
 	r.Settle()
 	return tails
 }
@@ -74,7 +74,7 @@ func TestApply(t *testing.T) {
 	apply(t, r, 1, prune, prune)
 	apply(t, r, 2, `{"ops":[]}`)
 	got := states()
-	if len(got) != 2 || got[0].Entry != 1 || got[0].Place != 2 || got[1].Entry != 2 || got[1].Place != 2 || got[0].Sum == got[1].Sum {
+	if len(got) != 2 || got[0].Entry != 1 || got[0].Place != 2 || got[1].Entry != 2 || got[1].Name != "2" || got[1].Place != 2 || got[0].Sum == got[1].Sum {
 		t.Errorf("got %v", got)
 	}
 	other, _ := start(t)
@@ -178,7 +178,7 @@ func TestReplicaSkips(t *testing.T) {
 		}
 	}
 	answer := func(number int, reply []byte) { got = append(got, fmt.Sprint(number, " ", string(wire.Tail(reply)))) }
-	r.Apply(1, [][]byte{slow, kill, slow, kill}, skipped(1, 3), answer)
+	r.Apply(1, "e", [][]byte{slow, kill, slow, kill}, skipped(1, 3), answer)
 	want := []string{"0 " + committed(1), `1 {"code":"G7"`, "2 " + committed(2), `3 {"code":"G7"`}
 	if strings.Join(got, "\n") != strings.Join(want, "\n") {
 		t.Errorf("got %q", got)
@@ -187,7 +187,7 @@ func TestReplicaSkips(t *testing.T) {
 		t.Errorf("got %v", all)
 	}
 	got = nil
-	r.Apply(2, [][]byte{slow, kill, slow}, skipped(2), answer)
+	r.Apply(2, "e", [][]byte{slow, kill, slow}, skipped(2), answer)
 	if !r.HasEnded() || len(got) != 1 || len(states()) != 1 {
 		t.Errorf("after the end: got %q, %v", got, states())
 	}
@@ -238,7 +238,7 @@ func TestClose(t *testing.T) {
 	if err != nil {
 		t.Fatal(err)
 	}
-	r.Apply(1, [][]byte{[]byte(prune)}, nil, func(int, []byte) {})
+	r.Apply(1, "e", [][]byte{[]byte(prune)}, nil, func(int, []byte) {})
 	<-begun
 	closed := make(chan struct{})
 	go func() {
@@ -283,7 +283,7 @@ func TestOpenChanges(t *testing.T) {
 	}
 	done := make(chan struct{})
 	go func() {
-		r.Apply(1, lines, nil, func(int, []byte) {})
+		r.Apply(1, "e", lines, nil, func(int, []byte) {})
 		close(done)
 	}()
 	waits(t, "too few changes are open", func() bool { return sent() >= mostOpen })
@@ -349,7 +349,7 @@ func TestEnd(t *testing.T) {
 	}
 	<-r.Context().Done()
 	r.Query(0, []byte(`{}`), func(reply []byte) { got <- reply })
-	r.Apply(1, [][]byte{[]byte(prune)}, nil, func(int, []byte) { t.Error("answered") })
+	r.Apply(1, "e", [][]byte{[]byte(prune)}, nil, func(int, []byte) { t.Error("answered") })
 	if reply := <-got; reply != nil {
 		t.Errorf("got %s", reply)
 	}
@@ -360,7 +360,7 @@ func TestHang(t *testing.T) {
 	const hang = 800 * time.Millisecond
 	r, _ := startWith(t, Options{Hang: hang})
 	for place := 1; place <= 10; place++ {
-		r.Apply(1, [][]byte{[]byte(`{"ops":[{"op":"prune","hint":"SLOW"}]}`)}, nil, func(int, []byte) {})
+		r.Apply(1, "e", [][]byte{[]byte(`{"ops":[{"op":"prune","hint":"SLOW"}]}`)}, nil, func(int, []byte) {})
 	}
 	r.Settle()
 	time.Sleep(hang * 3 / 2)

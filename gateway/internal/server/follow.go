@@ -88,7 +88,7 @@ func (g *Gateway) runReplica(ctx context.Context) error {
 			}
 			return skips[line] != ""
 		}
-		r.Apply(number, lines, isSkipped, func(i int, reply []byte) { g.answer(name, i, reply) })
+		r.Apply(number, name, lines, isSkipped, func(i int, reply []byte) { g.answer(name, i, reply) })
 	}
 	defer func() { g.failure.Store(before.after(r.State().Entry, at, next-1)) }()
 	for {

@@ -408,13 +408,13 @@ func TestReplicaIsAway(t *testing.T) {
 func TestRunEnds(t *testing.T) {
 	s := newSite(t)
 	for _, name := range []string{"a", "b"} {
-		s.log.Put(s.ctx, "sum/p/00000000000003e8/"+name, []byte("00"))
+		s.log.Put(s.ctx, "sum/p/00000000000003e8/e/"+name, []byte("00"))
 	}
 	g := New(s.log, Options{Replies: "p", Name: "c", Limits: s.limits, Replica: replica.Options{Program: os.Args[0], Domain: "ex.org", Workers: 2}})
 	isOver, begin := false, time.Now()
 	err := g.Run(s.ctx, func(ctx context.Context) error {
 		g.executed(replica.State{Entry: voteInterval - 1})
-		g.executed(replica.State{Entry: voteInterval})
+		g.executed(replica.State{Entry: voteInterval, Name: "e"})
 		<-ctx.Done()
 		isOver = true
 		return nil

@@ -4,6 +4,7 @@ import (
 	"context"
 	"errors"
 	"fmt"
+	"strings"
 	"time"
 
 	"regd/gateway/internal/logline"
@@ -33,9 +34,10 @@ func judge(own string, votes map[string]string) (isDisputed, isOutvoted bool) {
 
 // compare votes, and looks at the votes of the other gateways, until this one is outvoted or the context ends.
 //
-// A vote is the checksum of all replies up to an entry, stored under the version of the replies, the entry and the gateway. Votes of different
-// versions are not compared, and neither are those of replicas that have left out different lines. Two votes that differ don't decide anything:
-// both gateways go on until a third one votes.
+// A vote is the checksum of all replies up to an entry, stored under the version of the replies, the entry's number and name, and the gateway. Votes
+// of different versions are not compared, and neither are those of replicas that have left out different lines. After etcd was restored from a
+// backup, an entry that was lost may have the number of a new one, but not its name. Two votes that differ don't decide anything: both gateways
+// go on until a third one votes.
 func (g *Gateway) compare(ctx context.Context) error {
 	for last := []replica.State{}; ; {
 		select {
@@ -71,22 +73,22 @@ func (g *Gateway) compare(ctx context.Context) error {
 	}
 }
 
-// votesOn returns the folder of the votes on the entry of a mark.
+// votesOn returns the folder of the votes on the entry of a mark. It is in a folder of all entries with this number.
 func (g *Gateway) votesOn(mark replica.State) string {
 	version := g.options.Replies
 	if mark.Skipped > 0 {
 		version += fmt.Sprintf("+%d", mark.Skipped)
 	}
-	return fmt.Sprintf("sum/%s/%016x/", version, mark.Entry)
+	return fmt.Sprintf("sum/%s/%016x/%s/", version, mark.Entry, mark.Name)
 }
 
-// vote stores a vote, and deletes an old one.
+// vote stores a vote, and deletes old ones.
 func (g *Gateway) vote(ctx context.Context, mark replica.State) error {
 	err := g.log.Put(ctx, g.votesOn(mark)+g.options.Name, []byte(fmt.Sprintf("%x", mark.Sum)))
 	if err == nil && mark.Entry > votesLeft*voteInterval {
-		mark.Entry -= votesLeft * voteInterval
-		old := g.votesOn(mark) + g.options.Name
-		err = g.log.Delete(ctx, old, old+"\x00")
+		mark.Entry, mark.Name = mark.Entry-votesLeft*voteInterval, ""
+		old := strings.TrimSuffix(g.votesOn(mark), "/")
+		err = g.log.Delete(ctx, old, old+"\xff")
 	}
 	return err
 }

@@ -44,8 +44,8 @@ func TestLooks(t *testing.T) {
 	ctx, stop := context.WithCancel(s.ctx)
 	ended := make(chan error, 1)
 	go func() { ended <- g.compare(ctx) }()
-	g.marks <- replica.State{Entry: voteInterval}
-	vote := func(name, sum string) { s.log.Put(s.ctx, "sum/p/00000000000003e8/"+name, []byte(sum)) }
+	g.marks <- replica.State{Entry: voteInterval, Name: "e"}
+	vote := func(name, sum string) { s.log.Put(s.ctx, "sum/p/00000000000003e8/e/"+name, []byte(sum)) }
 	vote("b", "1")
 	within(t, "no dispute", g.isDisputed.Load)
 	vote("b", fmt.Sprintf("%x", [32]byte{}))
@@ -66,13 +66,37 @@ func TestLooks(t *testing.T) {
 	}
 }
 
-// TestVotesOn checks that replicas which have left out different entries are not compared.
+// TestVotesOn checks that replicas which have left out different lines are not compared.
 func TestVotesOn(t *testing.T) {
 	g := New(newSite(t).log, Options{Replies: "p"})
-	for skipped, want := range map[int]string{0: "sum/p/00000000000003e8/", 2: "sum/p+2/00000000000003e8/"} {
-		if got := g.votesOn(replica.State{Entry: voteInterval, Skipped: skipped}); got != want {
+	for skipped, want := range map[int]string{0: "sum/p/00000000000003e8/e/", 2: "sum/p+2/00000000000003e8/e/"} {
+		if got := g.votesOn(replica.State{Entry: voteInterval, Name: "e", Skipped: skipped}); got != want {
 			t.Errorf("got %s, want %s", got, want)
 		}
+	}
+}
+
+// TestLostEntry checks that votes on an entry which was lost when etcd was restored say nothing about the new entry of this number, and the other way round.
+func TestLostEntry(t *testing.T) {
+	s := newSite(t)
+	s.limits.Votes = 20 * time.Millisecond
+	g := New(s.log, Options{Replies: "p", Name: "a", Limits: s.limits})
+	ctx, stop := context.WithCancel(s.ctx)
+	ended := make(chan error, 1)
+	go func() { ended <- g.compare(ctx) }()
+	for sum, entry := range map[byte]string{1: "lost", 2: "new"} {
+		g.marks <- replica.State{Entry: voteInterval, Name: entry, Sum: [32]byte{sum}}
+		for _, name := range []string{"b", "c"} {
+			s.log.Put(s.ctx, "sum/p/00000000000003e8/"+entry+"/"+name, []byte(fmt.Sprintf("%x", [32]byte{sum})))
+		}
+	}
+	time.Sleep(200 * time.Millisecond)
+	if g.isDisputed.Load() {
+		t.Error("a dispute")
+	}
+	stop()
+	if err := <-ended; err != context.Canceled {
+		t.Errorf("ended with %v", err)
 	}
 }
 
@@ -80,7 +104,7 @@ func TestVotesOn(t *testing.T) {
 func TestVotes(t *testing.T) {
 	s := newSite(t)
 	mark := func(g *Gateway, entry uint64, sum byte) {
-		g.marks <- replica.State{Entry: entry, Sum: [32]byte{sum}}
+		g.marks <- replica.State{Entry: entry, Name: fmt.Sprint(entry), Sum: [32]byte{sum}}
 	}
 	wait := func(what string, condition func() bool) {
 		t.Helper()
@@ -98,7 +122,7 @@ func TestVotes(t *testing.T) {
 		go func() { end <- g.compare(s.ctx) }()
 		mark(g, voteInterval, sum)
 		wait(name+" doesn't vote", func() bool {
-			votes, _ := s.log.List(s.ctx, "sum/"+replies+"/00000000000003e8/")
+			votes, _ := s.log.List(s.ctx, "sum/"+replies+"/00000000000003e8/1000/")
 			return votes[name] != ""
 		})
 		return g
@@ -114,7 +138,7 @@ func TestVotes(t *testing.T) {
 	mark(right, 2*voteInterval, 1)
 	wait("the right one doesn't report the other checksum", right.isDisputed.Load)
 	voted := func() bool {
-		votes, _ := s.log.List(s.ctx, "sum/p/00000000000007d0/")
+		votes, _ := s.log.List(s.ctx, "sum/p/00000000000007d0/2000/")
 		return votes["right"] != ""
 	}
 	wait("the right one doesn't vote again", voted)

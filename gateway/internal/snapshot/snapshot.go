@@ -160,12 +160,12 @@ func replay(log *etcd.Log, old content, r *replica.Replica, names names, last ui
 		if number > last {
 			return
 		}
-		_, lines := etcd.SplitEntry(value)
+		name, lines := etcd.SplitEntry(value)
 		for _, line := range lines {
 			names.note(line)
 		}
 		isSkipped := func(line int) bool { return skips[etcd.Line{Entry: number, Number: line + 1}] != "" }
-		if r.Apply(number, lines, isSkipped, func(int, []byte) {}); number == last {
+		if r.Apply(number, name, lines, isSkipped, func(int, []byte) {}); number == last {
 			stop()
 		}
 	})

@@ -126,7 +126,7 @@ func TestReplaySkips(t *testing.T) {
 		t.Fatal(err)
 	}
 	c, err := read(ctx, log)
-	if want := (replica.State{Entry: 5, Place: 4, Sum: c.Sum, Skipped: 1}); err != nil || c.State != want {
+	if want := (replica.State{Entry: 5, Name: "5", Place: 4, Sum: c.Sum, Skipped: 1}); err != nil || c.State != want {
 		t.Errorf("got %v, %v", c.State, err)
 	}
 	log.Put(ctx, etcd.EntryKey(5), etcd.JoinEntry("5", [][]byte{[]byte(emptyLine)})) // which a snapshot deletes after it is published

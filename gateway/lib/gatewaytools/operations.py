@@ -34,7 +34,11 @@ def load(programs, address, *words, seconds=6, callers=USUAL):
 
 def seen(process):
     """Waits for callers, and returns what they saw."""
-    out, _ = process.communicate(timeout=300)
+    try:
+        out, _ = process.communicate(timeout=300)
+    except subprocess.TimeoutExpired:
+        process.kill()
+        raise Wrong("callers had no answers")
     if process.returncode:
         raise Wrong(f"callers ended with status {process.returncode}")
     return json.loads(out)
@@ -309,6 +313,10 @@ def skip(programs, folder):
     return _under_load(programs, folder, 15, change, regds={number: str(fragile) for number in range(3)})[1]
 
 
+# how many entries are between two votes
+VOTE_INTERVAL = 1000
+
+
 def restore(programs, folder):
     """etcd is restored from a backup, once while all gateways are stopped and once while they run: all replicas have the book of the backup."""
     folder, texts = pathlib.Path(folder), []
@@ -321,8 +329,10 @@ def restore(programs, folder):
             backup = folder / f"backup{is_running}.db"
             subprocess.run(["etcdctl", "--endpoints", site.etcd.urls[0], "snapshot", "save", str(backup)], env={**os.environ, "ETCDCTL_API": "3"},
                            check=True, capture_output=True)
-            seen(site.load(2, *load_words, record="lost"))
-            lost = cluster.settle(site.gateways)[0]
+            lost = before
+            while lost["entry"] // VOTE_INTERVAL == before["entry"] // VOTE_INTERVAL:  # votes are lost, too
+                seen(site.load(2, *load_words, record="lost"))
+                lost = cluster.settle(site.gateways)[0]
             if not is_running:
                 expect([gateway.stop() for gateway in site.gateways], [0, 0, 0], "exit statuses")
             site.etcd.restore(backup)
@@ -337,8 +347,13 @@ def restore(programs, folder):
             expect(found, [], "faults")
             texts.append(f"{len(acknowledged)} changes of the backup, {lost['place'] - before['place']} later ones gone")
             expect(first["lost"], 0, "lost connections")
-        seen(site.load(2, *load_words, record="afterwards"))
-        expect(faults.checked(site, "afterwards")[0], [], "faults afterwards")
+        now = before
+        while now["entry"] // VOTE_INTERVAL == before["entry"] // VOTE_INTERVAL:
+            seen(site.load(2, *load_words, record="afterwards"))
+            expect(faults.checked(site, "afterwards")[0], [], "faults afterwards")
+            now = cluster.settle(site.gateways)[0]
+        time.sleep(6)  # until each gateway has looked at the votes
+        expect([gateway.status()["disputed"] for gateway in site.gateways], [False] * 3, "disputes")
     return "; ".join(texts)
 
 

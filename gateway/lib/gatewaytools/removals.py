@@ -374,6 +374,9 @@ FEATURES = [
     ("a dispute ends", VOTES, "g.isDisputed.Store(isDisputed)", "g.isDisputed.Store(isDisputed || g.isDisputed.Load())", "TestLooks"),
     ("votes of other versions don't count", VOTES, "version := g.options.Replies", "version := g.options.Replies[:0]", "TestVotes"),
     ("old votes are deleted", VOTES, "mark.Entry > votesLeft*voteInterval", "mark.Entry > 100*votesLeft*voteInterval", "TestVotes"),
+    ("votes on an entry that was lost don't count", VOTES, ", mark.Entry, mark.Name)", ", mark.Entry, mark.Name[:0])", "TestLostEntry"),
+    ("old votes are deleted, whatever the entry's name", VOTES, 'mark.Entry, mark.Name = mark.Entry-votesLeft*voteInterval, ""', "mark.Entry -= votesLeft * voteInterval", "TestVotes"),
+    ("a replica knows the name of its last entry", REPLICA, "r.state.Entry, r.state.Name = entry, name", "r.state.Entry, r.state.Name = entry, name[:0]", "TestApply"),
     # the log in etcd
     ("a log begins once", LOG, '\t\t"compare": []object{{"target": "CREATE", "key": l.key("head"), "create_revision": "0"}},\n', "", "TestOpen"),
     ("a log belongs to one domain", LOG, "err == nil && string(had) != domain", "err == nil && had == nil", "TestOpen"),
