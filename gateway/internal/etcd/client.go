@@ -144,12 +144,26 @@ func (l *Log) List(ctx context.Context, folder string) (map[string]string, error
 	return all, err
 }
 
-// Put stores a value.
-func (l *Log) Put(ctx context.Context, name string, value []byte) error {
-	return l.insist(ctx, len(value), "/v3/kv/put", object{"key": l.key(name), "value": value}, &struct{}{})
+// Has is a condition for Put, Delete and Cut: a key has this value.
+func (l *Log) Has(name string, value []byte) object {
+	return object{"target": "VALUE", "key": l.key(name), "value": value}
 }
 
-// Delete deletes the keys from one name up to and without another.
-func (l *Log) Delete(ctx context.Context, from, to string) error {
-	return l.insist(ctx, 0, "/v3/kv/deleterange", object{"key": l.key(from), "range_end": l.key(to)}, &struct{}{})
+// Put stores a value. If a condition doesn't hold, it stores nothing and returns an error.
+func (l *Log) Put(ctx context.Context, name string, value []byte, conditions ...object) error {
+	return l.write(ctx, len(value), l.writing(name, value), conditions)
+}
+
+// Delete deletes the keys from one name up to and without another. If a condition doesn't hold, it deletes nothing and returns an error.
+func (l *Log) Delete(ctx context.Context, from, to string, conditions ...object) error {
+	return l.write(ctx, 0, object{"request_delete_range": object{"key": l.key(from), "range_end": l.key(to)}}, conditions)
+}
+
+func (l *Log) write(ctx context.Context, size int, part object, conditions []object) error {
+	var done transaction
+	err := l.insist(ctx, size, txnPath, object{"compare": conditions, "success": []object{part}}, &done)
+	if err == nil && !done.Succeeded {
+		err = fmt.Errorf("the log was changed meanwhile: another call has cut it, or etcd was restored from a backup")
+	}
+	return err
 }

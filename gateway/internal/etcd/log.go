@@ -126,7 +126,7 @@ func (l *Log) Append(ctx context.Context, number uint64, value []byte, also ...o
 		var done transaction
 		// the answer may have a value of another gateway, which is about as large
 		err := l.call(ctx, timeFor(len(value)), txnPath, object{
-			"compare": []object{{"target": "VALUE", "key": l.key("head"), "value": decimal(number - 1)}},
+			"compare": []object{l.Has("head", decimal(number-1))},
 			"success": append([]object{l.writing(EntryKey(number), value), l.writing("head", decimal(number))}, also...),
 			"failure": []object{l.reading(EntryKey(number)), l.reading("head")},
 		}, &done)
@@ -235,15 +235,16 @@ func (l *Log) watch(ctx context.Context, revision int64, pass func(...pair) erro
 	}
 }
 
-// Cut deletes the entries up to a number, some at a time, since etcd does nothing else while it deletes.
-func (l *Log) Cut(ctx context.Context, last uint64) error {
+// Cut deletes the entries up to a number, some at a time, since etcd does nothing else while it deletes. It ends with an error when a condition
+// doesn't hold any more.
+func (l *Log) Cut(ctx context.Context, last uint64, conditions ...object) error {
 	for {
 		page, err := l.find(ctx, 0, object{"key": l.key("log/"), "range_end": l.key(EntryKey(last + 1)), "limit": "1000", "keys_only": true})
 		if err != nil || len(page) == 0 {
 			return err
 		}
 		end := string(page[len(page)-1].Key[len(l.prefix):]) + "\x00"
-		if err := l.Delete(ctx, "log/", end); err != nil {
+		if err := l.Delete(ctx, "log/", end, conditions...); err != nil {
 			return err
 		}
 	}

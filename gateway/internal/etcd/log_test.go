@@ -69,7 +69,10 @@ func TestAppend(t *testing.T) {
 			t.Errorf("entry %d is %s, %v", number+1, got, err)
 		}
 	}
-	if err := log.Cut(ctx, 4); err != nil {
+	if err := log.Cut(ctx, 4, log.Has("head", []byte("4"))); err == nil {
+		t.Error("cut although a condition does not hold")
+	}
+	if err := log.Cut(ctx, 4, log.Has("head", []byte("5"))); err != nil {
 		t.Error(err)
 	}
 	if keys := strings.Join(server.Keys(), " "); keys != "r/domain r/head r/log/0000000000000005" {

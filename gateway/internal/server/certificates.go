@@ -72,27 +72,23 @@ func (f Files) Load() (*Certificates, error) {
 	if f == (Files{}) {
 		return nil, nil
 	}
-	c := &Certificates{files: f, stamp: f.stamp()}
-	var err error
-	c.config, err = f.load()
-	return c, err
+	stamp := f.stamp()
+	config, err := f.load()
+	return &Certificates{files: f, config: config, stamp: stamp}, err
 }
 
 // current returns a configuration with the files as they are now, or as they were when they were valid. It must not be changed.
 func (c *Certificates) current() *tls.Config {
 	c.mu.Lock()
 	defer c.mu.Unlock()
-	stamp := c.files.stamp()
-	if stamp == c.stamp {
-		return c.config
+	if stamp := c.files.stamp(); stamp != c.stamp {
+		if config, err := c.files.load(); err != nil {
+			c.fails.Error("certificates not loaded", "certificate", c.files.Certificate, "error", err)
+		} else {
+			c.config, c.stamp = config, stamp
+			logline.Info("certificates loaded", "certificate", c.files.Certificate, "expiry", config.Certificates[0].Leaf.NotAfter.UTC().Format(time.RFC3339))
+		}
 	}
-	config, err := c.files.load()
-	if err != nil {
-		c.fails.Error("certificates not loaded", "certificate", c.files.Certificate, "error", err)
-		return c.config
-	}
-	c.config, c.stamp = config, stamp
-	logline.Info("certificates loaded", "certificate", c.files.Certificate, "expiry", c.config.Certificates[0].Leaf.NotAfter.UTC().Format(time.RFC3339))
 	return c.config
 }
 

@@ -38,12 +38,8 @@ func (g *Gateway) Handler() http.Handler {
 	mux := http.NewServeMux()
 	mux.HandleFunc("/status", g.serveStatus)
 	mux.HandleFunc("/metrics", g.serveMetrics)
-	mux.HandleFunc("/ready", func(w http.ResponseWriter, _ *http.Request) {
-		serveReady(w, g.isReady())
-	})
-	mux.HandleFunc("/ready/changes", func(w http.ResponseWriter, _ *http.Request) {
-		serveReady(w, g.isReady() && g.silence() <= silentLimit)
-	})
+	mux.HandleFunc("/ready", func(w http.ResponseWriter, _ *http.Request) { serveReady(w, g.isReady()) })
+	mux.HandleFunc("/ready/changes", func(w http.ResponseWriter, _ *http.Request) { serveReady(w, g.isReady() && g.silence() <= silentLimit) })
 	return mux
 }
 

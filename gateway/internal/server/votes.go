@@ -4,7 +4,6 @@ import (
 	"context"
 	"errors"
 	"fmt"
-	"strings"
 	"time"
 
 	"regd/gateway/internal/logline"
@@ -87,8 +86,8 @@ func (g *Gateway) vote(ctx context.Context, mark replica.State) error {
 	err := g.log.Put(ctx, g.votesOn(mark)+g.options.Name, []byte(fmt.Sprintf("%x", mark.Sum)))
 	if err == nil && mark.Entry > votesLeft*voteInterval {
 		mark.Entry, mark.Name = mark.Entry-votesLeft*voteInterval, ""
-		old := strings.TrimSuffix(g.votesOn(mark), "/")
-		err = g.log.Delete(ctx, old, old+"\xff")
+		old := g.votesOn(mark) // with two slashes at its end
+		err = g.log.Delete(ctx, old[:len(old)-1], old[:len(old)-2]+"0")
 	}
 	return err
 }

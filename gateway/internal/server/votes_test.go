@@ -76,27 +76,32 @@ func TestVotesOn(t *testing.T) {
 	}
 }
 
-// TestLostEntry checks that votes on an entry which was lost when etcd was restored say nothing about the new entry of this number, and the other way round.
+// TestLostEntry checks that votes on an entry which was lost when etcd was restored say nothing about the new entry of this number.
 func TestLostEntry(t *testing.T) {
 	s := newSite(t)
 	s.limits.Votes = 20 * time.Millisecond
-	g := New(s.log, Options{Replies: "p", Name: "a", Limits: s.limits})
 	ctx, stop := context.WithCancel(s.ctx)
-	ended := make(chan error, 1)
-	go func() { ended <- g.compare(ctx) }()
-	for sum, entry := range map[byte]string{1: "lost", 2: "new"} {
-		g.marks <- replica.State{Entry: voteInterval, Name: entry, Sum: [32]byte{sum}}
-		for _, name := range []string{"b", "c"} {
-			s.log.Put(s.ctx, "sum/p/00000000000003e8/"+entry+"/"+name, []byte(fmt.Sprintf("%x", [32]byte{sum})))
+	ended := make(chan error, 3)
+	var gateways []*Gateway
+	for _, name := range []string{"a", "b", "c"} {
+		g := New(s.log, Options{Replies: "p", Name: name, Limits: s.limits})
+		gateways = append(gateways, g)
+		go func() { ended <- g.compare(ctx) }()
+	}
+	for sum, name := range []string{"lost", "new"} {
+		for _, g := range gateways {
+			g.marks <- replica.State{Entry: voteInterval, Name: name, Sum: [32]byte{byte(sum)}}
+			time.Sleep(100 * time.Millisecond) // in which the others look at the votes
+			if g.isDisputed.Load() {
+				t.Error("a dispute")
+			}
 		}
 	}
-	time.Sleep(200 * time.Millisecond)
-	if g.isDisputed.Load() {
-		t.Error("a dispute")
-	}
 	stop()
-	if err := <-ended; err != context.Canceled {
-		t.Errorf("ended with %v", err)
+	for range gateways {
+		if err := <-ended; err != context.Canceled {
+			t.Errorf("ended with %v", err)
+		}
 	}
 }
 

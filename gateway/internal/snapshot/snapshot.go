@@ -91,7 +91,8 @@ func (c content) fill(r *replica.Replica) error {
 }
 
 // Make makes a snapshot of the book that was left by the entry `keep` before the last one, and deletes the log up to it. It makes none if that
-// would not shorten the log.
+// would not shorten the log. If the log loses that entry meanwhile, because etcd is restored from a backup or another call has cut the log, the
+// snapshot doesn't count, and Make deletes nothing.
 func Make(ctx context.Context, log *etcd.Log, options replica.Options, keep uint64) error {
 	old, err := read(ctx, log)
 	if err != nil {
@@ -102,10 +103,8 @@ func Make(ctx context.Context, log *etcd.Log, options replica.Options, keep uint
 		return err
 	}
 	last -= keep
-	skips, err := log.Skips(ctx)
-	if err != nil {
-		return err
-	}
+	entry, _ := log.Get(ctx, etcd.EntryKey(last)) // its error and the next one are those of the context, and come again
+	skips, _ := log.Skips(ctx)
 	names := names{}
 	c, err := build(ctx, options, names, func(r *replica.Replica) error { return replay(log, old, r, names, last, skips) })
 	if err != nil {
@@ -121,15 +120,16 @@ func Make(ctx context.Context, log *etcd.Log, options replica.Options, keep uint
 	if now, err := log.Skips(ctx); err != nil || len(now) != len(skips) {
 		return fmt.Errorf("a line was skipped meanwhile: %v", err)
 	}
-	if err := c.publish(ctx, log); err != nil {
+	published, err := c.publish(ctx, log, entry)
+	if err != nil {
 		return err
 	}
 	logline.Info("snapshot made", "entry", last, "place", c.Place, "lines", len(c.Lines), "tokens", len(c.Tokens))
 	// a replica that starts now starts from the snapshot
-	if err := log.Cut(ctx, last); err != nil {
+	if err := log.Cut(ctx, last, log.Has("snapshot", published)); err != nil {
 		return err
 	}
-	return log.Delete(ctx, "snapshot/", chunkKey(last, 0))
+	return log.Delete(ctx, "snapshot/", chunkKey(last, 0), log.Has("snapshot", published))
 }
 
 // build starts a regd, whose book fill makes, and returns the snapshot of it.
@@ -164,8 +164,7 @@ func replay(log *etcd.Log, old content, r *replica.Replica, names names, last ui
 		for _, line := range lines {
 			names.note(line)
 		}
-		isSkipped := func(line int) bool { return skips[etcd.Line{Entry: number, Number: line + 1}] != "" }
-		if r.Apply(number, name, lines, isSkipped, func(int, []byte) {}); number == last {
+		if r.Apply(number, name, lines, func(i int) bool { return skips[etcd.Line{Entry: number, Number: i + 1}] != "" }, func(int, []byte) {}); number == last {
 			stop()
 		}
 	})
@@ -184,15 +183,15 @@ func (c content) verify(ctx context.Context, options replica.Options, names name
 	return err
 }
 
-// publish writes the chunks, and then the head that makes them count.
-func (c content) publish(ctx context.Context, log *etcd.Log) error {
+// publish writes the chunks, and then, if the log still has the snapshot's last entry, the head that makes them count. It returns the head.
+func (c content) publish(ctx context.Context, log *etcd.Log, entry []byte) ([]byte, error) {
 	text, _ := json.Marshal(c) // no error: it holds strings, bytes and numbers
 	h := head{Entry: c.Entry}
 	for rest := bytes.NewBuffer(text); rest.Len() > 0; h.Chunks++ {
 		if err := log.Put(ctx, chunkKey(c.Entry, h.Chunks), rest.Next(chunkSize)); err != nil {
-			return err
+			return nil, err
 		}
 	}
 	text, _ = json.Marshal(h)
-	return log.Put(ctx, "snapshot", text)
+	return text, log.Put(ctx, "snapshot", text, log.Has(etcd.EntryKey(c.Entry), entry))
 }

@@ -69,10 +69,15 @@ func TestPublish(t *testing.T) {
 	defer cancel()
 	_, store, log := miniature(t, ctx, 0)
 	c := content{State: replica.State{Entry: 7, Place: 3}, Lines: []string{strings.Repeat("x", 2*chunkSize), "y"}}
-	if err := c.publish(ctx, log); err != nil {
+	log.Put(ctx, etcd.EntryKey(7), []byte("seven"))
+	if _, err := c.publish(ctx, log, []byte("another")); err == nil {
+		t.Error("a snapshot of an entry that is gone was published")
+	}
+	if _, err := c.publish(ctx, log, []byte("seven")); err != nil {
 		t.Fatal(err)
 	}
-	keys := []string{"r/head", "r/domain", "r/" + chunkKey(7, 0), "r/" + chunkKey(7, 1), "r/" + chunkKey(7, 2), "r/snapshot"}
+	pieces := []string{"r/" + chunkKey(7, 0), "r/" + chunkKey(7, 1), "r/" + chunkKey(7, 2)}
+	keys := append([]string{"r/head", "r/domain", "r/" + etcd.EntryKey(7)}, append(append(pieces, pieces...), "r/snapshot")...)
 	var puts []string
 	for _, key := range store.Puts() {
 		if len(puts) == 0 || puts[len(puts)-1] != key { // a request without an answer is repeated
@@ -89,6 +94,39 @@ func TestPublish(t *testing.T) {
 		log.Delete(ctx, chunkKey(7, number), chunkKey(7, number+1))
 		if _, err := read(ctx, log); err == nil {
 			t.Errorf("a snapshot of %d pieces was read", number)
+		}
+	}
+}
+
+// TestMakeWhileRestored restores a backup, with an older snapshot, before each transaction of a snapshot, in turn, and the log grows again. Then etcd has
+// the older snapshot, and all entries after it.
+func TestMakeWhileRestored(t *testing.T) {
+	ctx, cancel := context.WithTimeout(context.Background(), time.Minute)
+	defer cancel()
+	for number, isRestored := 1, true; isRestored; number++ {
+		options, store, log := miniature(t, ctx, 9)
+		if err := Make(ctx, log, options, 6); err != nil {
+			t.Fatal(err)
+		}
+		backup := store.Backup()
+		grow := func(prefix string) {
+			for entry := uint64(10); entry <= 12; entry++ {
+				log.Append(ctx, entry, etcd.JoinEntry(prefix+fmt.Sprint(entry), [][]byte{[]byte(emptyLine)}))
+			}
+		}
+		grow("")
+		isRestored = false
+		store.Before(number, func() { isRestored = true; store.Restore(backup); grow("again ") })
+		err := Make(ctx, log, options, 2)
+		c, failed := read(ctx, log)
+		if isRestored != (c.Entry == 3) || isRestored != (err != nil) || failed != nil {
+			t.Errorf("before request %d: the snapshot of entry %d, %v, %v", number, c.Entry, err, failed)
+		}
+		head, _ := log.Head(ctx)
+		for entry := c.Entry + 1; entry <= head; entry++ {
+			if value, _ := log.Get(ctx, etcd.EntryKey(entry)); value == nil {
+				t.Errorf("before request %d: entry %d is gone", number, entry)
+			}
 		}
 	}
 }

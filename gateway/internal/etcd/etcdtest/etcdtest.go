@@ -54,7 +54,7 @@ func New() *Server {
 	mux := http.NewServeMux()
 	mux.HandleFunc("/v3/watch", s.watch)
 	for path, handle := range map[string]func(*request) object{
-		"/v3/kv/range": s.find, "/v3/kv/put": s.put, "/v3/kv/deleterange": s.delete, "/v3/kv/txn": s.transact,
+		"/v3/kv/range": s.find, "/v3/kv/txn": s.transact,
 		"/v3/maintenance/status": s.status,
 	} {
 		mux.HandleFunc(path, s.handler(handle))
@@ -119,6 +119,20 @@ func (s *Server) Keys() []string {
 	return keys
 }
 
+// Backup returns all keys with their values.
+func (s *Server) Backup() map[string][]byte {
+	s.mu.Lock()
+	defer s.mu.Unlock()
+	backup := map[string][]byte{}
+	for key, value := range s.values {
+		backup[key] = value
+	}
+	return backup
+}
+
+// Restore makes the server have what a backup has, and nothing else.
+func (s *Server) Restore(backup map[string][]byte) { s.mu.Lock(); s.values = backup; s.mu.Unlock() }
+
 // Puts returns the keys that were stored, in the order of that.
 func (s *Server) Puts() (keys []string) {
 	s.mu.Lock()
@@ -150,8 +164,9 @@ type request struct {
 }
 
 type step struct {
-	Put   *request `json:"request_put"`
-	Range *request `json:"request_range"`
+	Put    *request `json:"request_put"`
+	Range  *request `json:"request_range"`
+	Delete *request `json:"request_delete_range"`
 }
 
 func (s *Server) handler(handle func(*request) object) http.HandlerFunc {
@@ -276,9 +291,12 @@ func (s *Server) transact(in *request) object {
 	}
 	responses := []object{}
 	for _, one := range steps {
-		if one.Put != nil {
+		switch {
+		case one.Put != nil:
 			responses = append(responses, object{"response_put": s.put(one.Put)})
-		} else {
+		case one.Delete != nil:
+			responses = append(responses, object{"response_delete_range": s.delete(one.Delete)})
+		default:
 			responses = append(responses, object{"response_range": s.find(one.Range)})
 		}
 	}
