@@ -317,8 +317,17 @@ def skip(programs, folder):
 VOTE_INTERVAL = 1000
 
 
+def queried(caller):
+    """Sends a query, and returns the answer."""
+    caller.sendall(b'{"ops":[{"op":"show","id":"00000000-0000-4000-8000-000000000000"}]}\n')
+    return caller.makefile("rb").readline()
+
+
 def restore(programs, folder):
-    """etcd is restored from a backup, once while all gateways are stopped and once while they run: all replicas have the book of the backup."""
+    """etcd is restored from a backup, once while all gateways are stopped and once while they run: all replicas have the book of the backup.
+
+    A connection that has seen a commit after the backup gets no older answer.
+    """
     folder, texts = pathlib.Path(folder), []
     with faults.Site(programs, folder) as site:
         load_words = ["-changes", "50", "-think", "2ms"]
@@ -330,9 +339,12 @@ def restore(programs, folder):
             subprocess.run(["etcdctl", "--endpoints", site.etcd.urls[0], "snapshot", "save", str(backup)], env={**os.environ, "ETCDCTL_API": "3"},
                            check=True, capture_output=True)
             lost = before
+            early, late = (socket.create_connection(("127.0.0.1", site.gateways[0].port), 60) for _ in range(2))
+            queried(early)
             while lost["entry"] // VOTE_INTERVAL == before["entry"] // VOTE_INTERVAL:  # votes are lost, too
                 seen(site.load(2, *load_words, record="lost"))
                 lost = cluster.settle(site.gateways)[0]
+            queried(late)
             if not is_running:
                 expect([gateway.stop() for gateway in site.gateways], [0, 0, 0], "exit statuses")
             site.etcd.restore(backup)
@@ -345,6 +357,8 @@ def restore(programs, folder):
             expect({status["sum"] for status in after}, {before["sum"]}, "checksums")
             found, acknowledged = faults.checked(site, f"first{is_running}")
             expect(found, [], "faults")
+            if is_running:
+                expect([b"" == queried(caller) for caller in (early, late)], [False, True], "answers on connections from before")
             texts.append(f"{len(acknowledged)} changes of the backup, {lost['place'] - before['place']} later ones gone")
             expect(first["lost"], 0, "lost connections")
         now = before
