@@ -41,8 +41,8 @@ def script(path, text):
 def memory(programs, folder):
     """One of three replicas has too little memory: it ends whenever its regd answers L6, and with enough memory it is equal to the others."""
     folder = pathlib.Path(folder)
-    short = folder / "short"
-    script(short, f"#!/bin/sh\nulimit -d 61440\nexec {programs.regd} \"$@\"\n")
+    short, enough = folder / "short", folder / "enough"
+    script(short, f"#!/bin/sh\n[ -e {enough} ] || ulimit -d 61440\nexec {programs.regd} \"$@\"\n")
     with faults.Site(programs, folder, regds={2: str(short)}) as site:
         text = "x" * 60000
         for number in range(400):
@@ -55,7 +55,7 @@ def memory(programs, folder):
         left = site.gateways[2].log.read_text().count("left the log")
         if not left:
             raise Wrong("regd never ran out of memory")
-        script(short, f"#!/bin/sh\nexec {programs.regd} \"$@\"\n")
+        enough.touch()
         statuses = cluster.settle(site.gateways, 120)
         expect(len({status["sum"] for status in statuses}), 1, "checksums")
         return f"out of memory {left} times after {number + 1} changes, then equal"
