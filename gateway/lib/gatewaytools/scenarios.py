@@ -127,16 +127,16 @@ real.kill()
 
 
 def wrong_replica(programs, folder):
-    """One of three replicas answers wrongly under the right program's checksum: it stops with status 4, and the others go on."""
+    """One of three replicas answers wrongly from some time on: its gateway stops with status 4, and the others go on."""
     folder = pathlib.Path(folder)
-    copied = folder / "regd"
-    folder.mkdir(parents=True, exist_ok=True)
-    shutil.copy(programs.regd, copied)
-    with faults.Site(programs, folder, regds={2: str(copied)}) as site:
+    regd, liar, lie = folder / "regd", folder / "liar", folder / "lie"
+    script(liar, LIAR.format(python=sys.executable, regd=programs.regd))
+    script(regd, f'#!/bin/sh\n[ -e {lie} ] && exec {liar} "$@"\nexec {programs.regd} "$@"\n')
+    with faults.Site(programs, folder, regds={2: str(regd)}) as site:
         addresses = f"127.0.0.1:{site.gateways[0].port}"
         words = [programs.load, "-addresses", addresses, "-changes", "100"]
         subprocess.run([*words, "-populate", "-seconds", "0"], check=True, stdout=subprocess.DEVNULL)
-        script(copied, LIAR.format(python=sys.executable, regd=programs.regd))
+        lie.touch()
         site.gateways[2].kill_regd()
         load = subprocess.Popen([*words, "-connections", "2", "-seconds", "60"], stdout=subprocess.PIPE)
         try:
