@@ -161,7 +161,8 @@ func (l *Log) Delete(ctx context.Context, from, to string, conditions ...object)
 
 func (l *Log) write(ctx context.Context, size int, part object, conditions []object) error {
 	var done transaction
-	err := l.insist(ctx, size, txnPath, object{"compare": conditions, "success": []object{part}}, &done)
+	// the value of a condition may be an entry, of up to a MiB
+	err := l.insist(ctx, size+len(conditions)<<20, txnPath, object{"compare": conditions, "success": []object{part}}, &done)
 	if err == nil && !done.Succeeded {
 		err = fmt.Errorf("the log was changed meanwhile: another call has cut it, or etcd was restored from a backup")
 	}

@@ -103,7 +103,7 @@ func Make(ctx context.Context, log *etcd.Log, options replica.Options, keep uint
 		return err
 	}
 	last -= keep
-	entry, _ := log.Get(ctx, etcd.EntryKey(last)) // its error and the next one are those of the context, and come again
+	entry, _ := log.GetLarge(ctx, etcd.EntryKey(last), 1<<20) // its error and the next one are those of the context, and come again
 	skips, _ := log.Skips(ctx)
 	names := names{}
 	c, err := build(ctx, options, names, func(r *replica.Replica) error { return replay(log, old, r, names, last, skips) })
