@@ -233,13 +233,12 @@ func TestAnswerOnce(t *testing.T) {
 	}
 }
 
-// TestLateAnswer checks that an answer which is there is taken, however late it is.
+// TestLateAnswer checks that an answer which is there is taken, however late it is. The clock may strike at any moment of a try.
 func TestLateAnswer(t *testing.T) {
 	s := newSite(t)
 	s.limits.Answer = time.Nanosecond
-	for i := 0; i < 100; i++ {
+	for i := 0; i < 5000; i++ {
 		made, conn := rowOf(s, []byte(committed(7, 1)))
-		time.Sleep(time.Microsecond)
 		if !made.writeAnswers(s.ctx, 0) {
 			t.Fatalf("wrote %s", conn.text)
 		}

@@ -4,10 +4,14 @@ FEATURES lists them: the feature, its file, the text that makes it, the text in 
 retry, a refusal or a check; others take a wrong value, or the wrong order.
 """
 import concurrent.futures
+import contextlib
+import os
 import pathlib
 import queue
 import re
 import shutil
+import signal
+import subprocess
 
 from gatewaytools import tools
 
@@ -212,9 +216,9 @@ FEATURES = [
     ("no two entries have the same name", APPEND, "g.run, count)", "g.run, 0*count)", "TestNames"),
     # the board, and what follows the log
     ("nobody is served without a replica", BOARD, "b.replica != nil && ", "", "TestReplicaIsAway"),
-    ("a query waits for an entry", BOARD, "b.state.Entry >= entry && ", "", "TestGateways"),
-    ("a query waits for a place", BOARD, " && b.state.Place >= place", "", "TestGateways"),
-    ("those that wait are woken", BOARD, "\tclose(b.changed)\n", "", "TestGateways"),
+    ("a query waits for an entry", BOARD, "b.state.Entry >= entry && ", "", "TestBoard"),
+    ("a query waits for a place", BOARD, " && b.state.Place >= place", "", "TestBoard"),
+    ("those that wait are woken", BOARD, "\tclose(b.changed)\n", "", "TestBoard"),
     ("the board has the state of the replica", FOLLOW, "g.board.replica, g.board.state = r, r.State()", "g.board.replica = r", "TestCutLog"),
     ("another replica is made when one ends", FOLLOW, '\t\tlogline.Error("replica ended", "error", err)\n', '\t\tlogline.Error("replica ended", "error", err)\n\t\treturn err\n', "TestReplicaEnds"),
     ("after a pause", FOLLOW, "\t\tetcd.Pause(ctx, againTime)\n\t}\n}\n\n// runReplica", "\t}\n}\n\n// runReplica", "TestPausesOfReplicas"),
@@ -573,12 +577,18 @@ def noticed(folder, feature, env):
     """Removes a feature in a folder of sources. Returns the tests that fail then."""
     package = next(file.parent for file in sorted(folder.rglob("*_test.go")) if f"func {feature[4]}(" in file.read_text())
     undo = changed(folder, feature)
-    try:
-        done = tools.go("test", "-count=1", "-vet=off", "-ldflags=-s -w", "-timeout", "70s", "-run", f"^{feature[4]}$", f"./{package.relative_to(folder)}", cwd=folder,
-                        env=env, capture_output=True, text=True, errors="replace")
-    finally:
-        undo()
-    if "[build failed]" in done.stdout + done.stderr or "[setup failed]" in done.stdout + done.stderr:
-        raise ValueError(f"{feature[0]}: it does not compile: {(done.stdout + done.stderr)[-500:]}")
-    failed = re.findall(r"--- FAIL: (\w+)", done.stdout) or re.findall(r"panic: (.{1,60})", done.stdout)
-    return failed if done.returncode else []
+    words = ["test", "-count=1", "-vet=off", "-ldflags=-s -w", "-timeout", "70s", "-run", f"^{feature[4]}$", f"./{package.relative_to(folder)}"]
+    with tools.started_go(*words, cwd=folder, env=env, stdout=subprocess.PIPE, stderr=subprocess.STDOUT, text=True, errors="replace",
+                          start_new_session=True) as process:
+        try:
+            printed, _ = process.communicate(timeout=150)
+        except subprocess.TimeoutExpired:  # the command waits for a regd which a test that ran out of time has left behind
+            printed = "panic: no end"
+        finally:
+            with contextlib.suppress(ProcessLookupError):
+                os.killpg(process.pid, signal.SIGKILL)
+            undo()
+    if "[build failed]" in printed or "[setup failed]" in printed:
+        raise ValueError(f"{feature[0]}: it does not compile: {printed[-500:]}")
+    failed = re.findall(r"--- FAIL: (\w+)", printed) or re.findall(r"panic: (.{1,60})", printed)
+    return failed if process.wait() else []

@@ -43,10 +43,19 @@ def need(*commands):
         subprocess.run(command, check=True, stdout=subprocess.DEVNULL, env={**os.environ, "DEBIAN_FRONTEND": "noninteractive"})
 
 
+def go_environment(env=None):
+    """Returns the variables for the command go, which then needs no network."""
+    return {**os.environ, "GOFLAGS": "-mod=mod", "GOPROXY": "off", "GOTOOLCHAIN": "local", **(env or {})}
+
+
 def go(*words, env=None, cwd=SOURCES, **more):
-    """Runs the command go on the sources, without a network."""
-    environment = {**os.environ, "GOFLAGS": "-mod=mod", "GOPROXY": "off", "GOTOOLCHAIN": "local", **(env or {})}
-    return subprocess.run(["go", *words], cwd=cwd, env=environment, **more)
+    """Runs the command go on the sources."""
+    return subprocess.run(["go", *words], cwd=cwd, env=go_environment(env), **more)
+
+
+def started_go(*words, env=None, cwd=SOURCES, **more):
+    """Starts the command go on the sources, and returns its process."""
+    return subprocess.Popen(["go", *words], cwd=cwd, env=go_environment(env), **more)
 
 
 def code_lines():
