@@ -8,7 +8,7 @@ import (
 	"regd/gateway/internal/replica"
 )
 
-// TestBoard checks that a caller who waits is let go by an update that brings the last thing that was missing, and not before.
+// TestBoard checks that a caller waits until an update brings the last thing that was missing, and no longer.
 func TestBoard(t *testing.T) {
 	b := board{changed: make(chan struct{})}
 	for _, c := range []struct {
@@ -32,15 +32,15 @@ func TestBoard(t *testing.T) {
 		if before := is(); before != c.before {
 			t.Errorf("%s: %v before", c.name, before)
 		}
-		let := make(chan bool)
+		woken := make(chan bool)
 		go func() {
 			ctx, cancel := context.WithTimeout(context.Background(), time.Second)
 			defer cancel()
-			let <- b.wait(ctx, c.entry, c.place)
+			woken <- b.wait(ctx, c.entry, c.place)
 		}()
 		time.Sleep(10 * time.Millisecond)
 		b.update(c.update)
-		if after := <-let; after != c.after {
+		if after := <-woken; after != c.after {
 			t.Errorf("%s: %v after", c.name, after)
 		}
 	}
