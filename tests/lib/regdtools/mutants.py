@@ -25,12 +25,15 @@ class Mutant:
 
 
 def functions(text):
-    """Returns the name, the first and the last line of each function of a formatted file."""
+    """Returns the name, the first and the last line of each function of a formatted file, with its attributes, at which the prover reports
+    goals."""
     lines, found = text.split("\n"), []
     for first, line in enumerate(lines):
         if begun := FUNCTION.match(line):
             closing = begun[1] + "}"
             last = next((at for at in range(first, len(lines)) if lines[at] == closing), first)
+            while first > 0 and lines[first - 1].startswith(begun[1] + "#["):
+                first -= 1
             found.append((begun[2], first, last))
     return found
 
