@@ -49,8 +49,9 @@ impl Settings {
     ghost use Rattle.command_line.specs.CommandLine.{AsksServer, IsFaultOf, domain_word, line_faults, program_asked, regd_command, seed_text};
 
     /// Parses a command line, with the program's own name first: all words by the command-line parser, then the domain,
-    /// then the seed, by default 64 zeros, and then a server's address and numbers. The error is the first fault, or out of
-    /// memory. A request for help is a refusal too, with the help as its text.
+    /// then the seed, by default 64 zeros, and then a server's address and numbers. The error is one of the parser's faults
+    /// if there are any, otherwise the first of the other faults in this order, or out of memory. A request for help is a
+    /// refusal too, with the help as its text.
     pub fn from_words(alloc: Global, words: &[&str]) -> Result<Settings, LineFault>
         ensures taken { IfOk result (λ _. line_faults (texts words.now) ≡ []) }
         ensures program { IfOk result (λ settings. settings.program ≡ program_asked (texts words.now)) }
@@ -135,7 +136,7 @@ fn seed_option<'a>(alloc: Global) -> Arg<'a>
     ensures local { result.global ≡ false }
 {
     Arg::new(alloc, "seed").long("seed").value_name("S").help(
-        "The seed of the ids that are given, 64 lower-case hexadecimal digits; zeros by default",
+        "The seed from which identifiers are generated, 64 lower-case hexadecimal digits; zeros by default",
     )
 }
 
@@ -146,7 +147,7 @@ fn record_option<'a>(alloc: Global) -> Arg<'a>
     Arg::new(alloc, "record")
         .long("record")
         .action(ArgAction::SetTrue)
-        .help("Nothing but a record of each call, in their order, at the end of the input")
+        .help("Prints only an audit log, with a record of each call, at the end of the input")
 }
 
 fn plain_command<'a>(alloc: Global) -> Result<Command<'a>, AllocError>
@@ -155,7 +156,7 @@ fn plain_command<'a>(alloc: Global) -> Result<Command<'a>, AllocError>
 {
     Command::new(alloc, "plain")
         .about(
-            "Answers request lines on a plain book, one thread: standard input to standard output",
+            "Answers request lines by the reference implementation, on one thread: standard input to standard output",
         )
         .arg(domain_option(alloc))?
         .arg(seed_option(alloc))
@@ -167,7 +168,7 @@ fn schedule_command<'a>(alloc: Global) -> Result<Command<'a>, AllocError>
 {
     Command::new(alloc, "schedule")
         .about(
-            "Answers event lines by a machine of calls, and tells their order: standard input to standard output",
+            "Replays an interleaving of concurrent calls and prints their serial order: standard input to standard output",
         )
         .arg(domain_option(alloc))?
         .arg(seed_option(alloc))?
@@ -179,7 +180,9 @@ fn audit_command<'a>(alloc: Global) -> Result<Command<'a>, AllocError>
     ensures local { IfOk result (λ command. (out-Command command).has_globals ≡ false) }
 {
     Command::new(alloc, "audit")
-        .about("Audits the records of calls, one thread: standard input to standard output")
+        .about(
+            "Checks an audit log against the reference implementation: standard input to standard output",
+        )
         .arg(domain_option(alloc))
 }
 

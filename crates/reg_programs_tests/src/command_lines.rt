@@ -159,7 +159,7 @@ regd|plain => 2 error: the following required arguments were not provided:$  --d
 regd|plain|--domain => 2 error: a value is required for '--domain <D>' but none was supplied$*
 regd|plain|--domain|A|--nope => 2 error: unexpected argument '--nope' found$*
 regd|--help => 2 A workload registration server$$Usage: regd <COMMAND>$*
-regd|plain|--domain|A|-h => 2 Answers request lines on a plain book*
+regd|plain|--domain|A|-h => 2 Answers request lines by the reference implementation*
 regd|serve|--help => 2 Answers request lines over TCP, by several workers at a time, and ends when its last connection has ended$*
 ";
 
