@@ -24,7 +24,7 @@ HasEnded r None = get (codes "result") r.reply ≡ Some (string (codes "committe
 abbrev pub HaveEnded : List AuditRecord → Type 0
 HaveEnded records = (i : ℕ) (r : AuditRecord) → RecordAt records i r → HasEnded r r.replied
 
--- no call replied before the invoke of a record that is earlier in the list: what ended before another began comes before it
+-- no call replied before the invoke of a record that is earlier in the list: what ended before another was invoked comes before it
 abbrev pub AreStrict : List AuditRecord → Type 0
 AreStrict records = (i j : ℕ) (a b : AuditRecord) (n : ℕ) → i < j → RecordAt records i a → RecordAt records j b → b.replied ≡ Some n → a.invoked ≤ n
 

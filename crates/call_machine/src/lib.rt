@@ -3,8 +3,8 @@
 //! Many callers submit batches over one book, and events advance their calls in any order: a call is invoked, begins, makes
 //! its reads one by one, commits, and replies. The result of every list of events is strictly serializable: the committed
 //! batches and answered calls have a serial order in which the plain book gives each the same reply. A call that ended
-//! before another began comes first in it. A batch that is refused as a conflict changes nothing; it is refused so only if
-//! a later batch wrote what it had read.
+//! before another was invoked comes first in it. A batch that is refused as a conflict changes nothing; it is refused so
+//! only if a later batch wrote what it had read.
 //!
 //! - [`Machine`]: the calls over one book. It applies an [`Event`] and returns [`Done`], or hands it back as a
 //!   [`RefusedEvent`]. It returns the order, and a [`KnownCall`] with what is known of a call. `call_events` and `call_answers`

@@ -2,10 +2,10 @@
 
 ghost use Rattle.command_line.specs.Laws.{DomainApart, HelpIsRefused, JoinedDomain, JoinedRecord, JoinedSeed, NoSeed, NothingIsRefused};
 
-/// Theorems about the definitions, for every name of the program and every text D. `plain --domain=D` is accepted and gives the
-/// domain D, and the same holds of `plain --domain D` if D begins with a byte other than a hyphen. With `--seed=S` the text of
-/// the seed is S, and without it 64 zeros. `schedule --domain=D --record` requests the records. A request for help is refused,
-/// and so is `regd` alone.
+/// Theorems about the definitions, for every name of the program and every text D. The parser accepts `plain --domain=D` and
+/// gives the text D of the domain, and the same holds of `plain --domain D` if D begins with a byte other than a hyphen. With
+/// `--seed=S` the text of the seed is S, and without it 64 zeros. `schedule --domain=D --record` requests the records. A
+/// request for help is refused, and so is `regd` alone.
 pub fn a_line_gives_its_domain()
     ensures joined { JoinedDomain }
     ensures apart { DomainApart }

@@ -1,6 +1,6 @@
 -- The effect of each operation, in direct words: when each refusal is due, and which rows the book has afterwards. Theorems
--- of this crate say that `op_of` does exactly this on every book whose rows are in order, and that these words determine
--- its result.
+-- of this crate say that `op_of` does exactly this, where it refuses on every lawful book and otherwise on every book whose
+-- rows are in order, and that these words determine its result.
 use Rattle.std.specs.Prelude.{◌≡◌, ◌≢◌, ◌⊎◌, ◌↔◌, ⊤, ℕ, ◌+◌, ◌<◌, not, List, [], ◌∷◌, ◌++◌, filter, map, Option, Some, None, bytes_eq}
 use Rattle.std.specs.List.{AllByRecursion}
 use Rattle.entry_book.specs.declared.agent.Agent.{Agent}

@@ -14,7 +14,7 @@ pub enum RunFault {
     /// A write of the output failed, or a flush.
     #[error("output failed")]
     Output,
-    /// An allocation failed before the first line was read, or for the text after the last reply.
+    /// An allocation failed before the first line was read, or for the text after the last reply; in an audit, for any line.
     #[error("out of memory")]
     NoMemory,
 }

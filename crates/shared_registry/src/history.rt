@@ -68,6 +68,8 @@ pub trait RegistryId {
     ghost domain: { Bytes };
 }
 
+/// The proof of a caller chooses the members for its own registry (`ghosts-..` in the `Invariants.antt` of the caller), and uses
+/// none of those that are given here.
 impl RegistryId for Brand {
     ghost use Rattle.std.specs.Prelude.{[]};
 

@@ -17,6 +17,7 @@ pub enum Outcome {
     Conflict(u64),
     /// Memory ran out.
     NoMemory,
-    /// The seat couldn't enter the registry, or the published state doesn't extend what the seat has seen.
+    /// The seat couldn't enter the registry, or the published state doesn't extend what the seat has seen and learnt, or the
+    /// history has another length.
     NoEntry,
 }

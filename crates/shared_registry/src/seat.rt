@@ -29,11 +29,13 @@ pub type Answer = Reply;
 pub enum NoAnswer {
     /// Memory ran out.
     NoMemory,
-    /// The seat couldn't enter the registry, or the published state doesn't extend what the seat has seen.
+    /// The seat couldn't enter the registry, or the published state doesn't extend what the seat has seen and learnt, or the
+    /// history has another length.
     NoEntry,
 }
 
-/// The seat couldn't enter the registry, or the published state doesn't extend what the seat has seen.
+/// The seat couldn't enter the registry, or the published state doesn't extend what the seat has seen and learnt, or the history
+/// has another length.
 #[derive(Clone, Copy, Debug, PartialEq, Eq, Drop)]
 pub struct NoEntry;
 

@@ -31,8 +31,8 @@ pub(crate) type PublishedWriter<J> = Writer<PublishedValue, PublishedValue, View
 pub struct NoSeat;
 
 /// State guarded by the registry's writer lock: the head, the writer, the published states of the last commits, the items of the
-/// last checkpoint that are still to be dropped, the number of seats given, that of all seats, and the whole journal. The model
-/// in contracts is the journal.
+/// last checkpoint that are still to be dropped, the number of seats given, that of all seats, and the prefix of the journal
+/// that is published. The model in contracts is this prefix.
 pub(crate) struct WriterState<J: RegistryId> {
     alloc: Global,
     head: Head,
