@@ -61,7 +61,7 @@ def version():
     """Returns the version of the package, from the headings of CHANGELOG.md."""
     found = VERSION.findall((ROOT / "CHANGELOG.md").read_text())
     released = next((word for word in found if word != "Unreleased"), "0")
-    return released if found[:1] == [released] else f"{released}+unreleased"
+    return released if found[:1] == [released] else f"{released}+unreleased.{moment()}"
 
 
 def architecture():
