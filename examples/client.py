@@ -6,6 +6,7 @@
 Demonstrates the class `Client` on a server of the trust domain ex.org. The server needs at least two workers, because the demonstration
 keeps two connections open at a time. It opens three in all.
 """
+import contextlib
 import json
 import random
 import socket
@@ -48,9 +49,10 @@ class Client:
 
     def close(self):
         """Closes the connection, which frees its worker for the next one. The client can be used again."""
-        if self.stream:
-            self.stream.close()
-            self.stream = None
+        stream, self.stream = self.stream, None
+        if stream:
+            with contextlib.suppress(OSError):  # the connection was lost before everything was sent
+                stream.close()
 
     def follow(self, other):
         """From now on, no answer to this client is older than what the other client has seen."""
