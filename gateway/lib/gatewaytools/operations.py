@@ -534,14 +534,28 @@ def one_machine(programs, folder):
         machine.run(READY.format(1))
         # and then three
         second, third = page.machine(2), page.machine(3)
-        announce, join, announce_third, join_third, finish = page.blocks["From one machine to three"]
-        for one, commands in ((machine, announce), (second, join), (machine, announce_third), (third, join_third), (machine, finish), (second, finish)):
+        prepare, announce, join, announce_third, join_third, finish = page.blocks["From one machine to three"]
+        for one, commands in ((machine, prepare), (machine, announce), (second, join), (machine, announce_third), (third, join_third), (machine, finish), (second, finish)):
             one.run(commands)
         committed(machine.run(page.blocks["Three machines"][2]))
         members = json.loads(machine.run("curl --silent --fail http://10.0.0.2:8474/status"))["etcd"]
         expect([member.get("error") for member in members], [None] * 3, "errors of members")
         # what the operator changed on the first machine is still there, although it was installed again
         expect([member["quota"] >> 30 for member in members], [16, 8, 8], "quotas in GiB")
+
+
+def restored(machines, state, *blocks):
+    """Stops etcd on all machines, and restores this state of it everywhere."""
+    for machine in machines:
+        machine.run("systemctl stop regd-etcd")
+    for machine in machines:
+        backup = machine.root / "var/lib/regd-backup/backup.db"
+        backup.parent.mkdir(parents=True, exist_ok=True)
+        if state != backup:
+            shutil.copy(state, backup)
+    for commands in blocks:
+        for machine in machines:
+            machine.run(commands)
 
 
 def three_machines(programs, folder):
@@ -569,13 +583,13 @@ def three_machines(programs, folder):
         first.run(skip_commands.replace("regd-gateway", "programs/regd-gateway").replace("-skip 17.1", "-skip 2.1"))
         backup, restoration, go_on = page.blocks["Backup and restore"]
         first.run(backup)
-        for machine in machines[1:]:
-            shutil.copytree(first.root / "var/lib/regd-backup", machine.root / "var/lib/regd-backup", dirs_exist_ok=True)
-        for machine in machines:
-            machine.run("systemctl stop regd-etcd")
-        for commands in (restoration, go_on):
-            for machine in machines:
-                machine.run(commands)
+        restored(machines, first.root / "var/lib/regd-backup/backup.db", restoration, go_on)
+        committed(first.run(use))
+        # and the database of a member that has kept its disk, which has what was committed after the backup
+        change, show = (line.replace("agent/trial", "agent/later") for line in use.splitlines()[-2:])
+        first.run(change)
+        restored(machines, first.root / "var/lib/regd-etcd/member/snap/db", restoration.replace("snapshot restore", "snapshot restore --skip-hash-check"), go_on)
+        expect("x:1" in first.run(READY.format(3), show), True, "what was committed after the backup")
         committed(first.run(use))
         statuses = [json.loads(first.run(f"curl --silent --fail http://10.0.0.{number}:8474/status")) for number in (1, 2, 3)]
         expect([list(status["skipped"]) for status in statuses], [["2.1"]] * 3, "skipped lines")
