@@ -22,7 +22,7 @@ import (
 )
 
 // sumVersion changes with the way in which replies make a checksum. Votes have it in front of the version of the replies.
-const sumVersion = "1"
+const sumVersion = "2"
 
 type settings struct {
 	server.Options
@@ -80,7 +80,7 @@ func parse(words []string) (s settings, err error) {
 		err = errors.New("TLS takes -certificate, -key and -authorities")
 	case !isTLS && *operators != "":
 		err = errors.New("-operators needs TLS")
-	case !isTLS && !(isLoopback(s.listen) && isLoopback(s.fresh)):
+	case !isTLS && !(isLoopback(s.listen) && (s.fresh == "" || isLoopback(s.fresh))):
 		err = errors.New("without TLS the gateway listens on loopback addresses alone")
 	}
 	if err != nil {
@@ -112,7 +112,7 @@ func addLimits(flags *flag.FlagSet, l *server.Limits) {
 func isLoopback(address string) bool {
 	host, _, err := net.SplitHostPort(address)
 	ip := net.ParseIP(host)
-	return address == "" || err == nil && (host == "localhost" || ip != nil && ip.IsLoopback())
+	return err == nil && (host == "localhost" || ip != nil && ip.IsLoopback())
 }
 
 func main() {

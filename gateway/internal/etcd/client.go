@@ -149,6 +149,11 @@ func (l *Log) Has(name string, value []byte) object {
 	return object{"target": "VALUE", "key": l.key(name), "value": value}
 }
 
+// Exists is a condition too: there is a key.
+func (l *Log) Exists(name string) object {
+	return object{"target": "CREATE", "result": "GREATER", "key": l.key(name), "create_revision": "0"}
+}
+
 // Put stores a value. If a condition doesn't hold, it stores nothing and returns an error.
 func (l *Log) Put(ctx context.Context, name string, value []byte, conditions ...object) error {
 	return l.write(ctx, len(value), l.writing(name, value), conditions)

@@ -165,12 +165,13 @@ func (l *Log) Follow(ctx context.Context, next uint64, before string, caughtUp f
 			if string(one.Key) != l.prefix+EntryKey(next) {
 				return ErrCut
 			}
+			before, _ = SplitEntry(one.Value)
 			take(next, one.Value)
 			next++
 		}
 		return nil
 	}
-	for {
+	for isCaught := false; ; {
 		var page transaction
 		err := l.call(ctx, pageTime, txnPath, object{"success": []object{
 			// bounded by keys: given a limit, etcd also counts all keys after the page
@@ -187,7 +188,6 @@ func (l *Log) Follow(ctx context.Context, next uint64, before string, caughtUp f
 			}
 			entries = entries[1:]
 		}
-		before = ""
 		if err == nil && len(entries) == 0 && last >= next {
 			err = ErrCut
 		} else if err == nil && last+1 < next {
@@ -196,9 +196,11 @@ func (l *Log) Follow(ctx context.Context, next uint64, before string, caughtUp f
 		if err == nil {
 			err = pass(entries...)
 		}
-		if err == nil && next > last {
-			caughtUp(last)
+		if err == nil && next > last && isCaught {
 			err = l.watch(ctx, page.Header.Revision+1, pass) // ends with an error
+		} else if err == nil && next > last { // then another page, since etcd may be restored while caughtUp waits
+			caughtUp(last)
+			isCaught = true
 		}
 		if err != nil {
 			return next, err

@@ -137,6 +137,38 @@ func TestFollow(t *testing.T) {
 	}
 }
 
+// TestFollowRestored restores a log of as many other entries, before a page and while what was read is executed.
+func TestFollowRestored(t *testing.T) {
+	for _, when := range []string{"a page", "caught up"} {
+		server, log, ctx := open(t)
+		short, stop := context.WithTimeout(ctx, 5*time.Second)
+		defer stop()
+		fill := func(prefix string) {
+			for number := uint64(1); number <= 200; number++ {
+				if _, err := log.Append(ctx, number, etcd.JoinEntry(fmt.Sprint(prefix, number), nil)); err != nil {
+					t.Fatal(err)
+				}
+			}
+		}
+		empty := server.Backup()
+		fill("other ")
+		other := server.Backup()
+		server.Restore(empty)
+		fill("")
+		if when == "a page" {
+			server.Before(3, func() { server.Restore(other) })
+		}
+		_, err := log.Follow(short, 1, "", func(uint64) { server.Restore(other) }, func(number uint64, value []byte) {
+			if name, _ := etcd.SplitEntry(value); name != fmt.Sprint(number) {
+				t.Errorf("%s: took the entry %s", when, name)
+			}
+		})
+		if !errors.Is(err, etcd.ErrTurnedBack) {
+			t.Errorf("%s: got %v", when, err)
+		}
+	}
+}
+
 func TestInsist(t *testing.T) {
 	server, log, ctx := open(t)
 	server.Refuse(2)

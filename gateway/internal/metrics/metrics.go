@@ -67,14 +67,10 @@ func (p *Page) Gauge(name, help string, value float64) {
 	p.sample(name, value)
 }
 
-// Info adds the value 1 with labels, which are keys, each followed by its value.
-func (p *Page) Info(name, help string, labels ...string) {
+// Info adds the value 1 with two labels.
+func (p *Page) Info(name, help, first, one, second, other string) {
 	p.begin("gauge", name, help)
-	var pairs []string
-	for i := 0; i+1 < len(labels); i += 2 {
-		pairs = append(pairs, fmt.Sprintf("%s=%q", labels[i], labels[i+1]))
-	}
-	p.sample(name+"{"+strings.Join(pairs, ",")+"}", 1)
+	p.sample(fmt.Sprintf("%s{%s=%q,%s=%q}", name, first, one, second, other), 1)
 }
 
 // Counter adds a counter.
@@ -95,9 +91,7 @@ func (p *Page) Vector(name, help, label string, v *Vector, known ...string) {
 		return true
 	})
 	sort.Strings(samples)
-	for _, sample := range samples {
-		p.WriteString(sample)
-	}
+	p.WriteString(strings.Join(samples, ""))
 }
 
 // Histogram adds a histogram.

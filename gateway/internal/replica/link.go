@@ -2,15 +2,19 @@ package replica
 
 import (
 	"bufio"
+	"io"
 	"net"
 	"sync"
 	"time"
+
+	"regd/gateway/internal/wire"
 )
 
 // A link is a connection to regd: lines out, replies in, in the same order.
 type link struct {
 	conn net.Conn
 	hang time.Duration // for the next reply
+	most int           // bytes of a reply; a larger one is refused
 
 	mu        sync.Mutex
 	pending   []byte               // lines that are not yet written
@@ -63,9 +67,14 @@ func (l *link) call(line []byte) []byte {
 func (l *link) read() error {
 	defer l.close()
 	for in := bufio.NewReaderSize(l.conn, 1<<16); ; {
-		reply, err := in.ReadBytes('\n')
-		if err != nil {
+		reply, code, err := wire.ReadLine(in, l.most, func() bool { return true })
+		switch {
+		case err != nil:
 			return err
+		case code == "L3":
+			return io.ErrUnexpectedEOF
+		case code != "":
+			reply = wire.Refusal(wire.Busy)
 		}
 		l.mu.Lock()
 		if len(l.waiting) == 0 { // closed meanwhile, or a reply to no line
@@ -76,7 +85,7 @@ func (l *link) read() error {
 		l.waiting = l.waiting[1:]
 		l.expect()
 		l.mu.Unlock()
-		done(reply[:len(reply)-1])
+		done(reply)
 	}
 }
 

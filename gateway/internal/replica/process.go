@@ -22,6 +22,8 @@ type Options struct {
 	Workers int           // one executes the changes, the others answer queries
 	Hang    time.Duration // for regd to listen, and for the next reply that it owes, after which the replica ends; 0 for 10 seconds
 	Tokens  int           // how many are retained, by all gateways; 0 for 65,536
+	// the most bytes of the reply to a query; 0 for any number
+	ReplyBytes int
 }
 
 // firstLine makes regd's first reply on a connection, which shows that the connection is alone on its worker.
@@ -53,8 +55,7 @@ func Start(ctx context.Context, options Options, onEntry func(State)) (*Replica,
 		cancel()
 		return nil, err
 	}
-	late := time.AfterFunc(options.Hang, cancel)
-	defer late.Stop()
+	defer time.AfterFunc(options.Hang, cancel).Stop()
 	r := &Replica{options: options, command: command, onEntry: onEntry, ctx: ctx, cancel: cancel, slots: make(chan struct{}, mostOpen),
 		tokens: map[string]*Kept{}}
 	if err := r.connect(out); err != nil {
@@ -75,7 +76,10 @@ func (r *Replica) connect(out io.Reader) error {
 		if err != nil {
 			return err
 		}
-		r.links = append(r.links, &link{conn: conn, hang: r.options.Hang})
+		r.links = append(r.links, &link{conn: conn, hang: r.options.Hang, most: 1 << 62})
+		if i > 0 && r.options.ReplyBytes > 0 { // what a change has brought about can't be refused
+			r.links[i].most = r.options.ReplyBytes
+		}
 	}
 	r.reading.Add(len(r.links))
 	for i, l := range r.links {

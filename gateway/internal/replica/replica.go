@@ -24,7 +24,7 @@ type State struct {
 	Entry   uint64            // the last entry of which every line is answered
 	Name    string            // of this entry, which no other entry has
 	Place   uint64            // the commit number of the book
-	Sum     [sha256.Size]byte // of all replies to changes, in their order
+	Sum     [sha256.Size]byte // of all commits and refusals, in their order
 	Skipped int               `json:",omitempty"` // how many lines were left out
 }
 
@@ -201,8 +201,10 @@ func (r *Replica) note(reply []byte, kept *Kept) bool {
 	}
 	r.mu.Lock()
 	defer r.mu.Unlock()
-	tail, isCommitted := wire.Tail(reply), wire.IsCommitted(reply)
-	r.state.Sum = sha256.Sum256(append(r.state.Sum[:], tail...))
+	tail, code, isCommitted := wire.Tail(reply), wire.Code(reply), wire.IsCommitted(reply)
+	if isCommitted || code != "" && code != "O8" { // not of a page of an earlier book, which a snapshot doesn't have
+		r.state.Sum = sha256.Sum256(append(r.state.Sum[:], tail...))
+	}
 	if isCommitted {
 		r.state.Place = wire.Place(reply)
 	}
@@ -233,9 +235,16 @@ func (r *Replica) finish(entry uint64, name string) {
 	r.onEntry(state)
 }
 
-// Restore executes the lines of a snapshot in an empty replica, which takes on its state and its tokens. It returns an error if the lines don't
-// end at the snapshot's commit number, because one was refused or regd has ended.
+// EmptyLine is a change that changes nothing but the commit number.
+const EmptyLine = `{"ops":[{"op":"prune","before":0}]}`
+
+// Restore executes the lines of a snapshot in an empty replica, which takes on its state and its tokens. Before them it executes as many empty lines as
+// the commit number needs; they are quickest while the book is empty. It returns an error if the lines don't end at that number, because one was refused
+// or regd has ended.
 func (r *Replica) Restore(state State, lines []string, tokens []*Kept) error {
+	for i := uint64(len(lines)); i < state.Place; i++ {
+		r.apply([]byte(EmptyLine), func([]byte) {})
+	}
 	for _, line := range lines {
 		r.apply([]byte(line), func([]byte) {})
 	}

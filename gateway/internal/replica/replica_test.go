@@ -74,14 +74,21 @@ func TestApply(t *testing.T) {
 	apply(t, r, 1, prune, prune)
 	apply(t, r, 2, `{"ops":[]}`)
 	got := states()
-	if len(got) != 2 || got[0].Entry != 1 || got[0].Place != 2 || got[1].Entry != 2 || got[1].Name != "2" || got[1].Place != 2 || got[0].Sum == got[1].Sum {
+	if len(got) != 2 || got[0].Entry != 1 || got[0].Place != 2 || got[1].Entry != 2 || got[1].Name != "2" || got[1].Place != 2 {
 		t.Errorf("got %v", got)
+	}
+	if got[0].Sum != got[1].Sum || got[0].Sum == (State{}).Sum {
+		t.Error("a query makes a difference to the checksum, or changes make none")
 	}
 	other, _ := start(t)
 	apply(t, other, 1, prune)
 	apply(t, other, 2, prune, `{"ops":[]}`)
 	if other.State().Sum != r.State().Sum {
 		t.Error("the same lines in other entries have another checksum")
+	}
+	apply(t, other, 3, `{"ops":[{"op":"page","hint":"O8"}]}`)
+	if other.State().Sum != r.State().Sum {
+		t.Error("a page of an earlier book makes a difference to the checksum, and a replica that begins with a snapshot doesn't have that book")
 	}
 	apply(t, other, 3, `{`)
 	if other.State().Sum == r.State().Sum {
@@ -145,7 +152,7 @@ func TestRestore(t *testing.T) {
 	r, _ := start(t)
 	apply(t, r, 1, tokened(1, 0), prune, tokened(2, 0))
 	other, _ := start(t)
-	if err := other.Restore(r.State(), []string{prune, prune, prune}, r.Tokens()); err != nil || other.State() != r.State() {
+	if err := other.Restore(r.State(), []string{prune}, r.Tokens()); err != nil || other.State() != r.State() { // and two lines that change nothing
 		t.Fatalf("got %v, %v", other.State(), err)
 	}
 	for _, line := range []string{tokened(1, 0), tokened(2, 0), tokened(2, 9), prune} {
@@ -324,6 +331,41 @@ func TestQueries(t *testing.T) {
 			t.Errorf("connection %d: %d queries wait", number, len(l.waiting))
 		}
 		l.mu.Unlock()
+	}
+}
+
+// TestReplyBytes checks that a large reply to a query is refused, and that of a change is not.
+func TestReplyBytes(t *testing.T) {
+	r, _ := startWith(t, Options{ReplyBytes: 100_000})
+	large := []byte(`{"ops":[{"op":"show","hint":"LARGE"}]}`)
+	for _, line := range []string{string(large), `{"ops":[]}`, string(large)} {
+		if got := string(r.Ask([]byte(line))); (got == string(wire.Refusal(wire.Busy))) != strings.Contains(line, "LARGE") {
+			t.Errorf("got %.100s", got)
+		}
+	}
+	r.Apply(1, "e", [][]byte{large}, nil, func(_ int, reply []byte) {
+		if len(reply) < 100_000 {
+			t.Errorf("a line of the log: got %s", reply)
+		}
+	})
+	r.Settle()
+	unbound, _ := start(t)
+	if got := unbound.Ask(large); len(got) < 100_000 {
+		t.Errorf("without a bound: got %s", got)
+	}
+}
+
+// TestReplyCutOff checks that a reply without its end is none.
+func TestReplyCutOff(t *testing.T) {
+	inner, outer := net.Pipe()
+	go func() { outer.Write([]byte(`{"call":1,`)); outer.Close() }()
+	l := &link{conn: inner, most: 100, waiting: []func([]byte){func(reply []byte) {
+		if reply != nil {
+			t.Errorf("got %s", reply)
+		}
+	}}}
+	if err := l.read(); err == nil {
+		t.Error("no error")
 	}
 }
 

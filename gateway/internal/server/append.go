@@ -28,9 +28,6 @@ func (g *Gateway) appendChanges(ctx context.Context) error {
 	next := uint64(1)
 	for count := 1; ; count++ {
 		changes, lines := g.collect(ctx)
-		if !g.board.wait(ctx, 0, 0) { // a gateway without a replica can't answer, and would only make the log longer
-			return ctx.Err()
-		}
 		name := fmt.Sprintf("%s.%d", g.run, count)
 		g.flights.Store(name, changes)
 		began := time.Now()
@@ -50,13 +47,14 @@ func (g *Gateway) appendChanges(ctx context.Context) error {
 	}
 }
 
-// collect waits for a change and returns it with those that wait behind it. A caller that has left gets no change made.
+// collect waits for a change, and for a replica, and returns the change with those that wait behind it. A caller that has left meanwhile gets no change
+// made. A gateway without a replica can't answer, and would only make the log longer.
 func (g *Gateway) collect(ctx context.Context) (changes []*request, lines [][]byte) {
 	size := 0
 	for len(lines) == 0 || len(g.changes) > 0 && len(lines) < mostLines && size < mostBytes { // no other goroutine receives
 		select {
 		case c := <-g.changes:
-			if !c.take() {
+			if len(lines) == 0 && !g.board.wait(ctx, 0, 0) || !c.take() {
 				g.dropped.Inc()
 				c.answer(nil)
 				continue

@@ -17,13 +17,20 @@ func TestNoAppendWithoutReplica(t *testing.T) {
 	s := newSite(t)
 	g := New(s.log, Options{Limits: s.limits})
 	go g.appendChanges(s.ctx)
+	left := (&session{Gateway: g}).request([]byte("left"))
+	g.changes <- left
 	g.changes <- (&session{Gateway: g}).request([]byte(prune))
 	time.Sleep(200 * time.Millisecond)
 	if head, err := s.log.Head(s.ctx); head != 0 || err != nil {
 		t.Errorf("the log has %d entries, %v", head, err)
 	}
+	left.leave() // its caller may have sent the change to another gateway, and then a newer one
 	standIn(g)
 	within(t, "no entry", func() bool { head, _ := s.log.Head(s.ctx); return head == 1 })
+	value, _ := s.log.Get(s.ctx, etcd.EntryKey(1))
+	if _, lines := etcd.SplitEntry(value); len(lines) != 1 || string(lines[0]) != prune {
+		t.Errorf("got %q", lines)
+	}
 }
 
 // TestCollect checks the bounds of an entry.
@@ -39,6 +46,7 @@ func TestCollect(t *testing.T) {
 		{"few lines", 7, 1, 7},
 	} {
 		g := New(s.log, Options{Limits: s.limits})
+		standIn(g)
 		for i := 0; i < c.count; i++ {
 			g.changes <- (&session{Gateway: g}).request(make([]byte, c.size))
 		}

@@ -105,13 +105,10 @@ func isReset(conn net.Conn) bool {
 	if !ok {
 		return false
 	}
-	raw, err := tcp.SyscallConn()
-	if err != nil {
-		return true
-	}
-	const closed = 7 // TCP_CLOSE of the kernel
+	raw, _ := tcp.SyscallConn() // whose error is that of no connection
+	const closed = 7            // TCP_CLOSE of the kernel
 	isClosed := false
-	err = raw.Control(func(descriptor uintptr) {
+	err := raw.Control(func(descriptor uintptr) {
 		info, err := syscall.GetsockoptInet4Addr(int(descriptor), syscall.IPPROTO_TCP, syscall.TCP_INFO) // of which the first byte is the state
 		isClosed = err == nil && info[0] == closed
 	})

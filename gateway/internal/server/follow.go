@@ -71,7 +71,7 @@ func (g *Gateway) runReplica(ctx context.Context) error {
 			}
 		}
 	}
-	before, at, last := g.failure.Load(), etcd.Line{}, ""
+	before, at, last := g.failure.Load(), etcd.Line{}, r.State().Name
 	take := func(number uint64, value []byte) {
 		name, lines := etcd.SplitEntry(value)
 		last = name

@@ -152,6 +152,20 @@ func TestReplacedEntries(t *testing.T) {
 	s.expect("afterwards", s.call(address, prune), committed(1, 2))
 }
 
+// TestSnapshotOfLostLog has a snapshot behind whose last entry etcd was restored, and another entry with its number.
+func TestSnapshotOfLostLog(t *testing.T) {
+	s := newSite(t)
+	s.append(prune, prune, prune)
+	s.log.Put(s.ctx, "snapshot/0000000000000002/00000000", []byte(`{"Entry":2,"Name":"lost","Place":2}`))
+	s.log.Put(s.ctx, "snapshot", []byte(`{"Entry":2,"Chunks":1}`))
+	g := New(s.log, Options{Limits: s.limits, Replica: replica.Options{Program: os.Args[0], Domain: "ex.org", Workers: 2}})
+	go g.follow(s.ctx)
+	within(t, "the replica stays", func() bool { return g.replicasEnded.Load() > 0 })
+	if r, _ := g.board.read(); r != nil {
+		t.Error("the replica is ready")
+	}
+}
+
 // TestFailing checks when the status has a failing line.
 func TestFailing(t *testing.T) {
 	g := New(newSite(t).log, Options{})

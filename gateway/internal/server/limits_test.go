@@ -214,6 +214,33 @@ func TestLongLinesLimit(t *testing.T) {
 	within(t, "the slot stays taken", func() bool { return len(g.long) == 0 })
 }
 
+// TestLongLineOfAgent checks that an agent gets no slot for a long line, so that it takes none from operators.
+func TestLongLineOfAgent(t *testing.T) {
+	s := newSite(t)
+	g := New(s.log, Options{Limits: s.limits})
+	on, err := net.Listen("tcp", "127.0.0.1:0")
+	if err != nil {
+		t.Fatal(err)
+	}
+	defer on.Close()
+	outer, in := s.dial(on.Addr().String())
+	inner, err := on.Accept()
+	if err != nil {
+		t.Fatal(err)
+	}
+	go (&session{Gateway: g, conn: inner, in: bufio.NewReaderSize(inner, readBuffer), agent: "spiffe://ex.org/spire/agent/n1"}).serve(s.ctx)
+	long := show + strings.Repeat(" ", 2*readBuffer)
+	fmt.Fprint(outer, long[:readBuffer+1])
+	time.Sleep(100 * time.Millisecond)
+	if len(g.long) != 0 {
+		t.Error("a slot is taken")
+	}
+	fmt.Fprintln(outer, long[readBuffer+1:])
+	if got, err := in.ReadString('\n'); got != refusal(wire.NotAllowed, 1)+"\n" {
+		t.Errorf("got %s, %v", got, err)
+	}
+}
+
 // TestChangesLimit lets etcd refuse everything. A change that waits behind too many others is refused after the time for an answer. What was sent
 // before it is answered immediately, and its connection goes on.
 func TestChangesLimit(t *testing.T) {
@@ -457,13 +484,13 @@ func TestReplyRoom(t *testing.T) {
 func TestReplyBytes(t *testing.T) {
 	t.Parallel()
 	s := newSite(t)
-	s.limits.ReplyBytes, s.limits.Write = 350_000, 10*time.Minute
+	s.limits.ReplyBytes, s.limits.Write = 450_000, 10*time.Minute
 	g, address, _ := s.gateway("a")
 	conn, in := s.dial(address)
 	conn.(*net.TCPConn).SetReadBuffer(4096)
 	fmt.Fprint(conn, strings.Repeat(large+"\n", 100))
-	within(t, "no replies", func() bool { return samples(t, g)["regd_gateway_reply_bytes"] > 300_000 })
-	if held := g.held.Load(); held > 360_000 {
+	within(t, "no replies", func() bool { return samples(t, g)["regd_gateway_reply_bytes"] > 400_000 })
+	if held := g.held.Load(); held > 460_000 {
 		t.Errorf("%d bytes of replies are held", held)
 	}
 	s.expect("others", s.call(address, large, show), refusal(wire.Busy, 1), answered(1, 0))
@@ -482,6 +509,14 @@ func TestReplyBytes(t *testing.T) {
 	}
 	within(t, "replies stay", func() bool { return g.held.Load() == 0 })
 	s.expect("afterwards", s.call(address, show), answered(1, 0))
+}
+
+// TestLargeReply asks for more than a gateway reads of one reply: the others have the room that is left.
+func TestLargeReply(t *testing.T) {
+	s := newSite(t)
+	s.limits.ReplyBytes = 350_000 // of which each of two workers may use a quarter
+	_, address, _ := s.gateway("a")
+	s.expect("a large reply", s.call(address, large, show), refusal(wire.Busy, 1), answered(1, 0))
 }
 
 // TestLateReply checks that a reply which comes when its caller has left takes no room, and neither does one that had come before.
@@ -618,6 +653,7 @@ func TestReset(t *testing.T) {
 	}
 	defer inner.Close()
 	g := New(s.log, Options{Limits: s.limits})
+	standIn(g)
 	queued := func() *request {
 		q := (&session{Gateway: g, conn: tls.Server(&paced{Conn: inner}, nil)}).request([]byte(prune))
 		g.changes <- q

@@ -7,6 +7,7 @@ import (
 	"context"
 	"crypto/tls"
 	"net"
+	"reflect"
 	"runtime"
 	"sync"
 	"sync/atomic"
@@ -49,10 +50,8 @@ var UsualLimits = Limits{
 
 // IsValid returns true if all limits are above 0, and lines are not longer than regd accepts them.
 func (l Limits) IsValid() bool {
-	for _, limit := range []int64{int64(l.Answer), int64(l.After), int64(l.Handshake), int64(l.Idle), int64(l.Line), int64(l.Write), int64(l.Stop),
-		int64(l.Votes), int64(l.Members), int64(l.Status), int64(l.LineBytes), int64(l.Lines), int64(l.LongLines), int64(l.Changes), l.ReplyBytes,
-		int64(l.Connections), int64(l.CallerConnections)} {
-		if limit <= 0 {
+	for i, limits := 0, reflect.ValueOf(l); i < limits.NumField(); i++ {
+		if limits.Field(i).Int() <= 0 {
 			return false
 		}
 	}
@@ -115,14 +114,10 @@ func New(log *etcd.Log, options Options) *Gateway {
 	for len(g.turns) == 0 || len(g.turns) < options.Replica.Workers-1 {
 		g.turns = append(g.turns, make(chan struct{}, mostTurns))
 	}
+	g.options.Replica.ReplyBytes = int(options.Limits.ReplyBytes) / 2 / len(g.turns) // those that are read take no more room than those that are not yet sent
 	g.skips.Store(&etcd.Skips{})
-	g.heard(0)
-	return g
-}
-
-func (g *Gateway) heard(head uint64) {
-	g.head.Store(head)
 	g.headTime.Store(time.Now().Unix())
+	return g
 }
 
 // Run follows the log until the context ends or the gateway has to stop, and calls serve once queries can be answered. It returns the first

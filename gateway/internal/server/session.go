@@ -64,13 +64,15 @@ func (s *session) serve(ctx context.Context) {
 		if s.isFull() && !s.writeAnswers(ctx, len(s.row)/2) || !s.hasLine() && !(s.writeAnswers(ctx, 0) && s.waitForLine()) {
 			return
 		}
-		line, code, err := wire.ReadLine(s.in, s.options.Limits.LineBytes, func() bool { return s.takeSlot(ctx) })
+		line, code, err := wire.ReadLine(s.in, s.options.Limits.LineBytes, func() bool { return s.isOperator && s.takeSlot(ctx) })
 		if err != nil {
 			s.noteLate(err, "line")
 			return
 		}
 		isChange := false
 		switch {
+		case code == wire.Busy && !s.isOperator: // an agent has no need of a long line
+			code = wire.NotAllowed
 		case code != "":
 		case !s.isOperator:
 			line, code = wire.ForAgent(s.agent, line)
@@ -143,13 +145,11 @@ func (s *session) noteLate(err error, reason string) {
 
 // takeSlot waits for one of the slots for lines that are longer than the buffer. It returns false if there is none for too long.
 func (s *session) takeSlot(ctx context.Context) bool {
-	late := time.NewTimer(s.options.Limits.Answer)
-	defer late.Stop()
 	select {
 	case s.long <- struct{}{}:
 		s.isLong = true
 		return s.readFor(s.options.Limits.Line)
-	case <-late.C:
+	case <-time.After(s.options.Limits.Answer):
 		s.longWait.Error("too many long lines wait", "limit", cap(s.long))
 	case <-ctx.Done():
 	}
@@ -203,11 +203,9 @@ func (s *session) change(ctx context.Context, line []byte) bool {
 	if len(s.row) > 0 && !s.writeAnswers(ctx, 0) { // they don't wait with it
 		return false
 	}
-	late := time.NewTimer(s.options.Limits.Answer)
-	defer late.Stop()
 	select {
 	case s.changes <- q:
-	case <-late.C:
+	case <-time.After(s.options.Limits.Answer):
 		s.changesWait.Error("too many changes wait", "limit", cap(s.changes))
 		q.answer(wire.Refusal(wire.Busy))
 	case <-ctx.Done():
@@ -275,7 +273,8 @@ func (s *session) query(ctx context.Context, line []byte) bool {
 	if s.isFresh {
 		late, cancel := context.WithTimeout(ctx, s.options.Limits.Answer)
 		defer cancel()
-		if head, err := s.freshHead(late); err != nil || !s.board.wait(late, head, 0) {
+		_, before := s.board.read()
+		if head, err := s.freshHead(late); err != nil || head < before.Entry || !s.board.wait(late, head, 0) { // less after a restore
 			return false
 		}
 	}

@@ -319,14 +319,14 @@ func TestSlowReplica(t *testing.T) {
 	}
 	g, _, _ := s.gateway("a")
 	time.Sleep(3 * againTime)
-	if _, state := g.board.read(); state.Entry != 50 || s.store.Counts().Pages != 1 {
+	if _, state := g.board.read(); state.Entry != 50 || s.store.Counts().Pages != 2 {
 		t.Errorf("at entry %d, %v", state.Entry, s.store.Counts())
 	}
 	for i := 0; i < 50; i++ {
 		s.append(`{"ops":[{"op":"prune","hint":"SLOW"}]}`)
 	}
 	within(t, "not all entries are executed", func() bool { _, state := g.board.read(); return state.Entry == 100 })
-	if counts := s.store.Counts(); counts.Pages != 1 || counts.Watches != 1 {
+	if counts := s.store.Counts(); counts.Pages != 2 || counts.Watches != 1 {
 		t.Errorf("while entries come: %v", counts)
 	}
 }
@@ -366,6 +366,18 @@ func TestFreshHead(t *testing.T) {
 	if count := g.fresh.begun.Load(); count > 4 { // a failed one, one for most, and few for those that came late
 		t.Errorf("%d requests", count)
 	}
+}
+
+// TestFreshTurnedBack lets the log end before the last entry that the replica has executed, as after the restoration of a backup: no fresh query is answered
+// from that book.
+func TestFreshTurnedBack(t *testing.T) {
+	t.Parallel()
+	s := newSite(t)
+	g, usual, fresh := s.gateway("a")
+	s.expect("a change", s.call(usual, prune), committed(1, 1))
+	s.expect("a fresh query", s.call(fresh, show), answered(1, 1))
+	g.board.update(func() { g.board.state.Entry = 2 })
+	s.expect("after that", s.call(fresh, show))
 }
 
 // TestReplicaIsAway checks that the gateway is not ready after its regd has ended, and that a regd which always ends is never ready.

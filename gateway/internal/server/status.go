@@ -4,6 +4,7 @@ import (
 	"context"
 	"encoding/json"
 	"fmt"
+	"math"
 	"net"
 	"net/http"
 	"time"
@@ -29,8 +30,7 @@ type stats struct {
 
 // ServeStatus answers requests for the state over HTTP.
 func (g *Gateway) ServeStatus(on net.Listener) error {
-	long := g.options.Limits.Status
-	return (&http.Server{Handler: g.Handler(), ReadTimeout: long, WriteTimeout: long}).Serve(on)
+	return (&http.Server{Handler: g.Handler(), ReadTimeout: g.options.Limits.Status, WriteTimeout: g.options.Limits.Status}).Serve(on)
 }
 
 // Handler answers /status, /metrics, /ready and /ready/changes.
@@ -102,7 +102,8 @@ func (g *Gateway) serveStatus(w http.ResponseWriter, _ *http.Request) {
 func (g *Gateway) askHead(ctx context.Context) error {
 	for ctx.Err() == nil {
 		if head, err := g.log.Head(ctx); err == nil {
-			g.heard(head)
+			g.head.Store(head)
+			g.headTime.Store(time.Now().Unix())
 		}
 		etcd.Pause(ctx, time.Second)
 	}
@@ -173,9 +174,7 @@ func addMembers(p *metrics.Page, name string, members []etcd.Member) {
 		if m.Error == "" {
 			healthy++
 		}
-		if float64(m.Bytes) > size {
-			size = float64(m.Bytes)
-		}
+		size = math.Max(size, float64(m.Bytes))
 		if m.Quota > 0 && (quota == 0 || float64(m.Quota) < quota) {
 			quota = float64(m.Quota)
 		}

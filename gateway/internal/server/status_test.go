@@ -34,6 +34,12 @@ func status(t *testing.T, g *Gateway) (int, map[string]any) {
 	return answer.Code, values
 }
 
+// heard lets a gateway have heard of the end of the log.
+func (g *Gateway) heard(head uint64) {
+	g.head.Store(head)
+	g.headTime.Store(time.Now().Unix())
+}
+
 func TestStatus(t *testing.T) {
 	t.Parallel()
 	s := newSite(t)

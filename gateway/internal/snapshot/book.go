@@ -10,7 +10,6 @@ import (
 	"strings"
 
 	"regd/gateway/internal/replica"
-	"regd/gateway/internal/wire"
 )
 
 // limits of a line of a snapshot
@@ -32,9 +31,7 @@ func (n names) note(line []byte) {
 	var batch struct {
 		Ops []struct{ Op, Agent, Domain string }
 	}
-	if !wire.MayChange(line) || json.Unmarshal(line, &batch) != nil {
-		return
-	}
+	json.Unmarshal(line, &batch) // also after an error: of equal keys regd takes the last one, whatever the others are
 	for _, op := range batch.Ops {
 		switch op.Op {
 		case "set_agent":
@@ -65,10 +62,10 @@ func show(r *replica.Replica, query string) (shown reply, err error) {
 		Code    string
 		Replies []reply
 	}
-	in := json.NewDecoder(bytes.NewReader(r.Ask([]byte(`{"ops":[` + query + `]}`))))
+	in := json.NewDecoder(bytes.NewReader(r.Ask([]byte(fmt.Sprintf(`{"ops":[%s],"after":%d}`, query, r.State().Place)))))
 	in.UseNumber()
 	err = in.Decode(&answer)
-	if err == nil && strings.HasPrefix(answer.Code, "L") {
+	if err == nil && (strings.HasPrefix(answer.Code, "L") || answer.Code == "W1") {
 		err = errors.New(answer.Code) // such as L6: out of memory
 	}
 	if err != nil {

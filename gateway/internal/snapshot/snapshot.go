@@ -15,17 +15,16 @@ import (
 	"regd/gateway/internal/etcd"
 	"regd/gateway/internal/logline"
 	"regd/gateway/internal/replica"
+	"regd/gateway/internal/wire"
 )
-
-// emptyLine is a change that changes nothing but the commit number.
-const emptyLine = `{"ops":[{"op":"prune","before":0}]}`
 
 // chunkSize is the most bytes of a snapshot in one key of etcd.
 const chunkSize = 1 << 19
 
-// head is the value of the key snapshot. It names the chunks, which are written first.
+// head is the value of the key snapshot. It names the chunks, which are written first. No other call of Make has the ID.
 type head struct {
 	Entry  uint64
+	ID     string `json:",omitempty"`
 	Chunks int
 }
 
@@ -36,8 +35,9 @@ type content struct {
 	Lines  []string
 }
 
-func chunkKey(entry uint64, number int) string {
-	return fmt.Sprintf("snapshot/%016x/%08x", entry, number)
+// chunk returns the key of a chunk. The chunks of an older snapshot come first.
+func (h head) chunk(number int) string {
+	return fmt.Sprintf("snapshot/%016x/%s%08x", h.Entry, h.ID, number)
 }
 
 // read returns the newest snapshot. It is empty if there is none.
@@ -51,7 +51,7 @@ func read(ctx context.Context, log *etcd.Log) (c content, err error) {
 	text = nil
 	for i := 0; i < h.Chunks && err == nil; i++ {
 		var chunk []byte
-		chunk, err = log.GetLarge(ctx, chunkKey(h.Entry, i), chunkSize)
+		chunk, err = log.GetLarge(ctx, h.chunk(i), chunkSize)
 		text = append(text, chunk...)
 	}
 	if err == nil {
@@ -82,13 +82,7 @@ func Load(ctx context.Context, log *etcd.Log, r *replica.Replica) (uint64, error
 }
 
 // fill makes the book of a snapshot in an empty replica.
-func (c content) fill(r *replica.Replica) error {
-	var lines []string
-	for i := uint64(len(c.Lines)); i < c.Place; i++ {
-		lines = append(lines, emptyLine) // first, since they are quickest while the book is empty
-	}
-	return r.Restore(c.State, append(lines, c.Lines...), c.Tokens)
-}
+func (c content) fill(r *replica.Replica) error { return r.Restore(c.State, c.Lines, c.Tokens) }
 
 // Make makes a snapshot of the book that was left by the entry `keep` before the last one, and deletes the log up to it. It makes none if that
 // would not shorten the log. If the log loses that entry meanwhile, because etcd is restored from a backup or another call has cut the log, the
@@ -129,7 +123,7 @@ func Make(ctx context.Context, log *etcd.Log, options replica.Options, keep uint
 	if err := log.Cut(ctx, last, log.Has("snapshot", published)); err != nil {
 		return err
 	}
-	return log.Delete(ctx, "snapshot/", chunkKey(last, 0), log.Has("snapshot", published))
+	return log.Delete(ctx, "snapshot/", head{Entry: last}.chunk(0), log.Has("snapshot", published))
 }
 
 // build starts a regd, whose book fill makes, and returns the snapshot of it.
@@ -156,7 +150,11 @@ func replay(log *etcd.Log, old content, r *replica.Replica, names names, last ui
 	}
 	reading, stop := context.WithCancel(r.Context())
 	defer stop()
-	_, err := log.Follow(reading, old.Entry+1, "", func(uint64) {}, func(number uint64, value []byte) {
+	_, err := log.Follow(reading, old.Entry+1, "", func(end uint64) {
+		if end < last { // etcd was restored from a backup
+			stop()
+		}
+	}, func(number uint64, value []byte) {
 		if number > last {
 			return
 		}
@@ -183,15 +181,17 @@ func (c content) verify(ctx context.Context, options replica.Options, names name
 	return err
 }
 
-// publish writes the chunks, and then, if the log still has the snapshot's last entry, the head that makes them count. It returns the head.
+// publish writes the chunks, each if the one before it is still there, and then, if the log still has the snapshot's last entry, the head that makes them
+// count. It returns the head. So if etcd is restored meanwhile, no chunk is missing.
 func (c content) publish(ctx context.Context, log *etcd.Log, entry []byte) ([]byte, error) {
 	text, _ := json.Marshal(c) // no error: it holds strings, bytes and numbers
-	h := head{Entry: c.Entry}
+	h, before := head{Entry: c.Entry, ID: wire.NewID()}, []map[string]any{}
 	for rest := bytes.NewBuffer(text); rest.Len() > 0; h.Chunks++ {
-		if err := log.Put(ctx, chunkKey(c.Entry, h.Chunks), rest.Next(chunkSize)); err != nil {
+		if err := log.Put(ctx, h.chunk(h.Chunks), rest.Next(chunkSize), before...); err != nil {
 			return nil, err
 		}
+		before = []map[string]any{log.Exists(h.chunk(h.Chunks))}
 	}
 	text, _ = json.Marshal(h)
-	return text, log.Put(ctx, "snapshot", text, log.Has(etcd.EntryKey(c.Entry), entry))
+	return text, log.Put(ctx, "snapshot", text, append(before, log.Has(etcd.EntryKey(c.Entry), entry))...)
 }

@@ -2,6 +2,7 @@ package snapshot
 
 import (
 	"context"
+	"encoding/json"
 	"fmt"
 	"math/rand"
 	"os"
@@ -34,7 +35,7 @@ func miniature(t *testing.T, ctx context.Context, entries uint64) (replica.Optio
 		t.Fatal(err)
 	}
 	for entry := uint64(1); entry <= entries; entry++ {
-		if _, err := log.Append(ctx, entry, etcd.JoinEntry(fmt.Sprint(entry), [][]byte{[]byte(emptyLine)})); err != nil {
+		if _, err := log.Append(ctx, entry, etcd.JoinEntry(fmt.Sprint(entry), [][]byte{[]byte(replica.EmptyLine)})); err != nil {
 			t.Fatal(err)
 		}
 	}
@@ -73,13 +74,15 @@ func TestPublish(t *testing.T) {
 	if _, err := c.publish(ctx, log, []byte("another")); err == nil {
 		t.Error("a snapshot of an entry that is gone was published")
 	}
-	if _, err := c.publish(ctx, log, []byte("seven")); err != nil {
-		t.Fatal(err)
+	before := len(store.Puts())
+	text, err := c.publish(ctx, log, []byte("seven"))
+	var h head
+	if json.Unmarshal(text, &h); err != nil || h.Chunks != 3 {
+		t.Fatalf("got %v, %v", h, err)
 	}
-	pieces := []string{"r/" + chunkKey(7, 0), "r/" + chunkKey(7, 1), "r/" + chunkKey(7, 2)}
-	keys := append([]string{"r/head", "r/domain", "r/" + etcd.EntryKey(7)}, append(append(pieces, pieces...), "r/snapshot")...)
+	keys := []string{"r/" + h.chunk(0), "r/" + h.chunk(1), "r/" + h.chunk(2), "r/snapshot"}
 	var puts []string
-	for _, key := range store.Puts() {
+	for _, key := range store.Puts()[before:] {
 		if len(puts) == 0 || puts[len(puts)-1] != key { // a request without an answer is repeated
 			puts = append(puts, key)
 		}
@@ -91,47 +94,84 @@ func TestPublish(t *testing.T) {
 		t.Errorf("read %v", err)
 	}
 	for number := 2; number >= 0; number-- { // a newer snapshot deletes all pieces together, so a reader misses the last ones
-		log.Delete(ctx, chunkKey(7, number), chunkKey(7, number+1))
+		log.Delete(ctx, h.chunk(number), h.chunk(number)+"0")
 		if _, err := read(ctx, log); err == nil {
 			t.Errorf("a snapshot of %d pieces was read", number)
 		}
 	}
 }
 
-// TestMakeWhileRestored restores a backup, with an older snapshot, before each transaction of a snapshot, in turn, and the log grows again. Then etcd has
-// the older snapshot, and all entries after it.
+// TestPublishRestored restores a backup between the pieces of a snapshot: it is not published without the pieces that were lost.
+func TestPublishRestored(t *testing.T) {
+	ctx, cancel := context.WithTimeout(context.Background(), time.Minute)
+	defer cancel()
+	for number := 2; number <= 4; number++ {
+		_, store, log := miniature(t, ctx, 0)
+		log.Put(ctx, etcd.EntryKey(7), []byte("seven"))
+		backup := store.Backup()
+		store.Before(number, func() { store.Restore(backup) })
+		c := content{State: replica.State{Entry: 7, Place: 3}, Lines: []string{strings.Repeat("x", 2*chunkSize), "y"}}
+		if _, err := c.publish(ctx, log, []byte("seven")); err == nil || strings.Contains(strings.Join(store.Keys(), " "), "snapshot") {
+			t.Errorf("before request %d: %v, %v", number, err, store.Keys())
+		}
+	}
+}
+
+// TestPublishTogether publishes two snapshots of one entry at the same time, which another version of regd may have made: none has a piece of the other.
+func TestPublishTogether(t *testing.T) {
+	ctx, cancel := context.WithTimeout(context.Background(), time.Minute)
+	defer cancel()
+	_, store, log := miniature(t, ctx, 0)
+	log.Put(ctx, etcd.EntryKey(7), []byte("seven"))
+	one := content{State: replica.State{Entry: 7, Place: 3}, Lines: []string{strings.Repeat("x", 3*chunkSize)}}
+	other := content{State: replica.State{Entry: 7, Place: 3}, Lines: []string{strings.Repeat("y", chunkSize)}}
+	store.Before(3, func() { other.publish(ctx, log, []byte("seven")) })
+	if _, err := one.publish(ctx, log, []byte("seven")); err != nil {
+		t.Fatal(err)
+	}
+	if got, err := read(ctx, log); err != nil || !reflect.DeepEqual(got, one) {
+		t.Errorf("read another snapshot, %v", err)
+	}
+}
+
+// TestMakeWhileRestored restores a backup, with an older snapshot, before each transaction of a snapshot, in turn, and the log grows again. If the snapshot
+// counts, it can be read. Otherwise etcd has the older one. The log has all entries after it. The backup has the last entry of a snapshot that keeps
+// more entries, and not that of one that keeps fewer.
 func TestMakeWhileRestored(t *testing.T) {
 	ctx, cancel := context.WithTimeout(context.Background(), time.Minute)
 	defer cancel()
-	for number, isRestored := 1, true; isRestored; number++ {
-		options, store, log := miniature(t, ctx, 9)
-		if err := Make(ctx, log, options, 6); err != nil {
-			t.Fatal(err)
-		}
-		backup := store.Backup()
-		grow := func(prefix string) {
-			for entry := uint64(10); entry <= 12; entry++ {
-				log.Append(ctx, entry, etcd.JoinEntry(prefix+fmt.Sprint(entry), [][]byte{[]byte(emptyLine)}))
+	for _, keep := range []uint64{2, 4} {
+		for number, isRestored := 1, true; isRestored; number++ {
+			options, store, log := miniature(t, ctx, 9)
+			if err := Make(ctx, log, options, 6); err != nil {
+				t.Fatal(err)
 			}
-		}
-		grow("")
-		isRestored = false
-		store.Before(number, func() { isRestored = true; store.Restore(backup); grow("again ") })
-		err := Make(ctx, log, options, 2)
-		c, failed := read(ctx, log)
-		if isRestored != (c.Entry == 3) || isRestored != (err != nil) || failed != nil {
-			t.Errorf("before request %d: the snapshot of entry %d, %v, %v", number, c.Entry, err, failed)
-		}
-		head, _ := log.Head(ctx)
-		for entry := c.Entry + 1; entry <= head; entry++ {
-			if value, _ := log.Get(ctx, etcd.EntryKey(entry)); value == nil {
-				t.Errorf("before request %d: entry %d is gone", number, entry)
+			backup := store.Backup()
+			grow := func(prefix string) {
+				for entry := uint64(10); entry <= 12; entry++ {
+					log.Append(ctx, entry, etcd.JoinEntry(prefix+fmt.Sprint(entry), [][]byte{[]byte(replica.EmptyLine)}))
+				}
+			}
+			grow("")
+			isRestored = false
+			store.Before(number, func() { isRestored = true; store.Restore(backup); grow("again ") })
+			err := Make(ctx, log, options, keep)
+			c, failed := read(ctx, log)
+			isMade := err == nil
+			if isMade != (c.Entry == 12-keep) || !isMade && c.Entry != 3 || failed != nil || isMade && isRestored && keep == 2 || !isMade && !isRestored {
+				t.Errorf("keep %d, before request %d: the snapshot of entry %d, %v, %v", keep, number, c.Entry, err, failed)
+			}
+			head, _ := log.Head(ctx)
+			for entry := c.Entry + 1; entry <= head; entry++ {
+				if value, _ := log.Get(ctx, etcd.EntryKey(entry)); value == nil {
+					t.Errorf("keep %d, before request %d: entry %d is gone", keep, number, entry)
+				}
 			}
 		}
 	}
 }
 
-// TestReplayEnds checks that a replay ends at its entry, and fails if it doesn't reach it.
+// TestReplayEnds checks that a replay ends at its entry, and fails if the log doesn't have it any more.
 func TestReplayEnds(t *testing.T) {
 	ctx, cancel := context.WithTimeout(context.Background(), time.Minute)
 	defer cancel()
@@ -142,9 +182,6 @@ func TestReplayEnds(t *testing.T) {
 			t.Fatal(err)
 		}
 		defer r.Close()
-		if last == 9 {
-			time.AfterFunc(300*time.Millisecond, r.Close)
-		}
 		err = replay(log, content{}, r, names{}, last, nil)
 		if (err == nil) != (last == 3) || err == nil && r.State().Place != 3 {
 			t.Errorf("up to %d: got %v, %v", last, err, r.State())
@@ -167,7 +204,7 @@ func TestReplaySkips(t *testing.T) {
 	if want := (replica.State{Entry: 5, Name: "5", Place: 4, Sum: c.Sum, Skipped: 1}); err != nil || c.State != want {
 		t.Errorf("got %v, %v", c.State, err)
 	}
-	log.Put(ctx, etcd.EntryKey(5), etcd.JoinEntry("5", [][]byte{[]byte(emptyLine)})) // which a snapshot deletes after it is published
+	log.Put(ctx, etcd.EntryKey(5), etcd.JoinEntry("5", [][]byte{[]byte(replica.EmptyLine)})) // which a snapshot deletes after it is published
 	if err := Skip(ctx, log, etcd.Line{Entry: 5, Number: 1}, "b"); err == nil {
 		t.Error("a line of the snapshot was skipped")
 	}
@@ -201,7 +238,16 @@ func TestSkipMeanwhile(t *testing.T) {
 	}
 }
 
-// TestShow checks that a regd that runs out of memory makes no snapshot.
+// TestNote checks that the names of a line are noted as regd takes them: of equal keys the last one counts, whatever the others are.
+func TestNote(t *testing.T) {
+	names := names{}
+	names.note([]byte(`{"ops":5,"ops":[{"op":"set_agent","agent":7,"agent":"a"},{"op":"set_bundle","domain":[],"domain":"b"},{"op":1,"op":"set_agent","agent":"c"}]}`))
+	if len(names) != 3 || !names[`{"agent":"a","op":"show_agent"}`] || !names[`{"domain":"b","op":"show_bundle"}`] {
+		t.Errorf("got %v", names)
+	}
+}
+
+// TestShow checks that a regd that runs out of memory makes no snapshot, and neither does one of whose last commit the queries don't know yet.
 func TestShow(t *testing.T) {
 	ctx, cancel := context.WithTimeout(context.Background(), time.Minute)
 	defer cancel()
@@ -211,7 +257,11 @@ func TestShow(t *testing.T) {
 		t.Fatal(err)
 	}
 	defer r.Close()
-	for i, query := range []string{`{"op":"show"}`, `{"op":"show","hint":"L6"}`, `{"op":"show","hint":"KILL"}`} {
+	for i, query := range []string{`{"op":"show"}`, `{"op":"show"}`, `{"op":"show","hint":"L6"}`, `{"op":"show","hint":"KILL"}`} {
+		if i == 1 {
+			r.Apply(1, "e", [][]byte{[]byte(`{"ops":[{"op":"prune","hint":"LATE"}]}`)}, nil, func(int, []byte) {})
+			r.Settle()
+		}
 		if _, err := show(r, query); (err == nil) != (i == 0) {
 			t.Errorf("%s: got %v", query, err)
 		}
@@ -265,7 +315,7 @@ func site(t *testing.T, ctx context.Context) (*etcdtest.Server, *etcd.Log, *repl
 	}
 	random := rand.New(rand.NewSource(1))
 	for entry := uint64(1); entry <= 400; entry++ {
-		if _, err := log.Append(ctx, entry, etcd.JoinEntry(fmt.Sprint(entry), [][]byte{[]byte(randomLine(random, int(entry))), []byte(emptyLine)})); err != nil {
+		if _, err := log.Append(ctx, entry, etcd.JoinEntry(fmt.Sprint(entry), [][]byte{[]byte(randomLine(random, int(entry))), []byte(replica.EmptyLine)})); err != nil {
 			t.Fatal(err)
 		}
 	}

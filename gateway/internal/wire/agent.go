@@ -17,7 +17,7 @@ func ForAgent(agent string, line []byte) (query []byte, code string) {
 	}
 	in := json.NewDecoder(bytes.NewReader(line))
 	in.DisallowUnknownFields()
-	if agent == "" || !json.Valid(line) || in.Decode(&request) != nil || len(request.Ops) == 0 {
+	if agent == "" || !json.Valid(line) || in.Decode(&request) != nil || len(request.Ops) == 0 || len(request.Ops) > MaxQueries {
 		return nil, NotAllowed
 	}
 	for _, op := range request.Ops {

@@ -103,7 +103,7 @@ func ForLog(line []byte) (made []byte, code string) {
 	switch {
 	case !ok:
 		return line, ""
-	case b.changes > 0 && b.queries > MaxQueries:
+	case b.queries > MaxQueries:
 		return nil, TooMixed
 	case room > 0 && len(line)+room > MaxLine:
 		return nil, NoRoom

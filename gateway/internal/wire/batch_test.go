@@ -60,7 +60,7 @@ func TestTooMixed(t *testing.T) {
 	for _, c := range []struct {
 		queries, changes int
 		want             bool
-	}{{MaxQueries, 1, false}, {MaxQueries + 1, 1, true}, {MaxQueries + 1, 0, false}, {64, 0, false}, {63, 1, true}, {0, 64, false}} {
+	}{{MaxQueries, 1, false}, {MaxQueries + 1, 1, true}, {MaxQueries, 0, false}, {MaxQueries + 1, 0, true}, {64, 0, true}, {63, 1, true}, {0, 64, false}} {
 		if _, code := ForLog(batch(c.queries, c.changes, "children")); (code == TooMixed) != c.want {
 			t.Errorf("%d queries, %d changes: got %s", c.queries, c.changes, code)
 		}
@@ -126,6 +126,7 @@ func TestReadTokened(t *testing.T) {
 		{"no token", `{"ops":[{"op":"prune"}]}`, false, 0, "", ""},
 		{"null", `{"token":null,"ops":[{"op":"prune"}]}`, false, 0, "", ""},
 		{"a number", `{"token":9,"ops":[{"op":"prune"}]}`, false, 0, "", ""},
+		{"a letter that is no ASCII", `{"token":"urn:uu\u0130d:00000000-0000-0000-0000-000000000009","ops":[{"op":"prune"}]}`, false, 0, "", ""},
 		{"not a UUID", `{"token":"9","ops":[{"op":"prune"}]}`, false, 0, "", ""},
 		{"a UUID with urn and no hyphens", `{"token":"urn:uuid:00000000000000000000000000000009","ops":[{"op":"prune"}]}`, false, 0, "", ""},
 		{"braces and no hyphens", `{"token":"{00000000000000000000000000000009}","ops":[{"op":"prune"}]}`, false, 0, "", ""},

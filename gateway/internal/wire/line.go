@@ -15,8 +15,8 @@ import (
 const MaxLine = 1 << 20
 
 // ReadLine reads a line without its line feed. When the line outgrows the buffer of in, it calls hasRoom, and doesn't keep the line if that is
-// false. It returns the code with which a line is refused: L1 if it is too long, L3 if the input ends in it, Busy if it was not kept, and TooLong if it
-// has more than the given number of bytes. An error means that there is no line; io.EOF that the input ended.
+// false. It returns the code with which a line is refused: L3 if the input ends in it, Busy if it was not kept, and if it has more than the given number
+// of bytes TooLong, or L1 if regd refuses it too. An error means that there is no line; io.EOF that the input ended.
 func ReadLine(in *bufio.Reader, most int, hasRoom func() bool) (line []byte, code string, err error) {
 	size, isKept := 0, true
 	for err = bufio.ErrBufferFull; err == bufio.ErrBufferFull; {
@@ -35,7 +35,7 @@ func ReadLine(in *bufio.Reader, most int, hasRoom func() bool) (line []byte, cod
 	switch {
 	case err != nil && (err != io.EOF || size == 0):
 		return nil, "", err
-	case size > MaxLine:
+	case size > MaxLine && size > most:
 		return nil, "L1", nil
 	case err == io.EOF:
 		return nil, "L3", nil

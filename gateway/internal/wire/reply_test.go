@@ -107,6 +107,14 @@ func TestReadLineBounds(t *testing.T) {
 	}
 }
 
+// TestReadLongReply reads a line that is longer than those of callers may be.
+func TestReadLongReply(t *testing.T) {
+	long := strings.Repeat("x", 2*MaxLine)
+	if line, code, err := ReadLine(bufio.NewReader(strings.NewReader(long+"\n")), 1<<62, func() bool { return true }); string(line) != long || code != "" || err != nil {
+		t.Errorf("got %d bytes, %s, %v", len(line), code, err)
+	}
+}
+
 // endless is an input without a line feed, of some bytes.
 type endless struct{ left int }
 

@@ -20,12 +20,11 @@ func NewID() string {
 const hyphened = `[0-9a-f]{8}-[0-9a-f]{4}-[0-9a-f]{4}-[0-9a-f]{4}-[0-9a-f]{12}`
 
 var (
-	uuidForms = regexp.MustCompile(`^([0-9a-f]{32}|` + hyphened + `|\{` + hyphened + `\}|urn:uuid:` + hyphened + `)$`)
+	uuidForms = regexp.MustCompile(`(?i)^([0-9a-f]{32}|` + hyphened + `|\{` + hyphened + `\}|urn:uuid:` + hyphened + `)$`)
 	digits    = strings.NewReplacer("urn:uuid:", "", "-", "", "{", "", "}", "")
 )
 
 // readUUID returns the 32 digits of a UUID in lower case, for each of the four forms that regd accepts.
 func readUUID(text string) (string, bool) {
-	text = strings.ToLower(text)
-	return digits.Replace(text), uuidForms.MatchString(text)
+	return digits.Replace(strings.ToLower(text)), uuidForms.MatchString(text)
 }

@@ -54,13 +54,13 @@ def own_code(line):
     batch = batch_of(line) if len(line) <= MOST_BYTES else None
     if batch is None:
         return None
-    names = [name_of(op) for op in batch["ops"]]
-    if any(name in CHANGES for name in names) and sum(name in QUERIES for name in names) > MOST_QUERIES:
+    # a query is never too long: nothing that it needs is added to it
+    if b"\\" not in line and not any(b'"%s"' % name.encode() in line for name in CHANGES):
+        return None
+    if sum(name_of(op) in QUERIES for op in batch["ops"]) > MOST_QUERIES:
         return "G2"
     room = creates_without_id(batch) * ID_BYTES + (TOKEN_BYTES if has_token(batch) else 0)
-    # a query is never too long: nothing that it needs is added to it
-    may_change = b"\\" in line or any(b'"%s"' % name.encode() in line for name in CHANGES)
-    return "G3" if room and may_change and len(line) + room > MOST_BYTES else None
+    return "G3" if room and len(line) + room > MOST_BYTES else None
 
 
 def read_uuid(text):

@@ -152,6 +152,7 @@ type request struct {
 	Limit         int  `json:"limit,string"`
 	KeysOnly      bool `json:"keys_only"`
 	Target        string
+	Result        string
 	Compare       []request
 	Success       []step
 	Failure       []step
@@ -278,7 +279,7 @@ func (s *Server) transact(in *request) object {
 	holds := true
 	for _, one := range in.Compare {
 		value, has := s.values[string(one.Key)]
-		holds = holds && (one.Target == "CREATE" && !has || one.Target == "VALUE" && has && string(value) == string(one.Value))
+		holds = holds && (one.Target == "CREATE" && has == (one.Result == "GREATER") || one.Target == "VALUE" && has && string(value) == string(one.Value))
 	}
 	steps := in.Success
 	if !holds {

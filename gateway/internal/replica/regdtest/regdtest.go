@@ -1,7 +1,7 @@
 // Package regdtest has a regd in miniature for unit tests. A test binary calls Main first in TestMain, and names itself as the program.
 //
 // It knows prune, which commits and reports its number, show, after, and token, which it ignores. Some hints in a line make it misbehave: L5, L6,
-// L7 and L8 are replied as codes, KILL ends the process, HANG makes it answer nothing more on this connection, and SLOW makes it take a tenth of a
+// L7, L8 and O8 are replied as codes, KILL ends the process, HANG makes it answer nothing more on this connection, and SLOW makes it take a tenth of a
 // second. LARGE makes a reply of 100 kB. With LATE a change is seen by the other connections after two seconds. For the domain shared.org the connections number their calls
 // together, and for hung.org it never listens.
 package regdtest
@@ -97,7 +97,7 @@ func (b *book) reply(text []byte, isWriter bool) (reply string, isCall bool) {
 	}
 	b.mu.Lock()
 	defer b.mu.Unlock()
-	for _, code := range []string{"L5", "L6", "L7", "L8"} {
+	for _, code := range []string{"L5", "L6", "L7", "L8", "O8"} {
 		if bytes.Contains(text, []byte(code)) {
 			return code, false
 		}
