@@ -173,7 +173,7 @@ func TestMakeWhileRestored(t *testing.T) {
 
 // TestReplayEnds checks that a replay ends at its entry, and fails if the log doesn't have it any more.
 func TestReplayEnds(t *testing.T) {
-	ctx, cancel := context.WithTimeout(context.Background(), time.Minute)
+	ctx, cancel := context.WithTimeout(context.Background(), 10*time.Second)
 	defer cancel()
 	options, _, log := miniature(t, ctx, 5)
 	for _, last := range []uint64{3, 9} {
@@ -183,7 +183,7 @@ func TestReplayEnds(t *testing.T) {
 		}
 		defer r.Close()
 		err = replay(log, content{}, r, names{}, last, nil)
-		if (err == nil) != (last == 3) || err == nil && r.State().Place != 3 {
+		if (err == nil) != (last == 3) || err == nil && r.State().Place != 3 || ctx.Err() != nil {
 			t.Errorf("up to %d: got %v, %v", last, err, r.State())
 		}
 	}
