@@ -82,7 +82,7 @@ func (l *link) read() error {
 			return net.ErrClosed
 		}
 		done := l.waiting[0]
-		l.waiting = l.waiting[1:]
+		l.waiting[0], l.waiting = nil, l.waiting[1:] // what was taken out can be freed
 		l.expect()
 		l.mu.Unlock()
 		done(reply)

@@ -355,17 +355,18 @@ func TestReplyBytes(t *testing.T) {
 	}
 }
 
-// TestReplyCutOff checks that a reply without its end is none.
+// TestReplyCutOff checks that a reply without its end is none, and that what waited for one can be freed.
 func TestReplyCutOff(t *testing.T) {
 	inner, outer := net.Pipe()
-	go func() { outer.Write([]byte(`{"call":1,`)); outer.Close() }()
-	l := &link{conn: inner, most: 100, waiting: []func([]byte){func(reply []byte) {
-		if reply != nil {
-			t.Errorf("got %s", reply)
-		}
-	}}}
-	if err := l.read(); err == nil {
-		t.Error("no error")
+	go func() { outer.Write([]byte("{}\n{")); outer.Close() }()
+	var got []string
+	note := func(reply []byte) { got = append(got, string(reply)) }
+	waiting := []func([]byte){note, note}
+	if err := (&link{conn: inner, most: 100, waiting: waiting}).read(); err == nil || len(got) != 2 || got[0] != "{}" || got[1] != "" {
+		t.Errorf("got %q, %v", got, err)
+	}
+	if waiting[0] != nil {
+		t.Error("what waited for a reply stays in memory")
 	}
 }
 

@@ -25,8 +25,7 @@ func (g *Gateway) answer(name string, line int, reply []byte) {
 
 // appendChanges makes entries of the changes that wait, one entry at a time, until the context ends.
 func (g *Gateway) appendChanges(ctx context.Context) error {
-	next := uint64(1)
-	for count := 1; ; count++ {
+	for count, next := 1, uint64(1); ; count++ {
 		changes, lines := g.collect(ctx)
 		name := fmt.Sprintf("%s.%d", g.run, count)
 		g.flights.Store(name, changes)

@@ -20,8 +20,10 @@ func (b *board) update(change func()) {
 	b.mu.Lock()
 	defer b.mu.Unlock()
 	change()
-	close(b.changed)
-	b.changed = make(chan struct{})
+	if b.replica != nil { // nobody goes on without one, and a replay has many changes
+		close(b.changed)
+		b.changed = make(chan struct{})
+	}
 }
 
 // read returns the replica, or nil, and its state.

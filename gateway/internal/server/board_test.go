@@ -8,6 +8,18 @@ import (
 	"regd/gateway/internal/replica"
 )
 
+// TestBoardSleeps checks that nobody is woken by what a replay does, which nobody can go on with.
+func TestBoardSleeps(t *testing.T) {
+	b := board{changed: make(chan struct{})}
+	before := b.changed
+	if b.update(func() { b.state.Entry = 2 }); b.changed != before {
+		t.Error("an entry of a replay wakes")
+	}
+	if b.update(func() { b.replica = &replica.Replica{} }); b.changed == before {
+		t.Error("a replica doesn't wake")
+	}
+}
+
 // TestBoard checks that a caller waits until an update brings the last thing that was missing, and no longer.
 func TestBoard(t *testing.T) {
 	b := board{changed: make(chan struct{})}

@@ -106,11 +106,11 @@ func isReset(conn net.Conn) bool {
 		return false
 	}
 	raw, _ := tcp.SyscallConn() // whose error is that of no connection
-	const closed = 7            // TCP_CLOSE of the kernel
 	isClosed := false
 	err := raw.Control(func(descriptor uintptr) {
-		info, err := syscall.GetsockoptInet4Addr(int(descriptor), syscall.IPPROTO_TCP, syscall.TCP_INFO) // of which the first byte is the state
-		isClosed = err == nil && info[0] == closed
+		// of which the first byte is the state; 7 is TCP_CLOSE of the kernel
+		info, err := syscall.GetsockoptInet4Addr(int(descriptor), syscall.IPPROTO_TCP, syscall.TCP_INFO)
+		isClosed = err == nil && info[0] == 7
 	})
 	return isClosed || err != nil
 }

@@ -59,7 +59,7 @@ func (g *Gateway) runReplica(ctx context.Context) error {
 	if err != nil {
 		return err
 	}
-	defer g.board.update(func() { g.board.replica = nil })
+	defer g.board.update(func() { g.board.replica, g.board.state = nil, replica.State{} })
 	isReady := false
 	caughtUp := func(last uint64) {
 		if r.Settle(); r.State().Entry >= last { // less if regd has ended

@@ -241,6 +241,25 @@ func TestLongLineOfAgent(t *testing.T) {
 	}
 }
 
+// TestRefusedLines checks that a caller pauses after each line that is refused without regd.
+func TestRefusedLines(t *testing.T) {
+	s := newSite(t)
+	g := New(s.log, Options{Limits: s.limits})
+	outer, inner := net.Pipe()
+	go (&session{Gateway: g, conn: inner, in: bufio.NewReaderSize(inner, readBuffer), agent: "spiffe://ex.org/spire/agent/n1"}).serve(s.ctx)
+	begin := time.Now()
+	go outer.Write([]byte(strings.Repeat("\n", 100)))
+	in := bufio.NewReader(outer)
+	for line := 1; line <= 100; line++ {
+		if got, err := in.ReadString('\n'); got != refusal(wire.NotAllowed, line)+"\n" {
+			t.Fatalf("got %s, %v", got, err)
+		}
+	}
+	if took := time.Since(begin); took < 90*floodPause {
+		t.Errorf("100 lines take %v", took)
+	}
+}
+
 // TestChangesLimit lets etcd refuse everything. A change that waits behind too many others is refused after the time for an answer. What was sent
 // before it is answered immediately, and its connection goes on.
 func TestChangesLimit(t *testing.T) {

@@ -185,10 +185,9 @@ func (g *Gateway) Serve(ctx context.Context, on net.Listener, isFresh bool) erro
 func (g *Gateway) receive(ctx context.Context, conn net.Conn, isFresh bool) {
 	defer func() { conn.Close() }()
 	defer g.sessions.Add(-1)
-	limits := g.options.Limits
-	if g.sessions.Add(1) > int64(limits.Connections) {
+	if g.sessions.Add(1) > int64(g.options.Limits.Connections) {
 		g.ended.Inc("connections")
-		g.crowded.Error("too many connections", "limit", limits.Connections)
+		g.crowded.Error("too many connections", "limit", g.options.Limits.Connections)
 		return
 	}
 	s := &session{Gateway: g, conn: conn, isOperator: true, isFresh: isFresh, number: int(g.accepted.Add(1))}
@@ -196,7 +195,7 @@ func (g *Gateway) receive(ctx context.Context, conn net.Conn, isFresh bool) {
 	if g.options.Callers != nil {
 		turned := &paced{Conn: conn, turns: g.handshakes}
 		secure := tls.Server(turned, g.options.Callers.Server())
-		conn.SetDeadline(time.Now().Add(limits.Handshake)) // a session sets it again before it reads and writes
+		conn.SetDeadline(time.Now().Add(g.options.Limits.Handshake)) // a session sets it again before it reads and writes
 		err := secure.HandshakeContext(ctx)
 		if turned.done(); err != nil {
 			g.ended.Inc("handshake")
@@ -205,14 +204,14 @@ func (g *Gateway) receive(ctx context.Context, conn net.Conn, isFresh bool) {
 		conn, s.conn = secure, secure
 		s.agent, s.isOperator = callerOf(secure.ConnectionState().PeerCertificates[0], g.options.Operators) // the handshake requires one
 		defer g.crowd.leave(s.agent)
-		isAdmitted = g.crowd.enter(s.agent, limits.CallerConnections)
+		isAdmitted = g.crowd.enter(s.agent, g.options.Limits.CallerConnections)
 	}
 	s.in = bufio.NewReaderSize(conn, readBuffer)
 	if isAdmitted {
 		s.serve(ctx)
 	} else {
 		g.ended.Inc("caller")
-		g.callerCrowded.Error("too many connections of a caller", "limit", limits.CallerConnections, "caller", s.agent)
+		g.callerCrowded.Error("too many connections of a caller", "limit", g.options.Limits.CallerConnections, "caller", s.agent)
 		s.add(s.request(nil)).answer(wire.Refusal(wire.TooMany))
 		s.writeAnswers(ctx, 0)
 	}

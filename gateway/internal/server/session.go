@@ -82,6 +82,8 @@ func (s *session) serve(ctx context.Context) {
 		}
 		if code != "" {
 			s.add(s.request(nil)).answer(wire.Refusal(code))
+			s.freeTurn()
+			etcd.Pause(ctx, floodPause) // a refused line needs no regd, so there is no turn for it
 			continue
 		}
 		if (isChange != s.isChanging || s.isFresh) && !s.writeAnswers(ctx, 0) {
@@ -267,16 +269,15 @@ func (s *session) freeTurn() {
 func (s *session) query(ctx context.Context, line []byte) bool {
 	q := s.request(line)
 	q.isQuery = true
-	if !s.isFresh && !s.takeTurn(ctx) { // fresh ones are asked one at a time
-		return false
-	}
-	if s.isFresh {
+	if s.isFresh { // these are asked one at a time, and need no turn
 		late, cancel := context.WithTimeout(ctx, s.options.Limits.Answer)
 		defer cancel()
 		_, before := s.board.read()
 		if head, err := s.freshHead(late); err != nil || head < before.Entry || !s.board.wait(late, head, 0) { // less after a restore
 			return false
 		}
+	} else if !s.takeTurn(ctx) {
+		return false
 	}
 	_, state := s.board.read()
 	if after := wire.After(line); after > state.Place {
@@ -316,7 +317,7 @@ func (s *session) writeAnswers(ctx context.Context, most int) bool {
 			s.flush()
 			return false
 		}
-		s.row, s.progress = s.row[1:], time.Now()
+		s.row[0], s.row, s.progress = nil, s.row[1:], time.Now()
 		q.leave() // such as a reply of another replica, which executes all of an entry
 		if len(s.row) == 0 {
 			s.freeSlot()

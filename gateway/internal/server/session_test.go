@@ -151,6 +151,16 @@ func TestWriteAnswers(t *testing.T) {
 	}
 }
 
+// TestAnsweredRow checks that a line can be freed when it is answered.
+func TestAnsweredRow(t *testing.T) {
+	s := newSite(t)
+	made, _ := rowOf(s, []byte(committed(7, 1)), []byte(committed(8, 2)))
+	row := made.row
+	if made.writeAnswers(s.ctx, 0); row[0] != nil || row[1] != nil {
+		t.Error("answered lines stay in memory")
+	}
+}
+
 // TestAnswersDoNotWait checks that an answer is sent although a later line of the caller gets none, or waits for a commit.
 func TestAnswersDoNotWait(t *testing.T) {
 	s := newSite(t)
@@ -396,6 +406,9 @@ func TestReplicaIsAway(t *testing.T) {
 	within(t, "no other replica", func() bool { now, _ = g.board.read(); return now != nil })
 	s.log.Append(s.ctx, 1, etcd.JoinEntry("x", [][]byte{[]byte(prune), []byte(`{"ops":[{"op":"prune","hint":"KILL"}]}`)}))
 	within(t, "the replica stays", func() bool { now, _ = g.board.read(); return now == nil })
+	if _, state := g.board.read(); state != (replica.State{}) {
+		t.Errorf("the state of the replica stays: %v", state)
+	}
 	other := New(s.log, Options{Replica: g.options.Replica, Limits: s.limits})
 	ctx, stop := context.WithCancel(s.ctx)
 	ended := make(chan error, 1)

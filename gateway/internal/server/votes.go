@@ -33,7 +33,7 @@ func judge(own string, votes map[string]string) (isDisputed, isOutvoted bool) {
 
 // compare votes, and looks at the votes of the other gateways, until this one is outvoted or the context ends.
 //
-// A vote is the checksum of all replies up to an entry, stored under the version of the replies, the entry's number and name, and the gateway. Votes
+// A vote is the checksum of all commits and refusals up to an entry, stored under the version of the replies, the entry's number and name, and the gateway. Votes
 // of different versions are not compared, and neither are those of replicas that have left out different lines. After etcd was restored from a
 // backup, an entry that was lost may have the number of a new one, but not its name. Two votes that differ don't decide anything: both gateways
 // go on until a third one votes.

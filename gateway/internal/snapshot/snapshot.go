@@ -48,7 +48,7 @@ func read(ctx context.Context, log *etcd.Log) (c content, err error) {
 	}
 	var h head
 	err = json.Unmarshal(text, &h)
-	text = nil
+	text = make([]byte, 0, h.Chunks*chunkSize)
 	for i := 0; i < h.Chunks && err == nil; i++ {
 		var chunk []byte
 		chunk, err = log.GetLarge(ctx, h.chunk(i), chunkSize)
@@ -150,7 +150,7 @@ func replay(log *etcd.Log, old content, r *replica.Replica, names names, last ui
 	}
 	reading, stop := context.WithCancel(r.Context())
 	defer stop()
-	_, err := log.Follow(reading, old.Entry+1, "", func(end uint64) {
+	_, err := log.Follow(reading, old.Entry+1, old.Name, func(end uint64) {
 		if end < last { // etcd was restored from a backup
 			stop()
 		}

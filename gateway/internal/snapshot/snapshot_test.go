@@ -189,6 +189,23 @@ func TestReplayEnds(t *testing.T) {
 	}
 }
 
+// TestReplayTurnedBack checks that a replay doesn't go on with a log that isn't the one of the last snapshot.
+func TestReplayTurnedBack(t *testing.T) {
+	ctx, cancel := context.WithTimeout(context.Background(), time.Minute)
+	defer cancel()
+	options, _, log := miniature(t, ctx, 5)
+	for name, isRight := range map[string]bool{"2": true, "lost": false} {
+		r, err := replica.Start(ctx, options, func(replica.State) {})
+		if err != nil {
+			t.Fatal(err)
+		}
+		defer r.Close()
+		if err := replay(log, content{State: replica.State{Entry: 2, Name: name, Place: 2}}, r, names{}, 4, nil); (err == nil) != isRight {
+			t.Errorf("after the entry %s: got %v", name, err)
+		}
+	}
+}
+
 // TestReplaySkips checks that a snapshot leaves out the lines that are skipped, and that none of its own can be skipped.
 func TestReplaySkips(t *testing.T) {
 	ctx, cancel := context.WithTimeout(context.Background(), time.Minute)

@@ -5,8 +5,8 @@ import (
 	"encoding/json"
 )
 
-// MaxQueries is the most queries of a batch that also changes something. regd keeps the replies of such a batch, and the gateway those of a
-// batch with a token.
+// MaxQueries is the most queries of a line for the log, or of an agent's. regd keeps the replies of a batch that also changes something, and the gateway
+// those of a batch with a token.
 const MaxQueries = 4
 
 const (
@@ -17,7 +17,7 @@ const (
 // The codes of the gateway's own. A refused line has no effect and reaches neither the log nor regd.
 const (
 	NotAllowed = "G1" // the caller may not send this line
-	TooMixed   = "G2" // a change with more than MaxQueries queries
+	TooMixed   = "G2" // a line for the log with more than MaxQueries queries
 	NoRoom     = "G3" // the line is too long for what the gateway adds to it
 	TooMany    = "G4" // the caller has too many connections
 	Busy       = "G5" // too many lines wait, or replies take too much room

@@ -82,7 +82,7 @@ class Store:
         if text is None:
             return None
         head = json.loads(text)
-        content = json.loads(b"".join(self.get(f"snapshot/{head['Entry']:016x}/{number:08x}") for number in range(head["Chunks"])))
+        content = json.loads(b"".join(self.get(f"snapshot/{head['Entry']:016x}/{head.get('ID', '')}{number:08x}") for number in range(head["Chunks"])))
         lines = [line.encode() for line in content["Lines"] or []]
         tokens = [(kept["Token"], base64.b64decode(kept["Reply"])) for kept in content["Tokens"] or []]
         return Snapshot(head["Entry"], content["Place"], [EMPTY_LINE] * (content["Place"] - len(lines)) + lines, tokens)
