@@ -20,7 +20,7 @@ func (b *board) update(change func()) {
 	b.mu.Lock()
 	defer b.mu.Unlock()
 	change()
-	if b.replica != nil { // nobody goes on without one, and a replay has many changes
+	if b.replica != nil { // no session goes on without one, and a replay has many changes
 		close(b.changed)
 		b.changed = make(chan struct{})
 	}

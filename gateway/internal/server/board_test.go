@@ -8,7 +8,7 @@ import (
 	"regd/gateway/internal/replica"
 )
 
-// TestBoardSleeps checks that nobody is woken by what a replay does, which nobody can go on with.
+// TestBoardSleeps checks that a replay wakes no session, since none can go on.
 func TestBoardSleeps(t *testing.T) {
 	b := board{changed: make(chan struct{})}
 	before := b.changed

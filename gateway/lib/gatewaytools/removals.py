@@ -232,7 +232,7 @@ FEATURES = [
     ("behind whose last entry there is no other log", FOLLOW, "etcd.Line{}, r.State().Name\n", 'etcd.Line{}, ""\n', "TestSnapshotOfLostLog"),
     ("a replica that has ended is not on the board", FOLLOW, "\tdefer g.board.update(func() { g.board.replica, g.board.state = nil, replica.State{} })\n", "", "TestReplicaIsAway"),
     ("nor is its state", FOLLOW, "nil, replica.State{} })", "nil, g.board.state })", "TestReplicaIsAway"),
-    ("nobody is woken without a replica", BOARD, "if b.replica != nil { // nobody", "if b != nil { // nobody", "TestBoardSleeps"),
+    ("no session is woken without a replica", BOARD, "if b.replica != nil { // no session", "if b != nil { // no session", "TestBoardSleeps"),
     ("a caller pauses after a refused line", SESSION, "\t\t\tetcd.Pause(ctx, floodPause) // a refused", "\t\t\t// a refused", "TestRefusedLines"),
     ("an answered line takes no memory", SESSION, "s.row[0], s.row, s.progress = nil, s.row[1:], time.Now()", "s.row, s.progress = s.row[1:], time.Now()", "TestAnsweredRow"),
     ("what waited for a reply takes none", LINK, "l.waiting[0], l.waiting = nil, l.waiting[1:]", "l.waiting = l.waiting[1:]", "TestReplyCutOff"),
