@@ -404,7 +404,9 @@ func TestReplicaIsAway(t *testing.T) {
 		t.Error("there is no time without a replica")
 	}
 	within(t, "no other replica", func() bool { now, _ = g.board.read(); return now != nil })
-	s.log.Append(s.ctx, 1, etcd.JoinEntry("x", [][]byte{[]byte(prune), []byte(`{"ops":[{"op":"prune","hint":"KILL"}]}`)}))
+	s.log.Append(s.ctx, 1, etcd.JoinEntry("w", [][]byte{[]byte(prune)}))
+	within(t, "the entry is not executed", func() bool { _, state := g.board.read(); return state.Entry == 1 })
+	s.log.Append(s.ctx, 2, etcd.JoinEntry("x", [][]byte{[]byte(prune), []byte(`{"ops":[{"op":"prune","hint":"KILL"}]}`)}))
 	within(t, "the replica stays", func() bool { now, _ = g.board.read(); return now == nil })
 	if _, state := g.board.read(); state != (replica.State{}) {
 		t.Errorf("the state of the replica stays: %v", state)

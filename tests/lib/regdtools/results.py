@@ -40,6 +40,15 @@ def commit():
     return (_output(["git", "rev-list", "-1", "--abbrev-commit", "HEAD", *outside]) or "unknown") + ("+changes" if changes else "")
 
 
+COMMIT_AT_START = commit()
+
+
+def commit_of_run():
+    """Returns the commit when the script started, and that of now if it is another one."""
+    now = commit()
+    return COMMIT_AT_START if now == COMMIT_AT_START else f"{COMMIT_AT_START} at the start, {now} at the end"
+
+
 def kit():
     """Returns the version of the Rattle toolchain."""
     return _output(["rt", "version"]).partition("\n")[0] or "unknown"
@@ -79,7 +88,7 @@ def write(what, columns, rows, folder=FOLDER, notes=()):
     """
     path = pathlib.Path(folder) / f"{datetime.date.today().isoformat()}-{what}.tsv"
     path.parent.mkdir(parents=True, exist_ok=True)
-    comments = [f"commit {commit()}", f"kit {kit()}", f"machine {machine()}", *notes]
+    comments = [f"commit {commit_of_run()}", f"kit {kit()}", f"machine {machine()}", *notes]
     lines = [*(f"# {comment}" for comment in comments), *("\t".join(map(cell, row)) for row in [columns, *rows])]
     with open(path, "a") as file:
         file.write(("\n" if file.tell() else "") + "\n".join(lines) + "\n")
@@ -94,7 +103,7 @@ def add_run(what, values, folder=FOLDER):
     path = pathlib.Path(folder) / f"{what}.json"
     path.parent.mkdir(parents=True, exist_ok=True)
     runs = json.loads(path.read_text()) if path.exists() else []
-    runs.append({**values, "date": datetime.date.today().isoformat(), "commit": commit(), "kit": kit(), "machine": machine()})
+    runs.append({**values, "date": datetime.date.today().isoformat(), "commit": commit_of_run(), "kit": kit(), "machine": machine()})
     path.write_text(json.dumps(runs, indent=1) + "\n")
     return path
 
