@@ -362,7 +362,7 @@ func TestReplyCutOff(t *testing.T) {
 	var got []string
 	note := func(reply []byte) { got = append(got, string(reply)) }
 	waiting := []func([]byte){note, note}
-	if err := (&link{conn: inner, most: 100, waiting: waiting}).read(); err == nil || len(got) != 2 || got[0] != "{}" || got[1] != "" {
+	if err := (&link{conn: inner, hang: time.Minute, most: 100, waiting: waiting}).read(); err == nil || len(got) != 2 || got[0] != "{}" || got[1] != "" {
 		t.Errorf("got %q, %v", got, err)
 	}
 	if waiting[0] != nil {
