@@ -334,8 +334,8 @@ func TestQueries(t *testing.T) {
 	}
 }
 
-// TestReplyBytes checks that a large reply to a query is refused, and that of a change is not.
-func TestReplyBytes(t *testing.T) {
+// TestReplyBound checks that a large reply to a query is refused, and that of a change is not.
+func TestReplyBound(t *testing.T) {
 	r, _ := startWith(t, Options{ReplyBytes: 100_000})
 	large := []byte(`{"ops":[{"op":"show","hint":"LARGE"}]}`)
 	for _, line := range []string{string(large), `{"ops":[]}`, string(large)} {
