@@ -88,7 +88,7 @@ func TestAppend(t *testing.T) {
 }
 
 func TestFollow(t *testing.T) {
-	_, log, ctx := open(t)
+	server, log, ctx := open(t)
 	const before = 1203
 	for number := uint64(1); number <= before; number++ {
 		if _, err := log.Append(ctx, number, []byte(fmt.Sprint(number))); err != nil {
@@ -99,8 +99,13 @@ func TestFollow(t *testing.T) {
 	defer stop()
 	caught, taken := uint64(0), uint64(0)
 	next, err := log.Follow(reading, 1, "", func(last uint64) {
-		caught = last
+		if caught = last; taken != last {
+			t.Errorf("entry %d is announced as the last one after entry %d", last, taken)
+		}
 		go func() {
+			for server.Counts().Watches == 0 && ctx.Err() == nil {
+				time.Sleep(time.Millisecond)
+			}
 			log.Cut(ctx, 3) // of which the watch says nothing
 			for number := uint64(before + 1); number <= before+5; number++ {
 				log.Append(ctx, number, []byte(fmt.Sprint(number)))
