@@ -29,8 +29,7 @@ pub type Answer = Reply;
 pub enum NoAnswer {
     /// Memory ran out.
     NoMemory,
-    /// The seat couldn't enter the registry, or the published state doesn't extend what the seat has seen and learnt, or the
-    /// history has another length.
+    /// The seat couldn't enter the registry, or the published state doesn't extend what the seat has seen and learnt.
     NoEntry,
 }
 
