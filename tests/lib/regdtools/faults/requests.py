@@ -30,7 +30,6 @@ class Plain(Runs):
 class Session(Plain):
     """Runs of `regd serve` with one worker and one connection."""
 
-    ends = {b"regd: out of memory\n", b"regd: no seat\n"}
     may_close = True
 
     def answer(self, lines, fail=0):
