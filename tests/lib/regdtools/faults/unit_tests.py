@@ -5,8 +5,10 @@ import re
 import subprocess
 import sys
 
+from regdtools import checking, crates
 from regdtools.allocations import Runs
-from regdtools.program import ROOT
+from regdtools.building import TARGET
+from regdtools.program import CRATES
 
 OUT_OF_MEMORY = re.compile(rb"NoMemory|AllocError|AllocFailed|[Nn]o memory|[Oo]ut ?[Oo]f ?[Mm]emory")
 # the status of a test that returns an error
@@ -16,15 +18,22 @@ SECONDS = 60
 MOST = 5_000
 
 
-def built(crate):
-    """Returns the program with the crate's tests: of crates/CRATE_tests, or of the crate itself if there is no such crate."""
-    homes = [ROOT / "crates" / name for name in (f"{crate}_tests", crate)]
-    home = next((home for home in homes if home.is_dir()), None)
-    if home is None:
+def built(folder, crate):
+    """Builds the program with the crate's tests, of crates/CRATE_tests or of the crate itself if there is no such crate, and returns its
+    path. `rt ci` proves the crates below in the folder, or takes them from the toolchain's store."""
+    name = next((name for name in (f"{crate}_tests", crate) if name in crates.listed()), None)
+    if name is None:
         sys.exit(f"there is no crate {crate}")
-    if subprocess.run(["rt", "test"], cwd=home, stdout=sys.stderr).returncode:
-        sys.exit(f"rt test failed in crates/{home.name}")
-    return home / f"out/{home.name}_tests"
+    kit, uses, below = checking.toolchain(), crates.listed()[name], crates.below([name])
+    libraries, made, program = folder / "libraries", folder / f"{name}.o", folder / name
+    checking.prove(below, libraries)
+    words = ["--crate-name", name, "--test", "src/lib.rt", *checking.over(libraries, uses, below)]
+    more = ["--toolchain", kit / "toolchain", "--backend", "llvm", "-o", made]
+    linked = [made, kit / "c/libos_c.a", kit / "c/liblibc_c.a"]
+    subprocess.run([kit / "bin/rattle", "build", *words, *more], cwd=CRATES / name, stdout=sys.stderr, check=True)
+    words = ["--target", TARGET, "--toolchain", kit / "toolchain", "-o", program, *linked]
+    subprocess.run([kit / "bin/rattle-link", *words], cwd=folder, stdout=sys.stderr, check=True)
+    return program
 
 
 def names(program):
@@ -42,7 +51,7 @@ def is_out_of_memory(result):
 
 
 def check(folder, crate, program=None):
-    program = pathlib.Path(program).resolve() if program else built(crate)
+    program = pathlib.Path(program).resolve() if program else built(pathlib.Path(folder), crate)
     runs = Runs(folder)
     passed = out_of_memory = wrong = 0
     for name in names(program):
