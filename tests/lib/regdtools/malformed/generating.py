@@ -276,6 +276,7 @@ def invalid_json(valid):
     for text in ["\\ud800", "\\udc00", "\\ud800\\ud800", "\\udc00\\ud800", "\\ud83d\\ude00", "\\u12", "\\x41", "\\", "\x1f", "\x00", "\x7f", "\t"]:
         yield valid.replace("show", text)
         yield valid[:-1] + f',"{text}":1}}'
+        yield f'{{"ops":["{text}"],{valid[1:]}'
     for number in ["1e400", "9" * 400, "-", "01", "1e", "--1", "1_0", "\u0661"]:
         yield valid[:-1] + f',"zz":{number}}}'
 

@@ -60,15 +60,27 @@ def depth(text):
     return deepest
 
 
+def check_characters(value):
+    """Refuses half of a surrogate pair, which is an invalid character."""
+    json.dumps(value, ensure_ascii=False).encode("utf-8")
+
+
+def last_values(pairs):
+    """Returns an object with the last value of each key. The values before it have to be valid too."""
+    found = dict(pairs)
+    if len(found) < len(pairs):
+        check_characters(pairs)
+    return found
+
+
 def value_of(data):
     """Returns the JSON value of a line without its line feed."""
     try:
         text = data.decode("utf-8")
         if max(text.count("["), text.count("{")) > MOST_DEEP // 2 and depth(text) > MOST_DEEP:
             raise ValueError("too deep")
-        value = json.loads(text, parse_int=whole, parse_float=finite, parse_constant=no_constant)
-        # half of a surrogate pair is an invalid character
-        json.dumps(value, ensure_ascii=False).encode("utf-8")
+        value = json.loads(text, object_pairs_hook=last_values, parse_int=whole, parse_float=finite, parse_constant=no_constant)
+        check_characters(value)
     except ValueError:
         raise Refused("L2") from None
     return value
