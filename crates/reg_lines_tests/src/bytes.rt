@@ -44,7 +44,9 @@ fn memory_never_fails(rt: HostRuntime) -> Result<(), Fail> {
     let mut line = Line::new(rt.alloc())?;
     match number_text(rt.alloc(), TEXT, &mut line, 100) {
         Ok(numbered) => holds_at(&rt, numbered.as_slice() == NUMBERED, "all lines", 100),
-        Err(_) => return Err(Fail::from("a failed device")),
+        // a vector of bytes fails only if it can't grow
+        Err(Ended::Output) => return Err(Fail::from(AllocError)),
+        Err(Ended::Input) => return Err(Fail::from("a failed input")),
     }
     Ok(())
 }
