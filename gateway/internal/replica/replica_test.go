@@ -391,6 +391,7 @@ func TestEnd(t *testing.T) {
 		t.Errorf("got %s", reply)
 	}
 	<-r.Context().Done()
+	r.Close() // waits until all connections are closed
 	r.Query(0, []byte(`{}`), func(reply []byte) { got <- reply })
 	r.Apply(1, "e", [][]byte{[]byte(prune)}, nil, func(int, []byte) { t.Error("answered") })
 	if reply := <-got; reply != nil {

@@ -145,10 +145,12 @@ func TestOrder(t *testing.T) {
 	lines := []string{show, prune, prune, show, show, mixed, prune, `{`, show}
 	s.expect("the usual port", s.call(address, lines...), answered(1, 0), committed(2, 1), committed(3, 2), answered(4, 2), answered(5, 2),
 		`{"code":"G2","line":6}`, committed(6, 3), `{"code":"L2","line":8}`, answered(7, 3))
-	s.expect("the other port", s.call(fresh, show, prune, show), answered(1, 3), committed(2, 4), answered(3, 4))
+	slow := `{"ops":[{"op":"show","hint":"WAIT"}]}` // a change that doesn't wait for it is committed first
+	s.expect("a change after a slow query", s.call(address, slow, prune), answered(1, 3), committed(2, 4))
+	s.expect("the other port", s.call(fresh, show, prune, show), answered(1, 4), committed(2, 5), answered(3, 5))
 	var many, want []string
 	for i := 0; i < 3*s.limits.Lines; i++ {
-		many, want = append(many, prune), append(want, committed(i+1, i+5))
+		many, want = append(many, prune), append(want, committed(i+1, i+6))
 	}
 	s.expect("many lines", s.call(address, many...), want...)
 }

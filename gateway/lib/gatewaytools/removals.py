@@ -176,7 +176,7 @@ FEATURES = [
     ("a long line of an agent is refused with G1", SESSION, "\t\t\tcode = wire.NotAllowed\n", "", "TestLongLineOfAgent"),
     ("ids are drawn before the append", SESSION, "line, code = wire.ForLog(line)", "_, code = wire.ForLog(line)", "TestIDs"),
     ("a refused line is not executed", SESSION, 'if code != "" {', 'if code != "" && line != nil {', "TestOrder"),
-    ("a query waits for the changes before it", SESSION, "(isChange != s.isChanging || s.isFresh)", "s.isFresh", "TestOrder"),
+    ("a query waits for the changes before it, and a change for the queries", SESSION, "(isChange != s.isChanging || s.isFresh)", "s.isFresh", "TestOrder"),
     ("the answer to a fresh query doesn't wait for the next one", SESSION, "(isChange != s.isChanging || s.isFresh)", "isChange != s.isChanging", "TestFreshAnswersDoNotWait"),
     ("a fresh query asks etcd where the log ends", SESSION, "if head, err := s.freshHead(late); err != nil ||", "if head, err := uint64(0), error(nil); err != nil ||", "TestGateways"),
     ("a fresh query is not answered from a log that was lost", SESSION, "err != nil || head < before.Entry ||", "err != nil || head < 0*before.Entry ||", "TestFreshTurnedBack"),

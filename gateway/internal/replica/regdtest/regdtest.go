@@ -2,8 +2,8 @@
 //
 // It knows prune, which commits and reports its number, show, after, and token, which it ignores. Some hints in a line make it misbehave: L5, L6,
 // L7, L8 and O8 are replied as codes, KILL ends the process, HANG makes it answer nothing more on this connection, and SLOW makes it take a tenth of a
-// second. LARGE makes a reply of 100 kB. With LATE a change is seen by the other connections after two seconds. For the domain shared.org the connections number their calls
-// together, and for hung.org it never listens.
+// second. With WAIT a line takes a second, in which the other connections are answered. LARGE makes a reply of 100 kB. With LATE a change is seen by
+// the other connections after two seconds. For the domain shared.org the connections number their calls together, and for hung.org it never listens.
 package regdtest
 
 import (
@@ -94,6 +94,9 @@ func (b *book) reply(text []byte, isWriter bool) (reply string, isCall bool) {
 	}
 	if bytes.Contains(text, []byte("HANG")) {
 		select {}
+	}
+	if bytes.Contains(text, []byte("WAIT")) {
+		time.Sleep(time.Second)
 	}
 	b.mu.Lock()
 	defer b.mu.Unlock()
