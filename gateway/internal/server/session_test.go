@@ -442,6 +442,7 @@ func TestRunEnds(t *testing.T) {
 		g.executed(replica.State{Entry: voteInterval - 1})
 		g.executed(replica.State{Entry: voteInterval, Name: "e"})
 		<-ctx.Done()
+		time.Sleep(time.Second / 5) // so that a Run that doesn't wait for it is over first
 		isOver = true
 		return nil
 	})
