@@ -105,6 +105,7 @@ fn query_after<J: RegistryId, R: Wait>(
             drop(borrowed);
             Ok(reply?)
         }
+        Outcome::NoMemory => Err(Failed("no memory")),
         _ => Err(Failed("a batch isn't committed")),
     }
 }
