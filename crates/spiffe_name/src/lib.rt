@@ -25,7 +25,10 @@ mod selectors;
 mod spiffe_id;
 mod trust_domain;
 
-pub use laws::{one_id_has_one_text, one_selector_has_one_text, one_set_is_one_list};
+pub use laws::{
+    one_id_has_one_text, one_selector_has_one_text, one_set_is_one_list, only_names_pass,
+    set_has_members_of_list,
+};
 pub use refusals::{Failure, IdRefusal, SelectorRefusal};
 pub use selector_set::SelectorSet;
 pub use selectors::Selector;

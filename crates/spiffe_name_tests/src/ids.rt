@@ -2,7 +2,7 @@
 
 use crate::faults::check;
 use crate::wanted::{holds, is_text};
-use spiffe_name::{SpiffeId, TrustDomain, one_id_has_one_text};
+use spiffe_name::{SpiffeId, TrustDomain, one_id_has_one_text, only_names_pass};
 use std::alloc::Global;
 use std::cmp::Ordering;
 use std::process::Abort;
@@ -150,5 +150,6 @@ fn the_parts_of_an_id_and_the_servers_id(rt: HostRuntime) -> Result<(), Fail> {
     is_domain_below(&rt, alloc, "ex-org", "ex.org")?;
     are_printed(&rt, alloc, "spiffe://ex.org/web", "ex.org")?;
     one_id_has_one_text();
+    only_names_pass();
     Ok(())
 }

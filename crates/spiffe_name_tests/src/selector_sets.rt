@@ -1,7 +1,7 @@
 //! Sets of selectors: their order, subsets and common members.
 
 use crate::wanted::{holds, is_number, is_text};
-use spiffe_name::{Selector, SelectorSet, one_set_is_one_list};
+use spiffe_name::{Selector, SelectorSet, one_set_is_one_list, set_has_members_of_list};
 use std::alloc::Global;
 use std::process::Abort;
 use std::test::Fail;
@@ -85,5 +85,6 @@ fn sets_lie_within_one_another_and_meet(rt: HostRuntime) -> Result<(), Fail> {
         lie(&rt, rt.alloc(), case)?;
     }
     one_set_is_one_list();
+    set_has_members_of_list();
     Ok(())
 }
