@@ -74,7 +74,7 @@ names_is domain e = (
   λ w. within_any (λ d. bytes_eq d domain) e.domains domain w (text_same domain domain refl),
 )
 
-named_is : (server : Bytes) (a : Agent) (b : Book) (d : Bundle) → (is_named (authorised server a b) d ≡ true) ↔ ((e : Entry) × EndsChain server a b e × Names d.domain e)
+pub named_is : (server : Bytes) (a : Agent) (b : Book) (d : Bundle) → (is_named (authorised server a b) d ≡ true) ↔ ((e : Entry) × EndsChain server a b e × Names d.domain e)
 named_is server a b d = (
   λ h. let r = from_any (names d.domain) (authorised server a b) h in (r.0, (ends_of_chains server a b r.0).0 r.1, (names_is d.domain r.0).0 r.2),
   λ v. within_any (names d.domain) (authorised server a b) v.0 ((ends_of_chains server a b v.0).1 v.1) ((names_is d.domain v.0).1 v.2),

@@ -220,7 +220,7 @@ last_lawful : (own_domain : Bytes) (books : List Book) → Good own_domain books
 last_lawful own_domain [] g = absurd (let k = g.some in omega arith)
 last_lawful own_domain (b ∷ bs) g = lawful_last own_domain 0 (length (b ∷ bs) - 1) b bs (omega arith) g.lawful.0 g.lawful.1
 
-some_is : (b c : Book) → Some b ≡ Some c → b ≡ c
+pub some_is : (b c : Book) → Some b ≡ Some c → b ≡ c
 some_is b c e = cc
 
 good_run : (own_domain : Bytes) (batch : Batch) (books : List Book) (b : Book) → IsMadeFor own_domain batch → Good own_domain books → b ≡ last_book books → Good own_domain (books_with books (verdict_run batch (place_of books) b))

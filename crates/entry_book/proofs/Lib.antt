@@ -38,4 +38,5 @@ pub mod ToList
 pub mod TokenRows
 pub mod Unfaulted
 pub mod Verdicts
+pub mod Visible
 pub mod WithinLimits

@@ -1,5 +1,5 @@
 -- The theorems about the book. Each is a clause of a function of the module `laws`.
-use Rattle.std.specs.Prelude.{◌≡◌, ◌↔◌, ◌⊎◌, ℕ, ◌+◌, ◌*◌, ◌^◌, ◌<◌, ◌≤◌, true, false, List, [], ◌∷◌, ◌++◌, length, map, take, Option, Some, None, Ok, Err, IfOk, MatchResult, IfSome, is_some, option_to_list, slice_get, Contains, ⊤}
+use Rattle.std.specs.Prelude.{◌≡◌, ◌↔◌, ◌⊎◌, ℕ, suc, ◌+◌, ◌*◌, ◌^◌, ◌<◌, ◌≤◌, ◌&&◌, true, false, List, [], ◌∷◌, ◌++◌, length, filter, map, take, Option, Some, None, Ok, Err, IfOk, MatchResult, IfSome, is_some, option_to_list, slice_get, Contains, ⊤}
 use Rattle.std.specs.List.{AllByRecursion}
 use Rattle.spiffe_name.specs.Id.{server_text}
 use Rattle.entry_book.specs.declared.agent.Agent.{Agent}
@@ -17,29 +17,31 @@ use Rattle.entry_book.specs.declared.reply.OpReply.{OpReply}
 use Rattle.entry_book.specs.declared.reply.OpRefusal.{OpRefusal}
 use Rattle.entry_book.specs.declared.reply.OpRefusal.TheVariants.{VersionGone}
 use Rattle.entry_book.specs.declared.reply.ReplyOutcome.TheVariants.{Committed, Answered, Repeated, Refused}
+use Rattle.entry_book.specs.declared.reply.Refusal.{Refusal}
 use Rattle.entry_book.specs.declared.reply.Refusal.TheVariants.{NotYet, TokenReused, OfOp, Full}
 use Rattle.entry_book.specs.declared.reply.Reply.{Reply}
-use Rattle.entry_book.specs.Rows.{Bytes, Entry, entry_key, agent_key, bundle_key, IsProperEntry, IsProperAgent}
+use Rattle.entry_book.specs.Rows.{Bytes, Entry, entry_key, agent_key, bundle_key, IsDomainSet, domain_set, IsProperEntry, IsProperAgent}
 use Rattle.entry_book.specs.Order.{Within, Ascending}
 use Rattle.entry_book.specs.Book.{Book, AscendingBook}
 use Rattle.entry_book.specs.Writes.{RowWrite, wrote_entry, wrote_agent, wrote_bundle, wrote_token, after, FitsBook, FitAll}
 use Rattle.entry_book.specs.NamedRows.{row_written, rows_named, token_of}
-use Rattle.entry_book.specs.Authorised.{authorised, EndsChain, Holds}
+use Rattle.entry_book.specs.Authorised.{authorised, ends_within, starts, EndsChain, Holds}
 use Rattle.entry_book.specs.Ops.{OpEffect, op_of}
 use Rattle.entry_book.specs.Runs.{RunEffect, RefusedOp, run}
 use Rattle.entry_book.specs.Effects.{Creates, CreateRefused, Updates, UpdateRefused, Deletes, DeleteRefused, ShowsRow, ListsChildren, ListsAuthorised, ListsTrust, LacksAgent, Prunes, SetsAgent, DropsAgent, SetsBundle, DropsBundle, DropBundleRefused}
 use Rattle.entry_book.specs.Limits.{limit_passed}
-use Rattle.entry_book.specs.Batches.{Batch, IsMadeFor, IsProperOp, is_query, entry_fault, agent_fault, bundle_fault, op_fault, batch_refusal}
+use Rattle.entry_book.specs.Batches.{Batch, IsMadeFor, IsProperOp, is_query, past_place, entry_fault, agent_fault, bundle_fault, op_fault, batch_refusal}
 use Rattle.entry_book.specs.Faultless.{FaultlessEntry, FaultlessAgent, FaultlessBundle, FaultlessOp}
-use Rattle.entry_book.specs.History.{PlainState, RepresentsBooks, IsHistory, CommitAll, first_books, last_book, place_of, batch_writes, LeadToBooks, books_after, books_from, books_of, commits, is_repeated, reply_to}
+use Rattle.entry_book.specs.History.{PlainState, RepresentsBooks, IsHistory, CommitAll, first_books, last_book, last_or, place_of, batch_writes, LeadToBooks, refuses, repeats, adds_within, kept_under, verdict, verdict_run, books_after, books_from, books_of, commits, is_repeated, reply_to}
 use Rattle.entry_book.specs.SameOps.{ops_eq}
 use Rattle.entry_book.specs.Lawful.{Lawful}
-use Rattle.entry_book.specs.Pages.{listed, matches_by, next_of, passes, passing}
+use Rattle.entry_book.specs.Pages.{comes_after, last_id, listed, matches_by, next_of, passes, passing}
 use Rattle.entry_book.specs.Listings.{IsPage, ListsPage, Matches, PageAfterPage, Passes}
 use Rattle.entry_book.specs.declared.page.Filter.{Filter}
 use Rattle.entry_book.specs.declared.page.MatchMode.{MatchMode}
 use Rattle.entry_book.specs.declared.page.PageQuery.{PageQuery}
 use Rattle.spiffe_name.specs.Selector.{SelectorPair}
+use Rattle.spiffe_name.specs.SelectorSet.{is_within}
 
 -- ---- membership
 
@@ -50,6 +52,14 @@ WithinIsContains = (xs : List Bytes) (x : Bytes) → Within xs x ↔ Contains xs
 -- lists of rows in order that have the same members are equal
 abbrev pub OneList : {X : Type 0} → (X → Bytes) → Type 0
 OneList {X} key = (xs ys : List X) → Ascending key xs → Ascending key ys → ((x : X) → Within xs x ↔ Within ys x) → xs ≡ ys
+
+-- the set of the domains of a list is the only set with its members
+abbrev pub OneDomainSet : Type 0
+OneDomainSet = (set domains : List Bytes) → IsDomainSet set → ((x : Bytes) → Contains set x ↔ Contains domains x) → set ≡ domain_set domains
+
+-- the test `is_within` of two lists of selectors is true exactly if each member of the first is one of the second
+abbrev pub SelectorsWithin : Type 0
+SelectorsWithin = (a b : List SelectorPair) → (is_within a b ≡ true) ↔ ((s : SelectorPair) → Within a s → Within b s)
 
 -- ---- authorised entries
 
@@ -76,6 +86,19 @@ AliasIsHeld = (own_domain : Bytes) (most : ℕ) (a : Agent) (b : Book) (e : Entr
 -- they don't depend on the agents of the book
 abbrev pub OthersDontMatter : Type 0
 OthersDontMatter = (server : Bytes) (a : Agent) (b : Book) (others : List Agent) → authorised server a (record b { agents = others }) ≡ authorised server a b
+
+-- the computed test: an entry with which a chain may begin ends one, however short
+abbrev pub ChainBegins : Type 0
+ChainBegins = (server : Bytes) (a : Agent) (es : List Entry) (n : ℕ) (e : Entry) → starts server a e ≡ true → ends_within server a es n e ≡ true
+
+-- an entry ends a chain of at most n + 2 entries exactly if a chain may begin with it, or if its parent is the identity of an
+-- entry of the list that ends a chain of at most n + 1
+abbrev pub ChainGoesOn : Type 0
+ChainGoesOn = (server : Bytes) (a : Agent) (es : List Entry) (n : ℕ) (e : Entry) → (ends_within server a es (suc n) e ≡ true) ↔ ((starts server a e ≡ true) ⊎ ((c : Entry) × Within es c × (e.parent ≡ c.identity) × (ends_within server a es n c ≡ true)))
+
+-- a longer chain than the list of entries reaches no other entry of it
+abbrev pub ChainIsShort : Type 0
+ChainIsShort = (server : Bytes) (a : Agent) (es : List Entry) (e : Entry) (n : ℕ) → Within es e → ends_within server a es n e ≡ true → ends_within server a es (length es) e ≡ true
 
 -- ---- operations, in the book of a trust domain whose rows are in order
 
@@ -188,6 +211,20 @@ WritesOnce = (own_domain : Bytes) (op : Op) (b : Book) → AscendingBook b → I
 -- an operation writes the rows that `rows_named` gives, in this order, and no other row
 abbrev pub WritesNamed : Type 0
 WritesNamed = (own_domain : Bytes) (op : Op) (b : Book) → IfOk (op_of own_domain op b) (λ d. map row_written d.writes ≡ rows_named op b)
+
+-- ---- lists of writes
+
+-- writing two lists joined is writing one after the other
+abbrev pub WritesJoined : Type 0
+WritesJoined = (first second : List RowWrite) (b : Book) → after (first ++ second) b ≡ after second (after first b)
+
+-- writes that find the rows that they name keep the rows in order
+abbrev pub WritesKeepOrder : Type 0
+WritesKeepOrder = (ws : List RowWrite) (b : Book) → AscendingBook b → FitAll ws b → AscendingBook (after ws b)
+
+-- each write of an operation finds the row that it names, on the book that the earlier ones left
+abbrev pub OpFits : Type 0
+OpFits = (own_domain : Bytes) (op : Op) (b : Book) → AscendingBook b → IfOk (op_of own_domain op b) (λ d. FitAll d.writes b)
 
 -- ---- the run of a batch
 
@@ -307,7 +344,29 @@ BundleFaults = (own_domain domain text : Bytes) → (bundle_fault own_domain dom
 abbrev pub OpFaults : Type 0
 OpFaults = (own_domain : Bytes) (op : Op) → IsProperOp op → (op_fault own_domain op ≡ None) ↔ FaultlessOp own_domain op
 
+-- ---- the verdict on a batch
+
+-- It is a refusal, a repeat, or that of the run on the book that the batch reads, in which its token isn't in use.
+abbrev pub VerdictCases : Type 0
+VerdictCases = (batch : Batch) (place : ℕ) (read : Option Book) → ((r : Refusal) × (verdict batch place read ≡ refuses r)) ⊎ ((n : ℕ) × (replies : List OpReply) × (verdict batch place read ≡ repeats n replies)) ⊎ ((b : Book) × (read ≡ Some b) × (kept_under batch.token b ≡ None) × (verdict batch place read ≡ verdict_run batch place b))
+
+-- the run of a batch of changes, if it isn't refused, adds the book after its writes, unless that passes a limit
+abbrev pub ChangesVerdict : Type 0
+ChangesVerdict = (batch : Batch) (n : ℕ) (b : Book) (t : RunEffect) → is_query batch.ops ≡ false → run batch.domain batch.ops b ≡ Ok t → verdict_run batch n b ≡ adds_within (limit_passed n (after (batch_writes batch (n + 1) t) b)) t.replies (after (batch_writes batch (n + 1) t) b)
+
+-- a batch of changes reads the last book
+abbrev pub ChangesReadLast : Type 0
+ChangesReadLast = (own_domain : Bytes) (batch : Batch) → IsMadeFor own_domain batch → is_query batch.ops ≡ false → past_place batch.ops ≡ None
+
 -- ---- histories
+
+-- a history has a first book
+abbrev pub HistoryBegins : Type 0
+HistoryBegins = (own_domain : Bytes) (books : List Book) → IsHistory own_domain books → 0 < length books
+
+-- a book that is added to a list is its last one
+abbrev pub AddedIsLast : Type 0
+AddedIsLast = (b : Book) (books : List Book) (added : Book) → last_or b (books ++ added ∷ []) ≡ added
 
 -- a committed batch adds one book, which is then the last one and whose number is the reply's place
 abbrev pub CommitAdds : Type 0
@@ -477,6 +536,14 @@ HistoryExtends = (own_domain : Bytes) (batch : Batch) (books : List Book) → Is
 
 -- ---- lawful books
 
+-- a lawful book is lawful for any higher bound on revisions and sequences
+abbrev pub LawfulWider : Type 0
+LawfulWider = (own_domain : Bytes) (m n : ℕ) (b : Book) → m ≤ n → Lawful own_domain m b → Lawful own_domain n b
+
+-- an operation without a fault leaves a lawful book lawful, and raises the bound by 1
+abbrev pub OpKeeps : Type 0
+OpKeeps = (own_domain : Bytes) (m : ℕ) (op : Op) (b : Book) → IsProperOp op → op_fault own_domain op ≡ None → Lawful own_domain m b → IfOk (op_of own_domain op b) (λ d. Lawful own_domain (m + 1) (after d.writes b))
+
 -- each book of a history is lawful, and in book n no revision or sequence is above 64 n
 abbrev pub LawfulHistory : Type 0
 LawfulHistory = (own_domain : Bytes) (books : List Book) → IsHistory own_domain books → (n : ℕ) (b : Book) → slice_get books n ≡ Some b → Lawful own_domain (64 * n) b
@@ -511,6 +578,14 @@ PageAsSaid = (q : PageQuery) (b : Book) → AscendingBook b → IsPage q b (list
 -- and these words determine what a page has
 abbrev pub OnePage : Type 0
 OnePage = (q : PageQuery) (b : Book) (es fs : List Entry) (m n : Option Bytes) → IsPage q b es m → IsPage q b fs n → (es ≡ fs) × (m ≡ n)
+
+-- filtering by the filter and the start of a page at once is filtering by the one and then by the other
+abbrev pub PageInTurn : Type 0
+PageInTurn = (q : PageQuery) (rows : List Entry) → filter (λ e. passes q.filter e && comes_after q.from e) rows ≡ filter (comes_after q.from) (filter (passes q.filter) rows)
+
+-- the page after these entries begins after the last one
+abbrev pub LastOfPage : Type 0
+LastOfPage = (front : List Entry) (e : Entry) → last_id (front ++ e ∷ []) ≡ Some e.id
 
 -- reading page after page from the start, with any size above 0, lists every entry that passes once, in order, and ends
 abbrev pub PagesListAll : Type 0

@@ -17,5 +17,6 @@ pub mod Rows
 pub mod Runs
 pub mod SameOps
 pub mod Tokens
+pub mod Visible
 pub mod Worked
 pub mod Writes

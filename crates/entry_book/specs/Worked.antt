@@ -18,6 +18,7 @@ use Rattle.entry_book.specs.declared.reply.Reply.{Reply}
 use Rattle.entry_book.specs.Rows.{Bytes, Entry, given_of}
 use Rattle.entry_book.specs.Book.{Book}
 use Rattle.entry_book.specs.Authorised.{authorised}
+use Rattle.entry_book.specs.Visible.{ShowsSame, ShowsSameBundles}
 use Rattle.entry_book.specs.Batches.{Batch}
 use Rattle.entry_book.specs.History.{first_books, replies_from}
 
@@ -105,6 +106,18 @@ other_agent = record { id = id_of (codes "/spire/agent/n2"); selectors = x1 ∷ 
 
 abbrev pub AliasOfAnother : Type 0
 AliasOfAnother = authorised server (agent (x1 ∷ [])) (record { entries = aliased; agents = agent (x1 ∷ []) ∷ other_agent ∷ []; bundles = []; tokens = [] }) ≡ []
+
+-- ---- two books that show an agent the same rows, and differ in others
+
+-- the book with the cycle alone, and the one with another entry and another agent
+abbrev pub cycle_book : Book
+cycle_book = book cycle plain_agent
+
+abbrev pub larger_book : Book
+larger_book = record { entries = cycle ++ stranger ∷ []; agents = plain_agent ∷ other_agent ∷ []; bundles = []; tokens = [] }
+
+abbrev pub LargerShowsSame : Type 0
+LargerShowsSame = ShowsSame server agent_id cycle_book larger_book × ShowsSameBundles server agent_id cycle_book larger_book
 
 -- ---- batches, run one after another
 

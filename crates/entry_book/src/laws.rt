@@ -1,24 +1,29 @@
 //! Which theorems hold for the book?
 //!
-//! Each function has an empty body. Its contract is a theorem about the definitions, stated in `specs/Laws.antt`; a caller
-//! may rely on the theorem after the call.
+//! Each function has an empty body. Its contract is a theorem about the definitions, stated in `specs/Laws.antt` or
+//! `specs/Visible.antt`; a caller may rely on the theorem after the call.
 
-ghost use Rattle.entry_book.specs.Laws.{AcceptedAsSaid, AgentFaults, AliasIsHeld, AllLawful, AllWithinLimits, AuthorisedEffect, AuthorisedInOrder, BatchFits, BatchKeeps, BundleFaults, ChangesCommit, ChildIsAuthorised, ChildrenEffect, CommitAdds, CountOfBooks, CreateEffect, DeleteEffect, DropAgentEffect, DropBundleEffect, EarlyRefused, EndsOfChains, EntryFaults, ExactlyOnce, FirstFault, FirstLimit, FullRefused, GoneRefused, HeldIsAuthorised, HistoryBounded, HistoryExtends, KeptCommitted, LawfulHistory, MatchesAsSaid, NoFault, NoOpsRefused, NoneIsPassed, OneList, OneMore, OneMoreCommits, OnePage, OpFaults, OpRefuses, OpsCompared, OthersDontMatter, OthersLeave, PageAsSaid, PageEffect, PagesListAll, PagesListOnce, PassesAsSaid, PastAnswered, PastPageRefused, PruneEffect, QueriesAnswered, QueriesNeverCommit, QueryWrites, RefusedAsSaid, RepeatAnswered, ReuseRefused, RunFits, RunExtends, RunKeeps, RunOfNone, RunReplies, RunStops, SetAgentEffect, SetBundleEffect, ShowAgentEffect, ShowBundleEffect, ShowEffect, TokenRefused, TokensWritten, TooManyRefused, TrustEffect, UpdateEffect, WithinIsContains, WritesNamed, WritesOnce};
+ghost use Rattle.entry_book.specs.Laws.{AcceptedAsSaid, AddedIsLast, AgentFaults, AliasIsHeld, AllLawful, AllWithinLimits, AuthorisedEffect, AuthorisedInOrder, BatchFits, BatchKeeps, BundleFaults, ChainBegins, ChainGoesOn, ChainIsShort, ChangesCommit, ChangesReadLast, ChangesVerdict, ChildIsAuthorised, ChildrenEffect, CommitAdds, CountOfBooks, CreateEffect, DeleteEffect, DropAgentEffect, DropBundleEffect, EarlyRefused, EndsOfChains, EntryFaults, ExactlyOnce, FirstFault, FirstLimit, FullRefused, GoneRefused, HeldIsAuthorised, HistoryBegins, HistoryBounded, HistoryExtends, KeptCommitted, LastOfPage, LawfulHistory, LawfulWider, MatchesAsSaid, NoFault, NoOpsRefused, NoneIsPassed, OneDomainSet, OneList, OneMore, OneMoreCommits, OnePage, OpFaults, OpFits, OpKeeps, OpRefuses, OpsCompared, OthersDontMatter, OthersLeave, PageAsSaid, PageEffect, PageInTurn, PagesListAll, PagesListOnce, PassesAsSaid, PastAnswered, PastPageRefused, PruneEffect, QueriesAnswered, QueriesNeverCommit, QueryWrites, RefusedAsSaid, RepeatAnswered, ReuseRefused, RunFits, RunExtends, RunKeeps, RunOfNone, RunReplies, RunStops, SelectorsWithin, SetAgentEffect, SetBundleEffect, ShowAgentEffect, ShowBundleEffect, ShowEffect, TokenRefused, TokensWritten, TooManyRefused, TrustEffect, UpdateEffect, VerdictCases, WithinIsContains, WritesJoined, WritesKeepOrder, WritesNamed, WritesOnce};
 ghost use Rattle.entry_book.specs.Rows.{agent_key, bundle_key, entry_key};
 ghost use Rattle.entry_book.specs.Tokens.{token_key};
-ghost use Rattle.entry_book.specs.Worked.{AliasHeld, AliasHeldWithMore, AliasNotHeld, AliasNotHeldWithNone, AliasOfAnother, CycleIsAuthorised, EarlierBooksRead, EmptyRefuses, FirstBatches, FreedInOneBatch, LaterBatchWaits, LifetimesKept, NothingKept, PrunesBefore, WorkedQueriesAddNoBook, RefusedTokenFree, SequencesCount, StaleDelete, TokenKeepsReplies};
+ghost use Rattle.entry_book.specs.Visible.{AuthorisedBySeen, AuthorisedStays, SameAuthorised, SameTrust, TrustStays};
+ghost use Rattle.entry_book.specs.Worked.{AliasHeld, AliasHeldWithMore, AliasNotHeld, AliasNotHeldWithNone, AliasOfAnother, CycleIsAuthorised, EarlierBooksRead, EmptyRefuses, FirstBatches, FreedInOneBatch, LargerShowsSame, LaterBatchWaits, LifetimesKept, NothingKept, PrunesBefore, WorkedQueriesAddNoBook, RefusedTokenFree, SequencesCount, StaleDelete, TokenKeepsReplies};
 
-/// `Within` and `Contains` agree on lists of texts; lists of rows in order with the same members are equal.
+/// `Within` and `Contains` agree on lists of texts; lists of rows in order with the same members are equal, and so are sets of
+/// domains; the test `is_within` compares the members of two lists of selectors.
 pub fn membership()
     ensures contains { WithinIsContains }
     ensures entries { OneList entry_key }
     ensures agents { OneList agent_key }
     ensures bundles { OneList bundle_key }
     ensures tokens { OneList token_key }
+    ensures domains { OneDomainSet }
+    ensures selectors { SelectorsWithin }
 {}
 
 /// The authorised entries are the book's entries in which some chain for the agent ends, each once, in the order of
-/// their ids.
+/// their ids. The test `ends_within`, by which they are computed, follows chains entry by entry, and needs no chain that is longer
+/// than the list of entries.
 pub fn authorised_entries()
     ensures ends { EndsOfChains }
     ensures order { AuthorisedInOrder }
@@ -26,6 +31,20 @@ pub fn authorised_entries()
     ensures child { ChildIsAuthorised }
     ensures alias { AliasIsHeld }
     ensures others { OthersDontMatter }
+    ensures begins { ChainBegins }
+    ensures goes_on { ChainGoesOn }
+    ensures short { ChainIsShort }
+{}
+
+/// What an agent is answered depends on the rows that it may see, and on nothing else: on its own row, on the entries that it holds,
+/// and on those below it and below its authorised entries; for `trust` also on the bundles that these name. So an answer stays as
+/// long as no batch changes, adds or removes one of these rows.
+pub fn agents_answers()
+    ensures listed { AuthorisedBySeen }
+    ensures authorised { SameAuthorised }
+    ensures trust { SameTrust }
+    ensures cached { AuthorisedStays }
+    ensures cached_trust { TrustStays }
 {}
 
 /// When each operation is refused, what it replies, and which rows the book has afterwards, in direct words; these words
@@ -52,6 +71,14 @@ pub fn effects()
     ensures named { WritesNamed }
 {}
 
+/// The book after a list of writes. Two lists joined are written one after the other. Writes that find the rows that they name
+/// keep the rows in order, and the writes of an operation find them.
+pub fn writes()
+    ensures joined { WritesJoined }
+    ensures order { WritesKeepOrder }
+    ensures op { OpFits }
+{}
+
 /// What a page lists, in direct words; and that reading page after page lists every entry that passes the filter once, in
 /// the order of ids, with any page size above 0.
 pub fn pages()
@@ -59,6 +86,8 @@ pub fn pages()
     ensures passes { PassesAsSaid }
     ensures lists { PageAsSaid }
     ensures one { OnePage }
+    ensures in_turn { PageInTurn }
+    ensures last { LastOfPage }
     ensures all { PagesListAll }
     ensures once { PagesListOnce }
 {}
@@ -88,6 +117,14 @@ pub fn faults()
     ensures op { OpFaults }
 {}
 
+/// How a batch's verdict arises: it is that of the run on the book that the batch reads, unless the batch is refused or repeated
+/// before. A batch of changes reads the last book, and adds the book after its writes if that passes no limit.
+pub fn verdicts()
+    ensures cases { VerdictCases }
+    ensures changes { ChangesVerdict }
+    ensures newest { ChangesReadLast }
+{}
+
 /// How the list of all books grows with the list of batches.
 pub fn histories()
     ensures adds { CommitAdds }
@@ -108,6 +145,8 @@ pub fn histories()
     ensures one_more_commits { OneMoreCommits }
     ensures count { CountOfBooks }
     ensures extends { HistoryExtends }
+    ensures begins { HistoryBegins }
+    ensures last { AddedIsLast }
 {}
 
 /// The outcome of batches with a token: of those with the same token, at most one is ever committed.
@@ -121,16 +160,18 @@ pub fn tokens()
 {}
 
 /// Every book of a history is lawful, and so is every book in a list that a plain book's state represents: an accepted
-/// batch keeps a book lawful.
+/// batch keeps a book lawful, and so does an accepted operation.
 pub fn lawful_books()
     ensures history { LawfulHistory }
     ensures holds_always { AllLawful }
     ensures batch { BatchKeeps }
     ensures fits { BatchFits }
+    ensures op { OpKeeps }
+    ensures wider { LawfulWider }
 {}
 
 /// The worked books of `specs/Worked.antt`: a cycle of parents terminates, and an agent holds an alias if it has all of
-/// its selectors, and only then.
+/// its selectors, and only then. A book with one more entry and one more agent shows an agent the same rows.
 pub fn worked_books()
     ensures cycle { CycleIsAuthorised }
     ensures held { AliasHeld }
@@ -138,6 +179,7 @@ pub fn worked_books()
     ensures not_held { AliasNotHeld }
     ensures not_held_with_none { AliasNotHeldWithNone }
     ensures of_another { AliasOfAnother }
+    ensures shows_same { LargerShowsSame }
 {}
 
 /// The worked batches of `specs/Worked.antt`, with their replies, one after another.

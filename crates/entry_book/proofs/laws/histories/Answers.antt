@@ -1,4 +1,4 @@
-use Rattle.entry_book.proofs.Histories.{commit_adds, count_of_books, history_bounded, history_extends, one_more, one_more_commits, others_leave, queries_only_ask}
+use Rattle.entry_book.proofs.Histories.{commit_adds, count_of_books, history_bounded, history_extends, history_some, last-snoc, one_more, one_more_commits, others_leave, queries_only_ask}
 use Rattle.entry_book.proofs.Verdicts.{changes_commit, early_refused, full_refused, gone_refused, op_refuses, past_answered, queries_answered}
 use Rattle.entry_book.proofs.WithinLimits.{all_within_limits, first_limit, none_is_passed}
 use Rattle.entry_book.proofs.laws.histories.Goals as goal
@@ -56,3 +56,9 @@ returns-clause-count c = count_of_books
 
 pub returns-clause-extends : goal.returns-clause-extends
 returns-clause-extends c = history_extends
+
+pub returns-clause-begins : goal.returns-clause-begins
+returns-clause-begins c = history_some
+
+pub returns-clause-last : goal.returns-clause-last
+returns-clause-last c = last-snoc

@@ -2,6 +2,8 @@ use Rattle.std.proofs.Common.{◌≡◌, ◌↔◌, ℕ, zero, suc, ◌<◌, Lis
 use Rattle.std.specs.List.{Contains}
 use Rattle.entry_book.specs.Rows.{Bytes, entry_key, agent_key, bundle_key}
 use Rattle.entry_book.specs.Order.{Within, Ascending}
+use Rattle.entry_book.proofs.Chains.{of_subset, subset_of}
+use Rattle.entry_book.proofs.DomainSets.{is_domain_set}
 use Rattle.entry_book.proofs.Sets.{same_sets}
 use Rattle.entry_book.specs.Tokens.{token_key}
 use Rattle.entry_book.proofs.laws.membership.Goals as goal
@@ -32,3 +34,9 @@ returns-clause-bundles c = one_list bundle_key
 
 pub returns-clause-tokens : goal.returns-clause-tokens
 returns-clause-tokens c = one_list token_key
+
+pub returns-clause-domains : goal.returns-clause-domains
+returns-clause-domains c = is_domain_set
+
+pub returns-clause-selectors : goal.returns-clause-selectors
+returns-clause-selectors c = λ a b. (subset_of a b, of_subset a b)
