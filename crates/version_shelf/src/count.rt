@@ -7,8 +7,8 @@ use crate::bound::Bound;
 use std::cmp::Ordering;
 use std::marker::Model;
 
-/// A counter of the work of calls: of comparisons of keys, or of rows and nodes put into new nodes. It never
-/// decreases; a contract sees the number.
+/// A counter of the work of calls: of comparisons of keys, of rows and nodes put into new nodes, or of copied nodes. It
+/// never decreases; a contract sees the number.
 #[derive(Drop)]
 pub struct Count {
     number: u64,

@@ -26,13 +26,14 @@
 //! | `clone` | none | none | none; increments the root's reference count |
 //! | `with`, `with_counted` | as `get` | none | the row, and new nodes with 1,024 parts in total |
 //! | `without`, `without_counted` | as `get` | none | new nodes with 1,024 parts in total; as `clone` if no row has the key |
-//! | `into_with` | as `get` | none | as `with`, without the parts of nodes that no other shelf has |
-//! | `into_without` | as `get` | none | as `without`, without those parts; the root if no row has the key |
+//! | `into_with`, `into_with_counted` | as `get` | none | as `with`, without the parts of nodes that no other shelf has |
+//! | `into_without`, `into_without_counted` | as `get` | none | as `without`, without those parts; the root if no row has the key |
 //!
 //! The contract of `find` states at most 32 comparisons, those of `with_counted` and `without_counted` at most 1,024 parts,
-//! each by a [`Count`]. All comparisons of keys are made in `count::compared` and `count::is_below`, which calls
-//! `Bound::is_above` once. Parts (rows and nodes) enter new nodes in `node::put`, `node::append` and
-//! `rebuilt::in_halves`, which count them.
+//! those of `into_with_counted` and `into_without_counted` at most 5 copied nodes, each by a [`Count`]. All comparisons of
+//! keys are made in `count::compared` and `count::is_below`, which calls `Bound::is_above` once. Parts (rows and nodes) enter
+//! new nodes in `node::put`, `node::append` and `rebuilt::in_halves`, which count them. Nodes that another shelf has are copied
+//! in `node::clones_of`, which counts them.
 //!
 //! Shelves share rows and nodes by reference counts. A row or a node taken over from an older shelf is the same object in
 //! memory. Putting it into a new node increments its count, and it is freed with the last shelf that contains it. Dropping a

@@ -51,25 +51,31 @@ impl<T> Node<T> {
     }
 
     /// Returns the parts in a list. If this is the only reference to the node, they are moved out of it. Otherwise the node is
-    /// unchanged, and each part is cloned. The error is out of memory, or that of a clone.
-    pub(crate) fn into_parts(self, alloc: Global) -> Result<Vec<T>, AllocError>
+    /// unchanged, each part is cloned, and the count of copied nodes grows by 1. The error is out of memory, or that of a clone.
+    pub(crate) fn into_parts(self, alloc: Global, copied: &mut Count) -> Result<Vec<T>, AllocError>
     where
         T: Clone,
         requires clones { ClonesEqual T.is_clone }
-        ensures { IfOk result (λ parts. parts.items ≡ self) }
+        requires room { copied.old + 1 < 2 ^ 64 }
+        ensures parts { IfOk result (λ parts. parts.items ≡ self) }
+        ensures counted { (copied.old ≤ copied.new) × (copied.new ≤ copied.old + 1) }
     {
         match Arc::try_unwrap(self.parts) {
             Ok(parts) => Ok(parts),
-            Err(shared) => clones_of(alloc, &shared),
+            Err(shared) => clones_of(alloc, &shared, copied),
         }
     }
 }
 
-/// Returns a list of clones of the parts, with room for one more. The error is out of memory, or that of a clone.
-fn clones_of<T: Clone>(alloc: Global, parts: &[T]) -> Result<Vec<T>, AllocError>
+/// Returns a list of clones of the parts, with room for one more, and adds 1 to the count of copied nodes. The error is out of
+/// memory, or that of a clone.
+fn clones_of<T: Clone>(alloc: Global, parts: &[T], copied: &mut Count) -> Result<Vec<T>, AllocError>
     requires clones { ClonesEqual T.is_clone }
-    ensures { IfOk result (λ clones. clones.items ≡ parts.now) }
+    requires room { copied.old + 1 < 2 ^ 64 }
+    ensures clones { IfOk result (λ clones. clones.items ≡ parts.now) }
+    ensures counted { copied.new ≡ copied.old + 1 }
 {
+    copied.raise(1);
     let mut clones = Vec::with_capacity(alloc, parts.len().saturating_add(1))?;
     append(&mut clones, parts, &mut Count::new())?;
     Ok(clones)

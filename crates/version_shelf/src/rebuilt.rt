@@ -10,7 +10,8 @@ use std::alloc::{AllocError, Global};
 
 /// Returns the nodes below, one or two nodes of these parts, and the nodes above. If the result has several nodes, each
 /// has at least `least` parts; no node has more than twice as many. If these parts are fewer than `least`, they are merged
-/// with those of a neighbour, if there is one. The error is out of memory, or a reference count at its maximum.
+/// with those of a neighbour, if there is one; otherwise no other node changes. The error is out of memory, or a reference count
+/// at its maximum.
 pub(crate) fn rebuilt<T: Clone>(
     alloc: Global,
     least: usize,
@@ -30,6 +31,8 @@ pub(crate) fn rebuilt<T: Clone>(
     requires room { count.old + length below.now + length above.now + 146 < 2 ^ 64 }
     ensures parts { IfOk result (λ nodes. flatten nodes.items ≡ flatten below.now ++ (parts.items ++ flatten above.now)) }
     ensures nodes { IfOk result (λ nodes. AreNodes least nodes.items) }
+    ensures unmerged { IfOk result (λ nodes. least ≤ length parts.items
+        → nodes.items ≡ below.now ++ (in_nodes least parts.items ++ above.now)) }
     ensures fewest { IfOk result (λ nodes. length below.now + length above.now ≤ length nodes.items) }
     ensures most { IfOk result (λ nodes. length nodes.items ≤ length below.now + length above.now + 2) }
     ensures counted { (count.old ≤ count.new) × (count.new ≤ count.old + length below.now + length above.now + 146) }

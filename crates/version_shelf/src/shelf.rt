@@ -202,17 +202,38 @@ impl<K: Ord + Clone, V: Clone> Shelf<K, V> {
         ensures count { IfOk result (λ new. length new + count_of K.cmp self key ≡ length self + 1) }
         ensures order { IfOk result (IsInOrder K.cmp) }
     {
+        self.into_with_counted(key, value, &mut Count::new())
+    }
+
+    /// Returns the shelf with this row, as `into_with` does and under the same conditions. Adds to the count the number of nodes
+    /// that it copies because another shelf has them, at most 5. The caller ensures that the count can grow by 5.
+    pub fn into_with_counted(
+        self,
+        key: K,
+        value: V,
+        copied: &mut Count,
+    ) -> Result<Shelf<K, V>, AllocError>
+        requires room { HasRoom self }
+        requires keys { ClonesEqual K.is_clone }
+        requires values { ClonesEqual V.is_clone }
+        requires count_room { copied.old + 5 < 2 ^ 64 }
+        ensures rows { IfOk result (λ new. new ≡ with_key K.cmp self key value) }
+        ensures map { IfOk result (λ new. ChangesAt K.cmp self new key (Some value)) }
+        ensures count { IfOk result (λ new. length new + count_of K.cmp self key ≡ length self + 1) }
+        ensures order { IfOk result (IsInOrder K.cmp) }
+        ensures counted { (copied.old ≤ copied.new) × (copied.new ≤ copied.old + 5) }
+    {
         let Shelf { alloc, len, inners } = self;
-        let inners = inners_in(alloc, inners)?;
+        let inners = inners_in(alloc, inners, copied)?;
         let path = path_to(inners.as_slice(), &key, &mut Count::new());
         let len = len_with(len, path.rows.value);
         let is_there = path.rows.value.is_some();
         let (at_inner, at_leaf) = (path.inners.below.len(), path.leaves.below.len());
         let at_row = path.rows.below.len();
-        let mut taken = take_path(alloc, inners, at_inner, at_leaf)?;
+        let mut taken = take_path(alloc, inners, at_inner, at_leaf, copied)?;
         let row = SharedRow::new(alloc, key, value)?;
         put_row_at(&mut taken.rows, at_row, is_there, row)?;
-        let inners = put_path_back(alloc, taken)?;
+        let inners = put_path_back(alloc, taken, copied)?;
         Shelf::of(alloc, inners, len)
     }
 
@@ -226,17 +247,37 @@ impl<K: Ord + Clone, V: Clone> Shelf<K, V> {
         ensures count { IfOk result (λ new. length new + count_of K.cmp self key.now ≡ length self) }
         ensures order { IfOk result (IsInOrder K.cmp) }
     {
+        self.into_without_counted(key, &mut Count::new())
+    }
+
+    /// Returns the shelf without the row that has the key, as `into_without` does and under the same conditions. Adds to the
+    /// count the number of nodes that it copies because another shelf has them, at most 5. The caller ensures that the count
+    /// can grow by 5.
+    pub fn into_without_counted(
+        self,
+        key: &K,
+        copied: &mut Count,
+    ) -> Result<Shelf<K, V>, AllocError>
+        requires keys { ClonesEqual K.is_clone }
+        requires values { ClonesEqual V.is_clone }
+        requires count_room { copied.old + 5 < 2 ^ 64 }
+        ensures rows { IfOk result (λ new. new ≡ without_key K.cmp self key.now) }
+        ensures map { IfOk result (λ new. ChangesAt K.cmp self new key.now None) }
+        ensures count { IfOk result (λ new. length new + count_of K.cmp self key.now ≡ length self) }
+        ensures order { IfOk result (IsInOrder K.cmp) }
+        ensures counted { (copied.old ≤ copied.new) × (copied.new ≤ copied.old + 5) }
+    {
         let Shelf { alloc, len, inners } = self;
-        let inners = inners_in(alloc, inners)?;
+        let inners = inners_in(alloc, inners, copied)?;
         let path = path_to(inners.as_slice(), key, &mut Count::new());
         if path.rows.value.is_none() {
             return Shelf::of(alloc, inners, len);
         }
         let (at_inner, at_leaf) = (path.inners.below.len(), path.leaves.below.len());
         let at_row = path.rows.below.len();
-        let mut taken = take_path(alloc, inners, at_inner, at_leaf)?;
+        let mut taken = take_path(alloc, inners, at_inner, at_leaf, copied)?;
         let _ = taken.rows.remove(at_row);
-        let inners = put_path_back(alloc, taken)?;
+        let inners = put_path_back(alloc, taken, copied)?;
         Shelf::of(alloc, inners, len - 1)
     }
 

@@ -6,6 +6,7 @@
 //! - `random_changes`: one shelf compared with a plain list, through random changes.
 //! - `equal_keys`: keys that differ but compare as equal.
 //! - `comparisons`: how many comparisons and copies of keys each call makes.
+//! - `copied_nodes`: which nodes a change of a consumed shelf copies.
 //! - `filled_shelves`: shelves of many nodes, filled and emptied in several orders.
 //! - `scripts`: scripts that make shelves and read them.
 //! - `keys`: keys and values for these tests.
@@ -19,6 +20,8 @@
 mod bounds;
 #[cfg(test)]
 mod comparisons;
+#[cfg(test)]
+mod copied_nodes;
 #[cfg(test)]
 mod counted_keys;
 #[cfg(test)]

@@ -4,14 +4,14 @@ use Rattle.version_shelf.specs.Nodes.{IsCutAt, IsPath, flatten}
 use Rattle.version_shelf.proofs.Changed.{changes_without, in_order_without, length_without, without_absent}
 use Rattle.version_shelf.proofs.InPlace.{removed_between}
 use Rattle.version_shelf.proofs.Shelves.{rows_without_key, if_same, is_some_copied, none_from, same_count}
-use Rattle.version_shelf.proofs.shelf.Shelf.into_without.Goals as goal
+use Rattle.version_shelf.proofs.shelf.Shelf.into_without_counted.Goals as goal
 
 -- if no row has the key, the rows are the same
 
 pub returns-then-is_none-clause-rows : goal.returns-then-is_none-clause-rows
 returns-then-is_none-clause-rows g c =
     let path = c.path_to-path.result in
-    let same = ap (λ l. flatten (flatten l)) (c.as_slice.ensures.value ∙ c.in_ok-inners.ensures) ∙ c.self.view_is in
+    let same = ap (λ l. flatten (flatten l)) (c.as_slice.ensures.value ∙ c.in_ok-inners.ensures.inners) ∙ c.self.view_is in
     let order = subst (IsInOrder g.K.Ord.cmp) c.self.view_is c.self.invariant.order in
     let found = c.path_to-path.ensures.value ∙ ap (λ l. get g.K.Ord.cmp l c.args.key.now) same in
     let none = none_from _ (sym (ap is_some found) ∙ sym (is_some_copied path.rows.value) ∙ c.if-is_none.ensures) in
@@ -21,7 +21,7 @@ returns-then-is_none-clause-rows g c =
 pub returns-then-is_none-clause-map : goal.returns-then-is_none-clause-map
 returns-then-is_none-clause-map g c =
     let path = c.path_to-path.result in
-    let same = ap (λ l. flatten (flatten l)) (c.as_slice.ensures.value ∙ c.in_ok-inners.ensures) ∙ c.self.view_is in
+    let same = ap (λ l. flatten (flatten l)) (c.as_slice.ensures.value ∙ c.in_ok-inners.ensures.inners) ∙ c.self.view_is in
     let order = subst (IsInOrder g.K.Ord.cmp) c.self.view_is c.self.invariant.order in
     let found = c.path_to-path.ensures.value ∙ ap (λ l. get g.K.Ord.cmp l c.args.key.now) same in
     let none = none_from _ (sym (ap is_some found) ∙ sym (is_some_copied path.rows.value) ∙ c.if-is_none.ensures) in
@@ -65,8 +65,8 @@ of-requires-2-clause-order g c =
     let cut = taken.2 ∙ one.1 in
     let rows = removed_between c.in_ok-taken.taken.rows.items c.remove.new.self.items path.rows.below.now one.0 path.rows.above.now _ cut refl c.remove.ensures.by_index.2 in
     let long = length-append path.rows.below.now path.rows.above.now in
-    let put = c.in_ok-inners-2.ensures c.in_ok-inners.inners.items path.inners.below.now path.inners.at.now path.inners.above.now path.leaves.below.now path.leaves.at.now path.leaves.above.now leads (sym c.in_ok-taken.ensures.at_inner) (sym c.in_ok-taken.ensures.at_leaf) taken.0 taken.1 (omega (arith, ap length rows, long, c.path_to-path.ensures.size, leads.cut_leaves.most)) (omega (arith, ap length rows, long, c.path_to-path.ensures.least)) in
-    let same = ap (λ l. flatten (flatten l)) (c.as_slice.ensures.value ∙ c.in_ok-inners.ensures) ∙ c.self.view_is in
+    let put = c.in_ok-inners-2.ensures.path c.in_ok-inners.inners.items path.inners.below.now path.inners.at.now path.inners.above.now path.leaves.below.now path.leaves.at.now path.leaves.above.now leads (sym c.in_ok-taken.ensures.at_inner) (sym c.in_ok-taken.ensures.at_leaf) taken.0 taken.1 (omega (arith, ap length rows, long, c.path_to-path.ensures.size, leads.cut_leaves.most)) (omega (arith, ap length rows, long, c.path_to-path.ensures.least)) in
+    let same = ap (λ l. flatten (flatten l)) (c.as_slice.ensures.value ∙ c.in_ok-inners.ensures.inners) ∙ c.self.view_is in
     let new = rows_without_key g.K.Ord.cmp c.args.key.now c.args.self _ _ _ _ _ _ _ _ put.flat rows c.path_to-path.ensures.below c.path_to-path.ensures.above same in
     let order = subst (IsInOrder g.K.Ord.cmp) c.self.view_is c.self.invariant.order in
     rw new (in_order_without g.met.K.Ord.total _ _ order)
@@ -80,8 +80,8 @@ of-requires-2-clause-rows g c =
     let cut = taken.2 ∙ one.1 in
     let rows = removed_between c.in_ok-taken.taken.rows.items c.remove.new.self.items path.rows.below.now one.0 path.rows.above.now _ cut refl c.remove.ensures.by_index.2 in
     let long = length-append path.rows.below.now path.rows.above.now in
-    let put = c.in_ok-inners-2.ensures c.in_ok-inners.inners.items path.inners.below.now path.inners.at.now path.inners.above.now path.leaves.below.now path.leaves.at.now path.leaves.above.now leads (sym c.in_ok-taken.ensures.at_inner) (sym c.in_ok-taken.ensures.at_leaf) taken.0 taken.1 (omega (arith, ap length rows, long, c.path_to-path.ensures.size, leads.cut_leaves.most)) (omega (arith, ap length rows, long, c.path_to-path.ensures.least)) in
-    let same = ap (λ l. flatten (flatten l)) (c.as_slice.ensures.value ∙ c.in_ok-inners.ensures) ∙ c.self.view_is in
+    let put = c.in_ok-inners-2.ensures.path c.in_ok-inners.inners.items path.inners.below.now path.inners.at.now path.inners.above.now path.leaves.below.now path.leaves.at.now path.leaves.above.now leads (sym c.in_ok-taken.ensures.at_inner) (sym c.in_ok-taken.ensures.at_leaf) taken.0 taken.1 (omega (arith, ap length rows, long, c.path_to-path.ensures.size, leads.cut_leaves.most)) (omega (arith, ap length rows, long, c.path_to-path.ensures.least)) in
+    let same = ap (λ l. flatten (flatten l)) (c.as_slice.ensures.value ∙ c.in_ok-inners.ensures.inners) ∙ c.self.view_is in
     let new = rows_without_key g.K.Ord.cmp c.args.key.now c.args.self _ _ _ _ _ _ _ _ put.flat rows c.path_to-path.ensures.below c.path_to-path.ensures.above same in
     let order = subst (IsInOrder g.K.Ord.cmp) c.self.view_is c.self.invariant.order in
     let found = c.path_to-path.ensures.value ∙ ap (λ l. get g.K.Ord.cmp l c.args.key.now) same in
@@ -98,7 +98,7 @@ of-requires-2-clause-leaves g c =
     let cut = taken.2 ∙ one.1 in
     let rows = removed_between c.in_ok-taken.taken.rows.items c.remove.new.self.items path.rows.below.now one.0 path.rows.above.now _ cut refl c.remove.ensures.by_index.2 in
     let long = length-append path.rows.below.now path.rows.above.now in
-    let put = c.in_ok-inners-2.ensures c.in_ok-inners.inners.items path.inners.below.now path.inners.at.now path.inners.above.now path.leaves.below.now path.leaves.at.now path.leaves.above.now leads (sym c.in_ok-taken.ensures.at_inner) (sym c.in_ok-taken.ensures.at_leaf) taken.0 taken.1 (omega (arith, ap length rows, long, c.path_to-path.ensures.size, leads.cut_leaves.most)) (omega (arith, ap length rows, long, c.path_to-path.ensures.least)) in
+    let put = c.in_ok-inners-2.ensures.path c.in_ok-inners.inners.items path.inners.below.now path.inners.at.now path.inners.above.now path.leaves.below.now path.leaves.at.now path.leaves.above.now leads (sym c.in_ok-taken.ensures.at_inner) (sym c.in_ok-taken.ensures.at_leaf) taken.0 taken.1 (omega (arith, ap length rows, long, c.path_to-path.ensures.size, leads.cut_leaves.most)) (omega (arith, ap length rows, long, c.path_to-path.ensures.least)) in
     put.are_leaves
 
 pub of-requires-2-clause-inners : goal.of-requires-2-clause-inners
@@ -110,7 +110,7 @@ of-requires-2-clause-inners g c =
     let cut = taken.2 ∙ one.1 in
     let rows = removed_between c.in_ok-taken.taken.rows.items c.remove.new.self.items path.rows.below.now one.0 path.rows.above.now _ cut refl c.remove.ensures.by_index.2 in
     let long = length-append path.rows.below.now path.rows.above.now in
-    let put = c.in_ok-inners-2.ensures c.in_ok-inners.inners.items path.inners.below.now path.inners.at.now path.inners.above.now path.leaves.below.now path.leaves.at.now path.leaves.above.now leads (sym c.in_ok-taken.ensures.at_inner) (sym c.in_ok-taken.ensures.at_leaf) taken.0 taken.1 (omega (arith, ap length rows, long, c.path_to-path.ensures.size, leads.cut_leaves.most)) (omega (arith, ap length rows, long, c.path_to-path.ensures.least)) in
+    let put = c.in_ok-inners-2.ensures.path c.in_ok-inners.inners.items path.inners.below.now path.inners.at.now path.inners.above.now path.leaves.below.now path.leaves.at.now path.leaves.above.now leads (sym c.in_ok-taken.ensures.at_inner) (sym c.in_ok-taken.ensures.at_leaf) taken.0 taken.1 (omega (arith, ap length rows, long, c.path_to-path.ensures.size, leads.cut_leaves.most)) (omega (arith, ap length rows, long, c.path_to-path.ensures.least)) in
     put.are_inners
 
 pub returns-clause-rows : goal.returns-clause-rows
@@ -122,8 +122,8 @@ returns-clause-rows g c =
     let cut = taken.2 ∙ one.1 in
     let rows = removed_between c.in_ok-taken.taken.rows.items c.remove.new.self.items path.rows.below.now one.0 path.rows.above.now _ cut refl c.remove.ensures.by_index.2 in
     let long = length-append path.rows.below.now path.rows.above.now in
-    let put = c.in_ok-inners-2.ensures c.in_ok-inners.inners.items path.inners.below.now path.inners.at.now path.inners.above.now path.leaves.below.now path.leaves.at.now path.leaves.above.now leads (sym c.in_ok-taken.ensures.at_inner) (sym c.in_ok-taken.ensures.at_leaf) taken.0 taken.1 (omega (arith, ap length rows, long, c.path_to-path.ensures.size, leads.cut_leaves.most)) (omega (arith, ap length rows, long, c.path_to-path.ensures.least)) in
-    let same = ap (λ l. flatten (flatten l)) (c.as_slice.ensures.value ∙ c.in_ok-inners.ensures) ∙ c.self.view_is in
+    let put = c.in_ok-inners-2.ensures.path c.in_ok-inners.inners.items path.inners.below.now path.inners.at.now path.inners.above.now path.leaves.below.now path.leaves.at.now path.leaves.above.now leads (sym c.in_ok-taken.ensures.at_inner) (sym c.in_ok-taken.ensures.at_leaf) taken.0 taken.1 (omega (arith, ap length rows, long, c.path_to-path.ensures.size, leads.cut_leaves.most)) (omega (arith, ap length rows, long, c.path_to-path.ensures.least)) in
+    let same = ap (λ l. flatten (flatten l)) (c.as_slice.ensures.value ∙ c.in_ok-inners.ensures.inners) ∙ c.self.view_is in
     let new = rows_without_key g.K.Ord.cmp c.args.key.now c.args.self _ _ _ _ _ _ _ _ put.flat rows c.path_to-path.ensures.below c.path_to-path.ensures.above same in
     if_same (flatten (flatten c.in_ok-inners-2.inners.items)) (λ new. new ≡ without_key g.K.Ord.cmp c.args.self c.args.key.now) new c.of-2.result c.of-2.ensures
 
@@ -136,8 +136,8 @@ returns-clause-map g c =
     let cut = taken.2 ∙ one.1 in
     let rows = removed_between c.in_ok-taken.taken.rows.items c.remove.new.self.items path.rows.below.now one.0 path.rows.above.now _ cut refl c.remove.ensures.by_index.2 in
     let long = length-append path.rows.below.now path.rows.above.now in
-    let put = c.in_ok-inners-2.ensures c.in_ok-inners.inners.items path.inners.below.now path.inners.at.now path.inners.above.now path.leaves.below.now path.leaves.at.now path.leaves.above.now leads (sym c.in_ok-taken.ensures.at_inner) (sym c.in_ok-taken.ensures.at_leaf) taken.0 taken.1 (omega (arith, ap length rows, long, c.path_to-path.ensures.size, leads.cut_leaves.most)) (omega (arith, ap length rows, long, c.path_to-path.ensures.least)) in
-    let same = ap (λ l. flatten (flatten l)) (c.as_slice.ensures.value ∙ c.in_ok-inners.ensures) ∙ c.self.view_is in
+    let put = c.in_ok-inners-2.ensures.path c.in_ok-inners.inners.items path.inners.below.now path.inners.at.now path.inners.above.now path.leaves.below.now path.leaves.at.now path.leaves.above.now leads (sym c.in_ok-taken.ensures.at_inner) (sym c.in_ok-taken.ensures.at_leaf) taken.0 taken.1 (omega (arith, ap length rows, long, c.path_to-path.ensures.size, leads.cut_leaves.most)) (omega (arith, ap length rows, long, c.path_to-path.ensures.least)) in
+    let same = ap (λ l. flatten (flatten l)) (c.as_slice.ensures.value ∙ c.in_ok-inners.ensures.inners) ∙ c.self.view_is in
     let new = rows_without_key g.K.Ord.cmp c.args.key.now c.args.self _ _ _ _ _ _ _ _ put.flat rows c.path_to-path.ensures.below c.path_to-path.ensures.above same in
     let order = subst (IsInOrder g.K.Ord.cmp) c.self.view_is c.self.invariant.order in
     if_same (flatten (flatten c.in_ok-inners-2.inners.items)) (λ new. ChangesAt g.K.Ord.cmp c.args.self new c.args.key.now None) (rw new (changes_without g.met.K.Ord.total _ _ order)) c.of-2.result c.of-2.ensures
@@ -151,8 +151,8 @@ returns-clause-count g c =
     let cut = taken.2 ∙ one.1 in
     let rows = removed_between c.in_ok-taken.taken.rows.items c.remove.new.self.items path.rows.below.now one.0 path.rows.above.now _ cut refl c.remove.ensures.by_index.2 in
     let long = length-append path.rows.below.now path.rows.above.now in
-    let put = c.in_ok-inners-2.ensures c.in_ok-inners.inners.items path.inners.below.now path.inners.at.now path.inners.above.now path.leaves.below.now path.leaves.at.now path.leaves.above.now leads (sym c.in_ok-taken.ensures.at_inner) (sym c.in_ok-taken.ensures.at_leaf) taken.0 taken.1 (omega (arith, ap length rows, long, c.path_to-path.ensures.size, leads.cut_leaves.most)) (omega (arith, ap length rows, long, c.path_to-path.ensures.least)) in
-    let same = ap (λ l. flatten (flatten l)) (c.as_slice.ensures.value ∙ c.in_ok-inners.ensures) ∙ c.self.view_is in
+    let put = c.in_ok-inners-2.ensures.path c.in_ok-inners.inners.items path.inners.below.now path.inners.at.now path.inners.above.now path.leaves.below.now path.leaves.at.now path.leaves.above.now leads (sym c.in_ok-taken.ensures.at_inner) (sym c.in_ok-taken.ensures.at_leaf) taken.0 taken.1 (omega (arith, ap length rows, long, c.path_to-path.ensures.size, leads.cut_leaves.most)) (omega (arith, ap length rows, long, c.path_to-path.ensures.least)) in
+    let same = ap (λ l. flatten (flatten l)) (c.as_slice.ensures.value ∙ c.in_ok-inners.ensures.inners) ∙ c.self.view_is in
     let new = rows_without_key g.K.Ord.cmp c.args.key.now c.args.self _ _ _ _ _ _ _ _ put.flat rows c.path_to-path.ensures.below c.path_to-path.ensures.above same in
     let order = subst (IsInOrder g.K.Ord.cmp) c.self.view_is c.self.invariant.order in
     if_same (flatten (flatten c.in_ok-inners-2.inners.items)) (λ new. length new + count_of g.K.Ord.cmp c.args.self c.args.key.now ≡ length c.args.self) (rw new (length_without g.met.K.Ord.total _ _ order)) c.of-2.result c.of-2.ensures
