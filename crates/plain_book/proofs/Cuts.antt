@@ -219,6 +219,10 @@ module _ {X : Type 0} where
       ∙ (append_assoc (joined out) front back
       ∙ ap (λ l. joined out ++ l) (ap (λ l. l ++ back) f ∙ (ap (λ l. take n rows ++ l) b ∙ take-append-drop n rows))))
 
+  -- two blocks appended one after the other
+  pub two_blocks : (n : ℕ) (out middle new : List (List X)) (front back rows : List X) → front ≡ take n rows → back ≡ drop n rows → middle ≡ out ++ front ∷ [] → new ≡ middle ++ back ∷ [] → new ≡ out ++ take n rows ∷ drop n rows ∷ []
+  two_blocks n out middle new front back rows f b m e = e ∙ (ap (λ l. l ++ back ∷ []) m ∙ (append_assoc out (front ∷ []) (back ∷ []) ∙ (λ i. out ++ f i ∷ b i ∷ [])))
+
   pub mended_is : (none before first second third behind : List (List X)) (rows : List X) → none ≡ [] → first ≡ none ++ before → joined second ≡ joined first ++ rows → third ≡ second ++ behind → joined third ≡ joined before ++ (rows ++ joined behind)
   mended_is none before first second third behind rows n f s t =
       ap joined t

@@ -12,8 +12,9 @@ use Rattle.entry_book.specs.Batches.{Batch, IsMadeFor, is_query, past_place}
 use Rattle.entry_book.specs.History.{Verdict, refuses, answers, adds, repeats, adds_within, batch_writes, book_for, verdict_when, verdict, verdict_of, reply_with, reply_to, books_with, books_after, kept_for, place_of, IsHistory, PlainState, reply_on, state_with, state_after, RepresentsBooks}
 use Rattle.entry_book.specs.Lawful.{Lawful}
 use Rattle.plain_book.specs.Keeps.{IsSound}
-use Rattle.entry_book.proofs.Histories.{batch_keeps, history_extends, place_within}
+use Rattle.entry_book.proofs.Histories.{batch_keeps, history_extends}
 use Rattle.entry_book.proofs.OfVerdict.{of_verdict}
+use Rattle.entry_book.proofs.WithinLimits.{none_is_passed}
 use Rattle.plain_book.proofs.KeptBooks.{kept_lawful, kept_more, place_is, same_book}
 
 -- ---- an added book is lawful, and the place before it is below 2^48
@@ -29,7 +30,7 @@ IsNext own_domain n c = Lawful own_domain (64 * (n + 1)) c × (n < 2 ^ 48)
 
 next_within : (own_domain : Bytes) (n : ℕ) (c : Book) (replies : List OpReply) (o : Option Limit) → limit_passed n c ≡ o → Lawful own_domain (64 * (n + 1)) c → IfAdds (IsNext own_domain n) (adds_within o replies c)
 next_within own_domain n c replies (Some limit) e h = tt
-next_within own_domain n c replies None e h = (h, place_within n c e)
+next_within own_domain n c replies None e h = (h, ((none_is_passed n c).0 e).0)
 
 next_when : (own_domain : Bytes) (query : Bool) (batch : Batch) (n : ℕ) (b : Book) (r : RunResult) → IfOk r (λ t. Lawful own_domain (64 * (n + 1)) (after (batch_writes batch (n + 1) t) b)) → IfAdds (IsNext own_domain n) (verdict_when query batch n b r)
 next_when own_domain query batch n b (Err s) h = tt

@@ -1,5 +1,5 @@
 -- The list of all parents, and the effect of a change of one entry on it.
-use Rattle.std.proofs.Common.{◌≡◌, Bool, true, false, cond, List, [], ◌∷◌, Some, None, refl, sym, ap, subst, ◌∙◌, ⊎_elim}
+use Rattle.std.proofs.Common.{◌≡◌, ◌<◌, Bool, true, false, cond, List, [], ◌∷◌, length, Some, None, refl, sym, ap, subst, ◌∙◌, ⊎_elim}
 use Rattle.std.specs.Prelude.{filter, bytes_eq}
 use Rattle.std.proofs.lemmas.Bool.{and_parts, both_ways, cases_Bool}
 use Rattle.plain_book.specs.declared.siblings.Siblings.{Siblings}
@@ -45,13 +45,14 @@ group_among p i es = filter_wider (λ e. bytes_eq e.parent p) (in_group p i) (λ
 
 -- ---- a change at one parent
 
-put_siblings : (all : List Siblings) (s : Siblings) → Ascending parent_key all → ChangesAt s.parent s.entries all (with_row parent_key s.parent (Some s) all)
-put_siblings all s a =
+put_siblings : (all : List Siblings) (s : Siblings) → Ascending parent_key all → 0 < length s.entries → ChangesAt s.parent s.entries all (with_row parent_key s.parent (Some s) all)
+put_siblings all s a some =
     let order = ascending-with_row parent_key s.parent (Some s) all a refl in
     record {
       order = order;
       here = ap (λ l. entries_of (first l)) (row_alone parent_key s.parent (with_row parent_key s.parent (Some s) all) s order (new_with_row parent_key s.parent s all) refl);
       others = λ p n. ap (λ l. entries_of (first l)) (rows_elsewhere parent_key s.parent p (Some s) all (λ e. n (sym e)) refl a);
+      filled = λ old t w. ⊎_elim (λ v. ⊎_elim (λ e. subst (λ t. 0 < length t.entries) e some) (λ n. absurd n) v) (λ r. old t r.0) (from_with_row parent_key s.parent (Some s) all t w);
     }
 
 no_siblings : (all : List Siblings) (k : Bytes) → Ascending parent_key all → ChangesAt k [] all (with_row parent_key k None all)
@@ -59,10 +60,11 @@ no_siblings all k a = record {
   order = ascending-with_row parent_key k None all a tt;
   here = ap (λ l. entries_of (first l)) (none_within (λ s. bytes_eq s.parent k) (with_row parent_key k None all) (λ s w t. ⊎_elim (λ v. absurd v) (λ r. r.1 (text_is s.parent k t)) (from_with_row parent_key k None all s w)));
   others = λ p n. ap (λ l. entries_of (first l)) (rows_elsewhere parent_key k p None all (λ e. n (sym e)) tt a);
+  filled = λ old t w. ⊎_elim (λ n. absurd n) (λ r. old t r.0) (from_with_row parent_key k None all t w);
 }
 
-pub siblings_put : (all new : List Siblings) (s : Siblings) (p : Bytes) (es : List Entry) → Ascending parent_key all → s.parent ≡ p → s.entries ≡ es → new ≡ with_row parent_key s.parent (Some s) all → ChangesAt p es all new
-siblings_put all new s p es a q r e = subst (λ l. ChangesAt p es all l) (sym e) (subst (λ l. ChangesAt p l all (with_row parent_key s.parent (Some s) all)) r (subst (λ k. ChangesAt k s.entries all (with_row parent_key s.parent (Some s) all)) q (put_siblings all s a)))
+pub siblings_put : (all new : List Siblings) (s : Siblings) (p : Bytes) (es : List Entry) → Ascending parent_key all → s.parent ≡ p → s.entries ≡ es → 0 < length es → new ≡ with_row parent_key s.parent (Some s) all → ChangesAt p es all new
+siblings_put all new s p es a q r some e = subst (λ l. ChangesAt p es all l) (sym e) (subst (λ l. ChangesAt p l all (with_row parent_key s.parent (Some s) all)) r (subst (λ k. ChangesAt k s.entries all (with_row parent_key s.parent (Some s) all)) q (put_siblings all s a (subst (λ l. 0 < length l) (sym r) some))))
 
 pub siblings_gone : (all new : List Siblings) (k p : Bytes) (es : List Entry) → Ascending parent_key all → k ≡ p → es ≡ [] → new ≡ with_row parent_key k None all → ChangesAt p es all new
 siblings_gone all new k p es a q r e = subst (λ l. ChangesAt p es all l) (sym e) (subst (λ l. ChangesAt p l all (with_row parent_key k None all)) (sym r) (subst (λ t. ChangesAt t [] all (with_row parent_key k None all)) q (no_siblings all k a)))
@@ -74,6 +76,7 @@ siblings_same all new p id a n e = subst (λ l. ChangesAt p (with_row entry_key 
   order = a;
   here = n ∙ sym (ap (with_row entry_key id None) n);
   others = λ q d. refl;
+  filled = λ old. old;
 })
 
 -- ---- the entry of an id is removed, or put
@@ -92,6 +95,7 @@ removed es all new old k a b w q c = subst (λ t. IsByParent (with_row entry_key
       (λ f. let apart : p ≡ old.parent → ⊥ = λ e. both_ways (bytes_eq p old.parent) f (text_same p old.parent e) in
       c.others p apart ∙ (b.each p ∙ (elsewhere old.id p es a (λ x v i j. apart (sym j ∙ ap (λ e. e.parent) (same_key entry_key es a x old v w i))) ∙ sym (filter-with_row entry_key (λ x. bytes_eq x.parent p) old.id None es))))
       (cases_Bool (bytes_eq p old.parent));
+  filled = c.filled b.filled;
 })
 
 pub added : (es : List Entry) (all new : List Siblings) (e : Entry) → Ascending entry_key es → IsByParent es all → ((x : Entry) → Within es x → x.id ≡ e.id → ⊥) → ChangesAt e.parent (with_row entry_key e.id (Some e) (siblings_at e.parent all)) all new → IsByParent (with_row entry_key e.id (Some e) es) new
@@ -106,6 +110,7 @@ added es all new e a b n c = record {
       let dropped : kept (λ x. bytes_eq x.parent p) (Some e) ≡ None = rw fails refl in
       c.others p apart ∙ (b.each p ∙ (elsewhere e.id p es a (λ x v i j. n x v i) ∙ sym (filter-with_row entry_key (λ x. bytes_eq x.parent p) e.id (Some e) es ∙ ap (λ o. with_row entry_key e.id o (children p es)) dropped))))
       (cases_Bool (bytes_eq p e.parent));
+  filled = c.filled b.filled;
 }
 
 -- removing the row of a key before putting another makes no difference

@@ -18,7 +18,7 @@ use Rattle.entry_book.specs.Limits.{limit_passed}
 use Rattle.entry_book.specs.History.{adds_within, answers, token_writes, verdict_when}
 use Rattle.plain_book.specs.Performed.{performed, ran, resumed, verdict_accepted}
 use Rattle.entry_book.proofs.Changed.{after-append}
-use Rattle.entry_book.proofs.Faults.{no_fault}
+use Rattle.entry_book.proofs.Faults.{not_refused}
 use Rattle.entry_book.proofs.Keeps.{op_keeps}
 
 -- ---- the operations of a batch on a lawful book
@@ -42,7 +42,7 @@ accepted_is own_domain m (Err r) reply b c h e = cc
 pub keeps_at : (batch : Batch) (m n : ℕ) (op : Op) (reply : OpReply) (b c : Book) → IsMadeFor batch.domain batch → Lawful batch.domain (m + n) b → n < length batch.ops → op ≡ get_or batch.ops n op → Ok (reply, c) ≡ performed (op_of batch.domain op b) b → Lawful batch.domain (m + (n + 1)) c
 keeps_at batch m n op reply b c made l k e h =
     let proper = all_at IsProperOp batch.ops n op made.proper k e in
-    let none : AreFaultless batch.domain batch.ops = no_fault batch.domain batch.ops batch.token made.no_fault in
+    let none : AreFaultless batch.domain batch.ops = ((not_refused batch.domain batch.ops batch.token).0 made.no_fault).0 in
     let faultless = all_at (λ op. op_fault batch.domain op ≡ None) batch.ops n op none.none k e in
     let q : m + n + 1 ≡ m + (n + 1) = omega arith in
     subst (λ t. Lawful batch.domain t c) q (accepted_is batch.domain (m + n + 1) (op_of batch.domain op b) reply b c (op_keeps batch.domain (m + n) op b proper faultless l) h)

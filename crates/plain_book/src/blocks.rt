@@ -1,6 +1,6 @@
 //! Where in blocks of rows does a key belong, and how is the block of a key replaced?
 
-ghost use Rattle.std.specs.Prelude.{◌≡◌, ◌≤◌, ◌<◌, ◌++◌, ◌∷◌, [], OnOk, IfOk, length};
+ghost use Rattle.std.specs.Prelude.{◌≡◌, ◌≤◌, ◌<◌, ◌++◌, ◌∷◌, [], OnOk, IfOk, drop, length, take};
 ghost use Rattle.std.specs.List.{AllByRecursion};
 ghost use Rattle.entry_book.specs.Order.{Ascending, is_before};
 ghost use Rattle.plain_book.specs.Blocks.{IsBlock, IsBlockRank, IsCut, begins_behind, joined};
@@ -103,7 +103,7 @@ fn push_block<T: Drop>(
     Ok(())
 }
 
-/// Appends the rows as one block, or as two halves if there are more than 256; appends nothing if there are none.
+/// Appends the rows as one block, or as halves of 128 and 129 if there are 257; appends nothing if there are none.
 fn push_rows<T: Drop>(
     alloc: Global,
     rows: Vec<T>,
@@ -113,6 +113,9 @@ fn push_rows<T: Drop>(
     requires filled { AllByRecursion IsBlock out.old.items }
     ensures rows { OnOk result (joined out.new.items ≡ joined out.old.items ++ rows.items) }
     ensures filled { OnOk result (AllByRecursion IsBlock out.new.items) }
+    ensures one { OnOk result (0 < length rows.items → length rows.items ≤ 256 → out.new.items ≡ out.old.items ++ rows.items ∷ []) }
+    ensures halves { OnOk result (256 < length rows.items
+        → out.new.items ≡ out.old.items ++ take 128 rows.items ∷ drop 128 rows.items ∷ []) }
 {
     if rows.is_empty() {
         return Ok(());

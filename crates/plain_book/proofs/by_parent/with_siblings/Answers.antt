@@ -1,4 +1,4 @@
-use Rattle.std.proofs.Common.{sym, ◌∙◌}
+use Rattle.std.proofs.Common.{sym, ◌∙◌, arith}
 use Rattle.std.proofs.lemmas.List.{nil_from_length}
 use Rattle.std.proofs.lemmas.Result.{IfOk-weaker}
 use Rattle.plain_book.proofs.Parents.{siblings_gone, siblings_put}
@@ -12,4 +12,4 @@ returns-then-len-eq0 c =
 pub returns : goal.returns
 returns c =
     let parent = rw c.in_ok-entries.ensures.1 at c.clone.ensures.cases in
-    IfOk-weaker c.with.result _ _ (λ new h. siblings_put c.args.all.now new (record { parent = c.in_ok-entries.parent; entries = c.in_ok-entries.entries }) c.args.parent.now c.args.entries c.requires.order parent c.in_ok-entries.ensures.0 h) c.with.ensures.rows
+    IfOk-weaker c.with.result _ _ (λ new h. siblings_put c.args.all.now new (record { parent = c.in_ok-entries.parent; entries = c.in_ok-entries.entries }) c.args.parent.now c.args.entries c.requires.order parent c.in_ok-entries.ensures.0 (omega (arith, c.len.ensures, c.if-len-eq0.false)) h) c.with.ensures.rows
