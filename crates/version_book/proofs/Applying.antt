@@ -1,6 +1,7 @@
 -- The writes of a run meet the conditions for applying them to a version.
 use Rattle.std.proofs.Common.{◌+◌, ◌*◌, sym, ap, subst, ◌∙◌, refl, IfOk}
 use Rattle.entry_book.proofs.Histories.{batch_keeps}
+use Rattle.entry_book.proofs.TokenRows.{batch_fits_book}
 use Rattle.entry_book.specs.Book.{Book}
 use Rattle.entry_book.specs.Writes.{FitAll, after}
 use Rattle.entry_book.specs.Runs.{run}
@@ -8,7 +9,6 @@ use Rattle.entry_book.specs.History.{batch_writes}
 use Rattle.entry_book.specs.Lawful.{Lawful}
 use Rattle.version_book.specs.CommittedRows.{book_of}
 use Rattle.version_book.specs.Laws.{RunMayApply}
-use Rattle.version_book.proofs.Histories.{all_fit}
 use Rattle.version_book.proofs.Rooms.{room_in_run}
 
 pub run_may_apply : RunMayApply
@@ -17,7 +17,7 @@ run_may_apply batch s t m l w k e =
     let n = s.number + 1 in
     record {
       next = refl;
-      fits = subst (λ r. IfOk r (λ t. FitAll (batch_writes batch n t) b)) e (all_fit batch n b l.ascending k);
+      fits = subst (λ r. IfOk r (λ t. FitAll (batch_writes batch n t) b)) e (batch_fits_book batch n b l.ascending k);
       lawful = subst (λ r. IfOk r (λ t. Lawful s.domain (64 * n) (after (batch_writes batch n t) b))) e (batch_keeps s.domain batch s.number b m l);
       room = room_in_run s.domain (64 * s.number) batch n b t m l w (ap (λ own_domain. run own_domain batch.ops b) (sym m.domain_is) ∙ e);
     }

@@ -8,8 +8,7 @@ use Rattle.entry_book.proofs.Fits.{in_order}
 use Rattle.entry_book.proofs.Histories.{last-snoc, verdict_changes}
 use Rattle.entry_book.proofs.OfVerdict.{of_verdict}
 use Rattle.entry_book.proofs.PastPages.{changes_newest}
-use Rattle.entry_book.proofs.Runs.{run_fits}
-use Rattle.entry_book.proofs.TokenRows.{batch_fits}
+use Rattle.entry_book.proofs.TokenRows.{batch_fits_book}
 use Rattle.entry_book.proofs.WithinLimits.{none_is_passed}
 use Rattle.entry_book.specs.declared.limit.Limit.{Limit}
 use Rattle.entry_book.specs.declared.reply.OpReply.{OpReply}
@@ -29,7 +28,7 @@ use Rattle.version_book.specs.declared.committed_row.CommittedRow.{CommittedRow}
 use Rattle.version_book.specs.Marks.{hits, passes_if_some, names_entry, names_agent, names_bundle, names_token}
 use Rattle.version_book.specs.CommittedRows.{CommittedRows, VersionState, row_of, numbered, of_row, book_of, marked, next_state, rows_after, rows_after_write}
 use Rattle.version_book.specs.History.{CommitsOn, Follows, any_hits, version_with, writes_at, writes_in}
-use Rattle.version_book.specs.Laws.{BatchCommits, FollowsJoined, BooksFollow, DomainIsUnchanged, LimitsFollow, UnhitHistory}
+use Rattle.version_book.specs.Laws.{BatchCommits, CommitsReadLast, FollowsJoined, BooksFollow, DomainIsUnchanged, LimitsFollow, UnhitHistory, VerdictOnLast}
 use Rattle.version_book.proofs.Agreement.{old_fails, unhit_rows}
 use Rattle.version_book.proofs.NamedRows.{book_after, book_after_write}
 use Rattle.version_book.proofs.Numbers.{ascending_rows}
@@ -78,17 +77,9 @@ of_writes P query batch n b c replies (Err s) e h = cc
 of_batch : (P : List RowWrite → Type 0) (batch : Batch) (s : VersionState) → CommitsOn batch s → IfOk (run batch.domain batch.ops (book_of s.rows)) (λ t. P (batch_writes batch (s.number + 1) t)) → P (writes_at batch s)
 of_batch P batch s c h = of_writes P (is_query batch.ops) batch s.number (book_of s.rows) (book_of (version_with batch s).rows) c.replies (run batch.domain batch.ops (book_of s.rows)) (ran_on batch s c).1 h
 
-only_fit : (b : Book) (r : RunResult) → IfOk r (λ t. FitAll t.writes b × AscendingBook (after t.writes b)) → IfOk r (λ t. FitAll t.writes b)
-only_fit b (Ok t) h = h.0
-only_fit b (Err s) h = tt
-
--- the writes of a run find their old rows, and so does that of a token that isn't in use
-pub all_fit : (batch : Batch) (n : ℕ) (b : Book) → AscendingBook b → kept_under batch.token b ≡ None → IfOk (run batch.domain batch.ops b) (λ t. FitAll (batch_writes batch n t) b)
-all_fit batch n b a k = batch_fits batch n b k (only_fit b (run batch.domain batch.ops b) (run_fits batch.domain batch.ops b a))
-
 -- the writes of a batch that commits find their old rows
 pub writes_fit : (batch : Batch) (s : VersionState) → AscendingBook (book_of s.rows) → CommitsOn batch s → FitAll (writes_at batch s) (book_of s.rows)
-writes_fit batch s a c = of_batch (λ ws. FitAll ws (book_of s.rows)) batch s c (all_fit batch (s.number + 1) (book_of s.rows) a (ran_on batch s c).0)
+writes_fit batch s a c = of_batch (λ ws. FitAll ws (book_of s.rows)) batch s c (batch_fits_book batch (s.number + 1) (book_of s.rows) a (ran_on batch s c).0)
 
 pub ascending_next : (batch : Batch) (s : VersionState) → AscendingBook (book_of s.rows) → CommitsOn batch s → AscendingBook (book_of (version_with batch s).rows)
 ascending_next batch s a c = subst AscendingBook (sym (book_after (s.number + 1) (writes_at batch s) s.rows)) (in_order (writes_at batch s) (book_of s.rows) a (writes_fit batch s a c))
@@ -100,11 +91,11 @@ of_changes true batch n b c replies (Ok t) e = cc
 of_changes false batch n b c replies (Ok t) e = refl
 
 -- so a batch that commits doesn't read an earlier book
-pub newest_read : (batch : Batch) (s : VersionState) → CommitsOn batch s → past_place batch.ops ≡ None
+pub newest_read : CommitsReadLast
 newest_read batch s c = changes_newest s.domain batch c.made (of_changes (is_query batch.ops) batch s.number (book_of s.rows) (book_of (version_with batch s).rows) c.replies (run batch.domain batch.ops (book_of s.rows)) (ran_on batch s c).1)
 
 -- the verdict on a batch that doesn't read an earlier book, for a list of books whose last one is the version's
-pub verdict_last : (batch : Batch) (s : VersionState) (books : List Book) → last_book books ≡ book_of s.rows → place_of books ≡ s.number → past_place batch.ops ≡ None → verdict batch (place_of books) (book_for (past_place batch.ops) books) ≡ verdict batch s.number (Some (book_of s.rows))
+pub verdict_last : VerdictOnLast
 verdict_last batch s books b p e =
     ap (λ o. verdict batch (place_of books) (book_for o books)) e
     ∙ (ap (λ n. verdict batch n (Some (last_book books))) p

@@ -1,6 +1,8 @@
 -- Setting the place of a stored batch changes only the batch's writes of it, and no mark depends on it.
-use Rattle.std.proofs.Common.{◌≡◌, ℕ, List, [], ◌∷◌, ◌++◌, Option, Some, None, Ok, Err, refl, sym, ap, ◌∙◌, IfOk}
-use Rattle.std.specs.Prelude.{◌||◌, filter, map, option_map}
+use Rattle.std.proofs.Common.{◌≡◌, ℕ, Bool, true, false, List, [], ◌∷◌, ◌++◌, Option, Some, None, Ok, Err, refl, ap, ◌∙◌, IfOk}
+use Rattle.std.specs.Prelude.{◌||◌, map, option_map}
+use Rattle.std.specs.List.{list_any}
+use Rattle.std.proofs.lemmas.Bool.{or_parts}
 use Rattle.entry_book.specs.declared.kept.KeptBatch.{KeptBatch}
 use Rattle.entry_book.specs.declared.op.Op.{Op}
 use Rattle.entry_book.specs.declared.op.Op.TheVariants.{Prune, DropBundle}
@@ -8,13 +10,12 @@ use Rattle.entry_book.specs.declared.reply.OpReply.{OpReply}
 use Rattle.entry_book.specs.Rows.{Bytes, Entry}
 use Rattle.entry_book.specs.Book.{Book, users_of, expired_before}
 use Rattle.entry_book.specs.Writes.{RowWrite, wrote_token, after}
-use Rattle.entry_book.specs.NamedRows.{bundle_of, token_of, row_written, entry_name, rows_named}
-use Rattle.entry_book.specs.Ops.{OpEffect, OpResult, bundle_removed, op_of}
+use Rattle.entry_book.specs.NamedRows.{RowName, entry_of, agent_of, bundle_of, token_of, row_written, entry_name, rows_named}
+use Rattle.entry_book.specs.Ops.{OpEffect, OpResult, op_of}
 use Rattle.entry_book.specs.Runs.{RunResult, onto, then_run, run}
 use Rattle.entry_book.specs.Batches.{Batch}
 use Rattle.entry_book.specs.History.{batch_writes, token_writes}
-use Rattle.entry_book.proofs.Changed.{rewritten}
-use Rattle.entry_book.proofs.Shapes.{Shape, nothing, one_row, entries, entries_then, by_shape}
+use Rattle.entry_book.proofs.NamedRows.{writes_named}
 use Rattle.version_book.specs.declared.mark.MarkKind.{MarkKind}
 use Rattle.version_book.specs.Marks.{hits, names_token, passes_if_some}
 use Rattle.version_book.specs.Laws.{HitsAtAnyPlace, PlacesPut}
@@ -46,35 +47,38 @@ placed_append n (v ∷ vs) ws = ap (λ l. placed_write n v ∷ l) (placed_append
 unplaced_append : (vs ws : List RowWrite) → Unplaced vs → Unplaced ws → Unplaced (vs ++ ws)
 unplaced_append vs ws h k = λ n. let one = h n in let two = k n in placed_append n vs ws ∙ (λ i. one i ++ two i)
 
-not_entries : (k : Bytes) (es : List Entry) → map entry_name es ≡ token_of k ∷ [] → ⊥
-not_entries k [] h = cc
-not_entries k (e ∷ es) h = cc
+-- whether the row is that of a token
+abbrev is_token : RowName → Bool
+is_token (entry_of id) = false
+is_token (agent_of id) = false
+is_token (bundle_of domain) = false
+is_token (token_of token) = true
 
-not_bundle : (k : Bytes) (es : List Entry) (d : Bytes) → map entry_name es ++ bundle_of d ∷ [] ≡ token_of k ∷ [] → ⊥
-not_bundle k [] d h = cc
-not_bundle k (e ∷ es) d h = cc
+entries_alone : (es : List Entry) → list_any is_token (map entry_name es) ≡ false
+entries_alone [] = refl
+entries_alone (e ∷ es) = entries_alone es
 
-names_no_token : (op : Op) (b : Book) (k : Bytes) → rows_named op b ≡ token_of k ∷ [] → ⊥
-names_no_token (Prune moment) b k h = not_entries k (expired_before moment b) h
-names_no_token (DropBundle domain mode) b k h = not_bundle k (users_of domain b) domain h
-names_no_token op b k h = cc
+then_bundle : (es : List Entry) (domain : Bytes) → list_any is_token (map entry_name es ++ bundle_of domain ∷ []) ≡ false
+then_bundle [] domain = refl
+then_bundle (e ∷ es) domain = then_bundle es domain
 
-row_unplaced : (op : Op) (b : Book) (w : RowWrite) → rows_named op b ≡ row_written w ∷ [] → Unplaced (w ∷ [])
-row_unplaced op b (wrote_token c) h = absurd (names_no_token op b c.key h)
-row_unplaced op b w h = λ n. refl
+names_no_token : (op : Op) (b : Book) → list_any is_token (rows_named op b) ≡ false
+names_no_token (Prune moment) b = entries_alone (expired_before moment b)
+names_no_token (DropBundle domain mode) b = then_bundle (users_of domain b) domain
+names_no_token op b = refl
 
-rewritten_unplaced : (f : Entry → Option Entry) (es : List Entry) → Unplaced (map (rewritten f) es)
-rewritten_unplaced f [] = λ n. refl
-rewritten_unplaced f (e ∷ es) = λ n. ap (λ l. rewritten f e ∷ l) (rewritten_unplaced f es n)
+write_unplaced : (w : RowWrite) → is_token (row_written w) ≡ false → Unplaced (w ∷ [])
+write_unplaced (wrote_token c) h = λ n. cc
+write_unplaced w h = λ n. refl
 
-along : (vs ws : List RowWrite) → vs ≡ ws → Unplaced ws → Unplaced vs
-along vs ws e h = λ n. ap (placed n) e ∙ (h n ∙ sym e)
+all_unplaced : (ws : List RowWrite) → list_any is_token (map row_written ws) ≡ false → Unplaced ws
+all_unplaced [] h = λ n. refl
+all_unplaced (w ∷ ws) h = let r = or_parts (is_token (row_written w)) (list_any is_token (map row_written ws)) h in unplaced_append (w ∷ []) ws (write_unplaced w r.0) (all_unplaced ws r.1)
 
-shape_unplaced : (op : Op) (b : Book) (d : OpEffect) → Shape op b d → Unplaced d.writes
-shape_unplaced op b d (nothing h named) = along d.writes [] h (λ n. refl)
-shape_unplaced op b d (one_row w f h named) = along d.writes (w ∷ []) h (row_unplaced op b w named)
-shape_unplaced op b d (entries f k p h named) = along d.writes _ h (rewritten_unplaced f (filter p b.entries))
-shape_unplaced op b d (entries_then f k p x w h named) = along d.writes _ h (unplaced_append (map (rewritten f) (filter p b.entries)) (bundle_removed x ∷ []) (rewritten_unplaced f (filter p b.entries)) (λ n. refl))
+-- an operation writes the rows that it names
+op_unplaced : (op : Op) (b : Book) (o : OpResult) → IfOk o (λ d. map row_written d.writes ≡ rows_named op b) → IfOk o (λ d. Unplaced d.writes)
+op_unplaced op b (Ok d) h = all_unplaced d.writes (ap (list_any is_token) h ∙ names_no_token op b)
+op_unplaced op b (Err r) h = tt
 
 onto_unplaced : (d : OpEffect) (r : RunResult) → Unplaced d.writes → IfOk r (λ t. Unplaced t.writes) → IfOk (onto d r) (λ t. Unplaced t.writes)
 onto_unplaced d (Ok t) h k = unplaced_append d.writes t.writes h k
@@ -86,7 +90,7 @@ then_unplaced (Err r) f h k = tt
 
 pub run_unplaced : (own_domain : Bytes) (ops : List Op) (b : Book) → IfOk (run own_domain ops b) (λ t. Unplaced t.writes)
 run_unplaced own_domain [] b = λ n. refl
-run_unplaced own_domain (op ∷ ops) b = then_unplaced (op_of own_domain op b) (λ d. run own_domain ops (after d.writes b)) (by_shape own_domain op b (λ d. Unplaced d.writes) (λ d s. shape_unplaced op b d s)) (λ d. run_unplaced own_domain ops (after d.writes b))
+run_unplaced own_domain (op ∷ ops) b = then_unplaced (op_of own_domain op b) (λ d. run own_domain ops (after d.writes b)) (op_unplaced op b (op_of own_domain op b) (writes_named own_domain op b)) (λ d. run_unplaced own_domain ops (after d.writes b))
 
 -- ---- the writes of a batch
 

@@ -4,7 +4,7 @@ use Rattle.std.specs.Prelude.{⊤, filter, map, option_to_list, bytes_eq, nat_lt
 use Rattle.std.specs.List.{AllByRecursion}
 use Rattle.std.proofs.lemmas.Bool.Decides.{nat_tests}
 use Rattle.spiffe_name.specs.Id.{server_text}
-use Rattle.entry_book.proofs.Faults.{no_fault}
+use Rattle.entry_book.proofs.Faults.{not_refused}
 use Rattle.entry_book.proofs.Keeps.{op_keeps}
 use Rattle.entry_book.proofs.Keys.{from_with_row}
 use Rattle.entry_book.proofs.Runs.{run_fits}
@@ -353,7 +353,7 @@ of_run P r t e h = let k : IfOk {E = RefusedOp} (Ok t) P = subst (λ r. IfOk r P
 -- for any replies that are stored
 pub room_with : (own_domain : Bytes) (most : ℕ) (batch : Batch) (n : ℕ) (replies : List OpReply) (b : Book) (t : RunEffect) → IsMadeFor own_domain batch → Lawful own_domain most b → IsWithinLimits b → run own_domain batch.ops b ≡ Ok t → RoomAll (t.writes ++ token_writes batch.token batch.ops n replies) b
 room_with own_domain most batch n replies b t made l w e =
-    let sound : AreFaultless batch.domain batch.ops = no_fault batch.domain batch.ops batch.token made.no_fault in
+    let sound : AreFaultless batch.domain batch.ops = ((not_refused batch.domain batch.ops batch.token).0 made.no_fault).0 in
     let few = sound.few in
     let faultless : AllByRecursion (λ op. op_fault own_domain op ≡ None) batch.ops = subst (λ d. AllByRecursion (λ op. op_fault d op ≡ None) batch.ops) made.domain_is sound.none in
     let modest : AreModest (length batch.ops) t.writes = of_run (λ t. AreModest (length batch.ops) t.writes) (run own_domain batch.ops b) t e (run_modest own_domain most batch.ops b made.proper faultless l) in

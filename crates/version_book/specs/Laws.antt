@@ -1,15 +1,15 @@
 -- Theorems about marks and versions. Each is a clause of a function of the module `laws`.
-use Rattle.std.specs.Prelude.{◌≡◌, ◌↔◌, ℕ, ◌+◌, ◌*◌, ◌<◌, ◌≤◌, true, false, List, ◌++◌, length, map, option_to_list, None, Ok, IfOk}
+use Rattle.std.specs.Prelude.{◌≡◌, ◌↔◌, ℕ, ◌+◌, ◌*◌, ◌<◌, ◌≤◌, true, false, List, ◌++◌, length, map, option_to_list, Some, None, Ok, IfOk}
 use Rattle.std.specs.List.{AllByRecursion, list_any}
 use Rattle.entry_book.specs.Rows.{Bytes, Entry}
 use Rattle.entry_book.specs.Book.{Book, AscendingBook, entry_at, agent_at, bundle_at, token_at, group_of, children_of, users_of, expired_before, empty_book}
 use Rattle.entry_book.specs.Writes.{RowWrite, after, FitAll}
-use Rattle.entry_book.specs.Batches.{Batch, IsMadeFor, is_query}
+use Rattle.entry_book.specs.Batches.{Batch, IsMadeFor, is_query, past_place}
 use Rattle.entry_book.specs.Runs.{RunEffect, run}
 use Rattle.entry_book.specs.Limits.{limit_passed}
 use Rattle.entry_book.specs.Lawful.{Lawful}
 use Rattle.entry_book.specs.Laws.{IsWithinLimits}
-use Rattle.entry_book.specs.History.{last_book, place_of, batch_writes, kept_under, books_from, CommitAll, replies_from}
+use Rattle.entry_book.specs.History.{last_book, book_for, place_of, batch_writes, kept_under, verdict, books_from, CommitAll, replies_from}
 use Rattle.version_book.specs.declared.mark.MarkKind.{MarkKind}
 use Rattle.version_book.specs.declared.mark.MarkKind.TheVariants as mark
 use Rattle.version_book.specs.Applying.{MayApply}
@@ -92,6 +92,15 @@ BookReads = (m : MarkKind) (rows : CommittedRows) → reads m (book_of rows) ≡
 -- token isn't in use, its run on the book isn't refused, and the result passes no limit. The version after it has its writes.
 abbrev pub BatchCommits : Type 0
 BatchCommits = (batch : Batch) (s : VersionState) (t : RunEffect) → IsMadeFor s.domain batch → is_query batch.ops ≡ false → batch.after ≤ s.number → kept_under batch.token (book_of s.rows) ≡ None → run batch.domain batch.ops (book_of s.rows) ≡ Ok t → limit_passed s.number (after (batch_writes batch (s.number + 1) t) (book_of s.rows)) ≡ None → CommitsOn batch s × (version_with batch s ≡ next_state (batch_writes batch (s.number + 1) t) s)
+
+-- a batch that commits on a version doesn't read an earlier book
+abbrev pub CommitsReadLast : Type 0
+CommitsReadLast = (batch : Batch) (s : VersionState) → CommitsOn batch s → past_place batch.ops ≡ None
+
+-- on books whose last one is the version's, with its number, the verdict on a batch that doesn't read an earlier book is that
+-- on the version's book
+abbrev pub VerdictOnLast : Type 0
+VerdictOnLast = (batch : Batch) (s : VersionState) (books : List Book) → last_book books ≡ book_of s.rows → place_of books ≡ s.number → past_place batch.ops ≡ None → verdict batch (place_of books) (book_for (past_place batch.ops) books) ≡ verdict batch s.number (Some (book_of s.rows))
 
 -- batches that lead from s to t, followed by batches that lead from t to u, lead from s to u
 abbrev pub FollowsJoined : Type 0

@@ -3,7 +3,7 @@
 //! The bodies do nothing. Each contract is a theorem about the definitions, stated in `specs/Laws.antt`; a caller may rely on
 //! it after the call.
 
-ghost use Rattle.version_book.specs.Laws.{AgreeAfter, BatchCommits, BookAfter, BookReads, BooksFollow, BooksJoin, CommitsJoin, DomainIsUnchanged, FollowsJoined, HitsAtAnyPlace, HitsInBooks, LimitsFollow, PlacesPut, ReadsAfter, ReadsAgent, ReadsAll, ReadsBundle, ReadsChildren, ReadsEntry, ReadsExpiring, ReadsGroup, ReadsToken, ReadsUsers, RepliesFollow, RoomInRun, RunMayApply, Unhit, UnhitHistory, UnhitMarks};
+ghost use Rattle.version_book.specs.Laws.{AgreeAfter, BatchCommits, BookAfter, BookReads, BooksFollow, BooksJoin, CommitsJoin, CommitsReadLast, DomainIsUnchanged, FollowsJoined, HitsAtAnyPlace, HitsInBooks, LimitsFollow, PlacesPut, ReadsAfter, ReadsAgent, ReadsAll, ReadsBundle, ReadsChildren, ReadsEntry, ReadsExpiring, ReadsGroup, ReadsToken, ReadsUsers, RepliesFollow, RoomInRun, RunMayApply, Unhit, UnhitHistory, UnhitMarks, VerdictOnLast};
 
 /// What each mark reads, in terms of the book's own lookups.
 pub fn marks()
@@ -38,7 +38,8 @@ pub fn books()
     ensures reads { BookReads }
 {}
 
-/// How versions follow one another, batch by batch.
+/// How versions follow one another, batch by batch. A batch that commits reads the newest book, and its verdict on the list of all
+/// books is that on the newest version's book.
 pub fn version_histories()
     ensures commits { BatchCommits }
     ensures joined { FollowsJoined }
@@ -47,6 +48,8 @@ pub fn version_histories()
     ensures limits { LimitsFollow }
     ensures unhit { UnhitHistory }
     ensures unhit_marks { UnhitMarks }
+    ensures newest { CommitsReadLast }
+    ensures verdict { VerdictOnLast }
 {}
 
 /// There is room for the writes of a batch that runs on a lawful book within the limits.

@@ -1,5 +1,5 @@
 use Rattle.version_book.proofs.laws.version_histories.Goals as goal
-use Rattle.version_book.proofs.Histories.{batch_commits, books_follow, domain_is_unchanged, follows_on, limits_follow, unhit_history}
+use Rattle.version_book.proofs.Histories.{batch_commits, books_follow, domain_is_unchanged, follows_on, limits_follow, newest_read, unhit_history, verdict_last}
 use Rattle.version_book.proofs.Unchanged.{unhit_marks}
 
 pub returns-clause-commits : goal.returns-clause-commits
@@ -22,3 +22,9 @@ returns-clause-unhit c = unhit_history
 
 pub returns-clause-unhit_marks : goal.returns-clause-unhit_marks
 returns-clause-unhit_marks c = unhit_marks
+
+pub returns-clause-newest : goal.returns-clause-newest
+returns-clause-newest c = newest_read
+
+pub returns-clause-verdict : goal.returns-clause-verdict
+returns-clause-verdict c = verdict_last
