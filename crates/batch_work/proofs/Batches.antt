@@ -24,8 +24,8 @@ use Rattle.version_book.proofs.Applying.{run_may_apply}
 use Rattle.version_book.proofs.NamedRows.{book_after}
 use Rattle.version_book.proofs.Histories.{batch_commits}
 use Rattle.batch_work.specs.Reads.{Case, early, gone, kept, runs, case_on, case_at, case_of, token_marks, marks_of_ops, footprint_in, awaits_in, verdict_in}
-use Rattle.batch_work.specs.Working.{Base, awaits_there, book_read, case_there, reply_there}
-use Rattle.batch_work.specs.Laws.{BatchReadsDecide, CommitCheck, OthersDontCommit, AwaitsAsSaid}
+use Rattle.batch_work.specs.Working.{book_read, case_there}
+use Rattle.batch_work.specs.Laws.{AnswersDontCommit, BatchReadsDecide, CommitCheck, OthersDontCommit, AwaitsAsSaid}
 use Rattle.batch_work.proofs.Cases.{of_runs, runs_there, unkept, verdict_by_case, waits}
 use Rattle.batch_work.proofs.Deciding.{split_all, same_run}
 
@@ -115,7 +115,7 @@ others_dont_commit batch books h =
     subst (λ v. Settles place v) (sym (verdict_by_case batch place (book_for (past_place batch.ops) books))) (case_settles batch place (case_of batch books) h)
 
 -- the same for a batch that doesn't await its commit on what its work began on
-pub answers_no_commit : (batch : Batch) (base : Base) → awaits_there batch base ≡ false → is_committed (reply_there batch base).outcome ≡ false
+pub answers_no_commit : AnswersDontCommit
 answers_no_commit batch base h = (subst (λ v. Settles base.newest.number v) (sym (verdict_by_case batch base.newest.number (book_read batch base))) (case_settles batch base.newest.number (case_there batch base) h)).0
 
 -- ---- which batches await their commit

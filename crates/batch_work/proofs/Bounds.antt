@@ -24,7 +24,7 @@ use Rattle.entry_book.specs.Laws.{AreFaultless}
 use Rattle.entry_book.specs.Lawful.{Lawful}
 use Rattle.entry_book.specs.Ops.{OpEffect, OpResult, similar, is_stale, op_of}
 use Rattle.entry_book.specs.Runs.{run}
-use Rattle.entry_book.proofs.Faults.{no_fault}
+use Rattle.entry_book.proofs.Faults.{not_refused}
 use Rattle.entry_book.proofs.Keeps.{op_keeps, run_keeps}
 use Rattle.entry_book.proofs.Sets.{All-within, All-from_within, from_within_filter, length_filter_le, within_left, within_right}
 use Rattle.entry_book.proofs.Unfaulted.{entry_faults}
@@ -173,7 +173,7 @@ ok_is {E = E} P r x e h = let k : IfOk {E = E} (Ok x) P = subst (λ r. IfOk r P)
 pub op_reads_bounded : OpReadsBounded
 op_reads_bounded own_domain most batch b before op later t made l few e ran =
     let d : Bytes = batch.domain in
-    let faultless : AreFaultless d batch.ops = no_fault d batch.ops batch.token made.no_fault in
+    let faultless : AreFaultless d batch.ops = ((not_refused d batch.ops batch.token).0 made.no_fault).0 in
     let proper = split_all IsProperOp before (op ∷ later) (subst (AllByRecursion IsProperOp) e made.proper) in
     let none = split_all (λ op. op_fault d op ≡ None) before (op ∷ later) (subst (AllByRecursion (λ op. op_fault d op ≡ None)) e faultless.none) in
     let l' : Lawful d most b = subst (λ o. Lawful o most b) (sym made.domain_is) l in
@@ -194,7 +194,7 @@ case_few batch b None = let a = length-append (token_marks batch.token) (marks_o
 pub batch_reads_bounded : BatchReadsBounded
 batch_reads_bounded own_domain most batch b made l few =
     let d : Bytes = batch.domain in
-    let faultless : AreFaultless d batch.ops = no_fault d batch.ops batch.token made.no_fault in
+    let faultless : AreFaultless d batch.ops = ((not_refused d batch.ops batch.token).0 made.no_fault).0 in
     let l' : Lawful d most b = subst (λ o. Lawful o most b) (sym made.domain_is) l in
     let r = footprint_few (identities batch b) (domains batch.ops b) (1024 + count_of_sets batch.ops) (domains_few batch.ops b few) (omega arith) d most batch.ops b made.proper faultless.none (all_put batch batch.ops b (λ op w. w)) l' (at_first batch batch.ops b) in
     let same : 3 + length (identities batch b) + (1024 + count_of_sets batch.ops) ≡ most_reads batch batch.ops b = omega arith in
@@ -229,7 +229,7 @@ one_token (Some k) = omega arith
 pub reads_are_few : ReadsAreFew
 reads_are_few own_domain batch b made bounded =
     let r = batch_reads_bounded own_domain bounded.most batch b made bounded.lawful bounded.bundles in
-    let faultless : AreFaultless batch.domain batch.ops = no_fault batch.domain batch.ops batch.token made.no_fault in
+    let faultless : AreFaultless batch.domain batch.ops = ((not_refused batch.domain batch.ops batch.token).0 made.no_fault).0 in
     let n = faultless.few in
     let e = bounded.entries in
     let i = identities_few batch.ops b in

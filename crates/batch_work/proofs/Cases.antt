@@ -9,8 +9,8 @@ use Rattle.entry_book.specs.Batches.{Batch, is_query}
 use Rattle.entry_book.specs.Book.{Book}
 use Rattle.entry_book.specs.History.{kept_under, refuses, verdict_on, verdict_over}
 use Rattle.entry_book.specs.Runs.{RunEffect, RunResult, run}
-use Rattle.batch_work.specs.Laws.{VerdictByCase}
-use Rattle.batch_work.specs.Reads.{Case, early, gone, kept, runs, case_on, case_at, awaits_in, verdict_in}
+use Rattle.batch_work.specs.Laws.{AwaitsInCase, VerdictByCase}
+use Rattle.batch_work.specs.Reads.{early, gone, kept, runs, case_on, case_at, verdict_in}
 
 -- ---- the specification's verdict
 
@@ -51,11 +51,7 @@ ok_waits true r e = cc
 ok_waits false (Err s) e = cc
 ok_waits false (Ok t) e = (refl, t, refl)
 
--- it runs on this book, isn't read-only, and its operations are accepted
-abbrev pub Waits : Batch → Case → Type 0
-Waits batch c = (b : Book) × (c ≡ runs b) × (is_query batch.ops ≡ false) × (t : RunEffect) × (run batch.domain batch.ops b ≡ Ok t)
-
-pub waits : (batch : Batch) (c : Case) → awaits_in batch c ≡ true → Waits batch c
+pub waits : AwaitsInCase
 waits batch early e = cc
 waits batch gone e = cc
 waits batch (kept k) e = cc

@@ -8,7 +8,7 @@ use Rattle.entry_book.specs.Book.{Book}
 use Rattle.entry_book.specs.Writes.{RowWrite, after}
 use Rattle.entry_book.specs.Lawful.{Lawful}
 use Rattle.entry_book.specs.Batches.{Batch, IsMadeFor, past_place}
-use Rattle.entry_book.proofs.Faults.{no_fault}
+use Rattle.entry_book.proofs.Faults.{not_refused}
 use Rattle.entry_book.proofs.Sets.{from_within_filter}
 use Rattle.version_book.specs.declared.mark.MarkKind.{MarkKind}
 use Rattle.version_book.specs.Marks.{names_entry, names_bundle, reads}
@@ -44,7 +44,7 @@ module _ (batch : Batch) (base : Base) (marks : List MarkKind) (changes : List R
   grows made m reading e =
       let s : VersionState = g.at_hand.s in
       let below = is_below batch.ops n g.at_hand.op g.at_hand.rest g.at_hand.here in
-      let few = (no_fault batch.domain batch.ops batch.token made.no_fault).few in
+      let few = ((not_refused batch.domain batch.ops batch.token).0 made.no_fault).0.few in
       let low = g.at_hand.low in
       let most : 64 * s.number + n ≤ 2 ^ 62 = omega arith in
       subst CanGrow (sym (e ∙ ap (λ v. reads m (after changes (book_of v.rows))) version_is)) (can_grow m batch.domain (64 * s.number + n) (book_now s changes) most g.at_hand.lawful)

@@ -16,8 +16,8 @@ use Rattle.version_book.proofs.Places.{places_put}
 use Rattle.batch_work.specs.declared.status.Status.TheVariants.{Ready, Running}
 use Rattle.batch_work.specs.Reads.{early, gone, case_on, footprint_in, awaits_in}
 use Rattle.batch_work.specs.Windows.{book_in}
-use Rattle.batch_work.specs.Working.{Base, HasReplies, Work, IsAccepted, IsAcceptedOn, version_read, book_read, case_there, end_status, footprint_there, awaits_there, marks_from, status_from, status_on}
-use Rattle.batch_work.specs.Laws.{EndHasRead, ReadyHasRead, ReadyTurns}
+use Rattle.batch_work.specs.Working.{Base, IsAccepted, IsAcceptedOn, version_read, book_read, case_there, end_status, footprint_there, awaits_there, marks_from, status_from, status_on}
+use Rattle.batch_work.specs.Laws.{EndHasRead, OneListOfReplies, ReadyHasRead, ReadyTurns}
 use Rattle.batch_work.proofs.Batches.{late, verdict_there}
 use Rattle.batch_work.proofs.Cases.{of_runs, unkept, waits}
 
@@ -67,7 +67,7 @@ one_list : (base : Option Base) (batch : Batch) (xs ys : List OpReply) (writes o
 one_list None batch xs ys writes others a b = absurd a
 one_list (Some base) batch xs ys writes others a b = a.replies_are ∙ (ap (λ (t : RunEffect). t.replies) (one_effect _ a.effect b.effect a.ran b.ran) ∙ sym b.replies_are)
 
-pub same_replies : (w : Work) (xs ys : List OpReply) → HasReplies w xs → HasReplies w ys → xs ≡ ys
+pub same_replies : OneListOfReplies
 same_replies w xs ys a b = one_list w.base w.batch xs ys a.0 b.0 a.1 b.1
 
 -- ---- the specification's next book

@@ -6,7 +6,7 @@ use Rattle.entry_book.specs.Writes.{RowWrite}
 use Rattle.entry_book.specs.Batches.{Batch, is_query, past_place}
 use Rattle.entry_book.specs.History.{token_writes, kept_under}
 use Rattle.batch_work.specs.Windows.{book_in}
-use Rattle.entry_book.proofs.Faults.{no_fault}
+use Rattle.entry_book.proofs.Faults.{not_refused}
 use Rattle.version_book.specs.declared.mark.MarkKind.{MarkKind}
 use Rattle.batch_work.specs.declared.phase.Phase.{Phase}
 use Rattle.batch_work.specs.declared.phase.Phase.TheVariants as phase
@@ -26,7 +26,7 @@ module _ (batch : Batch) (begun : Begun) (began : IsStartOf batch begun) (marks 
   pub within_ops : (next : Next) → Looked batch (base_of begun) marks changes replies n m next → n < 64
   within_ops next l =
       let below = is_below batch.ops n l.at_hand.op l.at_hand.rest l.at_hand.here in
-      let few = (no_fault batch.domain batch.ops batch.token began.made.no_fault).few in
+      let few = ((not_refused batch.domain batch.ops batch.token).0 began.made.no_fault).0.few in
       omega arith
 
   module _ (x : OpReply) (ws : List RowWrite) (l : Looked batch (base_of begun) marks changes replies n m (Ends x ws)) where

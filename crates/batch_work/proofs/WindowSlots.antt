@@ -1,5 +1,5 @@
 -- The slots of a window's older versions, and a push.
-use Rattle.std.proofs.Common.{◌≡◌, ◌-◌, List, [], ◌∷◌, ◌++◌, length, drop, Option, Some, None, refl, sym, ap, subst, ◌∙◌, arith, length-append, length-drop}
+use Rattle.std.proofs.Common.{◌≡◌, ◌≤◌, ◌-◌, ℕ, List, [], ◌∷◌, ◌++◌, length, drop, Option, Some, None, refl, sym, ap, subst, ◌∙◌, arith, length-drop}
 use Rattle.std.specs.Prelude.{map}
 use Rattle.std.specs.List.{AllZip}
 use Rattle.std.proofs.lemmas.List.Elements.{same_from_all_zip}
@@ -17,40 +17,61 @@ held_map (s ∷ ss) = ap (λ l. s ∷ l) (held_map ss)
 pub held_count : (places : List (Option VersionState)) → places ≡ map Some (held places) → length places ≡ length (held places)
 held_count places e = ap length e ∙ length-map (held places) Some
 
+pub held_append : (ps qs : List (Option VersionState)) → held (ps ++ qs) ≡ held ps ++ held qs
+held_append [] qs = refl
+held_append (None ∷ ps) qs = held_append ps qs
+held_append (Some s ∷ ps) qs = ap (λ l. s ∷ l) (held_append ps qs)
+
+-- ---- slots of which none is empty
+
+pub all_append : (ps qs : List (Option VersionState)) → ps ≡ map Some (held ps) → qs ≡ map Some (held qs) → ps ++ qs ≡ map Some (held (ps ++ qs))
+all_append ps qs e f =
+    ap (λ l. l ++ qs) e
+    ∙ (ap (λ l. map Some (held ps) ++ l) f
+    ∙ (sym (map-append Some (held ps) (held qs)) ∙ ap (map Some) (sym (held_append ps qs))))
+
+dropped : (n : ℕ) (ps : List (Option VersionState)) → ps ≡ map Some (held ps) → drop n ps ≡ map Some (drop n (held ps))
+dropped n ps e = ap (drop n) e ∙ drop-map Some n (held ps)
+
+pub held_ending : (ps : List (Option VersionState)) → ps ≡ map Some (held ps) → held (ending 63 ps) ≡ ending 63 (held ps)
+held_ending ps e =
+    let n = length ps - 63 in
+    ap held (dropped n ps e) ∙ (held_map (drop n (held ps)) ∙ ap (λ m. drop (m - 63) (held ps)) (held_count ps e))
+
+pub all_ending : (ps : List (Option VersionState)) → ps ≡ map Some (held ps) → ending 63 ps ≡ map Some (held (ending 63 ps))
+all_ending ps e =
+    let n = length ps - 63 in
+    dropped n ps e ∙ ap (map Some) (sym (ap held (dropped n ps e) ∙ held_map (drop n (held ps))))
+
+pub few_last : {X : Type 0} (xs : List X) → length (ending 63 xs) ≤ 63
+few_last xs = let l = length-drop (length xs - 63) xs in omega arith
+
+-- ---- a push
+
 -- one more slot after these, of which the last 63 remain
 abbrev pub with_place : VersionState → List (Option VersionState) → List (Option VersionState)
-with_place s places = drop (length (places ++ Some s ∷ []) - 63) (places ++ Some s ∷ [])
+with_place s places = ending 63 (places ++ Some s ∷ [])
 
 -- the window with the versions in these slots
 abbrev window_in : List (Option VersionState) → VersionState → Window
 window_in places newest = record { older = held places; newest = newest }
 
 module _ (places : List (Option VersionState)) (newest : VersionState) (k : AreKept places newest) where
-  count_is : length (places ++ Some newest ∷ []) ≡ length (versions (window_in places newest))
-  count_is =
-      let a = length-append places (Some newest ∷ []) in
-      let b = length-append (held places) (newest ∷ []) in
-      let c = held_count places k.all in
-      omega arith
-
-  places_are : with_place newest places ≡ map Some (ending 63 (versions (window_in places newest)))
-  places_are =
-      ap (λ n. drop (n - 63) (places ++ Some newest ∷ [])) count_is
-      ∙ (ap (λ l. drop (length (versions (window_in places newest)) - 63) (l ++ Some newest ∷ [])) k.all
-      ∙ (ap (drop (length (versions (window_in places newest)) - 63)) (sym (map-append Some (held places) (newest ∷ [])))
-      ∙ drop-map Some (length (versions (window_in places newest)) - 63) (versions (window_in places newest))))
+  all_more : places ++ Some newest ∷ [] ≡ map Some (held (places ++ Some newest ∷ []))
+  all_more = all_append places (Some newest ∷ []) k.all refl
 
   held_are : (rest : List (Option VersionState)) → rest ≡ with_place newest places → held rest ≡ ending 63 (versions (window_in places newest))
-  held_are rest e = ap held (e ∙ places_are) ∙ held_map (ending 63 (versions (window_in places newest)))
+  held_are rest e = ap held e ∙ (held_ending (places ++ Some newest ∷ []) all_more ∙ ap (ending 63) (held_append places (Some newest ∷ [])))
 
   pub window_is : (rest : List (Option VersionState)) (s : VersionState) → rest ≡ with_place newest places → window_in rest s ≡ pushed s (window_in places newest)
   window_is rest s e = ap (λ l. record { older = l; newest = s }) (held_are rest e)
 
   pub still_kept : (rest : List (Option VersionState)) (s : VersionState) → rest ≡ with_place newest places → IsNextVersion newest s → AreKept rest s
   still_kept rest s e n =
-      let l = ap length e ∙ length-drop (length (places ++ Some newest ∷ []) - 63) (places ++ Some newest ∷ []) in
+      let l = ap length e in
+      let m = few_last (places ++ Some newest ∷ []) in
       record {
-        all = e ∙ (places_are ∙ ap (map Some) (sym (held_are rest e)));
+        all = subst (λ (l : List (Option VersionState)). l ≡ map Some (held l)) (sym e) (all_ending (places ++ Some newest ∷ []) all_more);
         few = omega arith;
         counted = subst (λ l. Counted (l ++ s ∷ [])) (sym (held_are rest e)) (counted_pushed (window_in places newest) s k.counted n);
       }

@@ -23,7 +23,7 @@ use Rattle.entry_book.specs.Batches.{Batch, IsMadeFor, IsProperOp, is_query, op_
 use Rattle.entry_book.specs.History.{kept_under, token_writes, batch_writes, verdict_when, verdict_again, reply_with}
 use Rattle.entry_book.specs.Lawful.{Lawful}
 use Rattle.entry_book.proofs.Changed.{after-append}
-use Rattle.entry_book.proofs.Faults.{no_fault}
+use Rattle.entry_book.proofs.Faults.{not_refused}
 use Rattle.entry_book.proofs.Keeps.{op_keeps}
 use Rattle.entry_book.proofs.PastPages.{changes_newest}
 use Rattle.version_book.specs.declared.mark.MarkKind.{MarkKind}
@@ -82,12 +82,12 @@ is_last (y ∷ ys) (suc n) op e = let k = is_last ys n op e in omega arith
 abbrev AreOne : OpResult → OpResult → Type 0
 AreOne a b = a ≡ b
 
-not_refused : (d : OpEffect) (r : OpRefusal) → AreOne (Ok d) (Err r) → ⊥
-not_refused d r e = cc
+not_err : (d : OpEffect) (r : OpRefusal) → AreOne (Ok d) (Err r) → ⊥
+not_err d r e = cc
 
 of_ok : (o : OpResult) (d : OpEffect) (P : OpEffect → Type 0) → AreOne (Ok d) o → IfOk o P → P d
 of_ok (Ok x) d P e h = let q : x ≡ d = cc in subst P q h
-of_ok (Err r) d P e h = absurd (not_refused d r e)
+of_ok (Err r) d P e h = absurd (not_err d r e)
 
 -- ---- a batch on what it began on
 
@@ -203,7 +203,7 @@ module _ (batch : Batch) (base : Base) where
     -- the first one
     pub first_op : (s : VersionState) → version_read (past_place batch.ops) base ≡ Some s → InTime batch base → kept_under batch.token (book_in s) ≡ None → IsReadableVersion own_domain s → (marks : List MarkKind) (changes : List RowWrite) (replies : List OpReply) → marks ≡ token_marks batch.token → changes ≡ [] → replies ≡ [] → Going batch base marks changes replies 0 phase.First
     first_op s read_is in_time unkept readable marks changes replies m c p =
-        let o = some_op batch.ops (no_fault own_domain batch.ops batch.token made.no_fault).some in
+        let o = some_op batch.ops ((not_refused own_domain batch.ops batch.token).0 made.no_fault).0.some in
         let whole : batch.ops ≡ o.0 ∷ o.1 = o.2 in
         let q : 64 * s.number ≡ 64 * s.number + 0 = omega arith in
         let lawful : Lawful own_domain (64 * s.number + 0) (book_in s) = subst (λ m. Lawful own_domain m (book_in s)) q readable.lawful in
@@ -215,7 +215,7 @@ module _ (batch : Batch) (base : Base) where
     keeps : (s : VersionState) (changes : List RowWrite) (n : ℕ) (op : Op) (rest : List Op) (d : OpEffect) → drop n batch.ops ≡ op ∷ rest → Lawful own_domain (64 * s.number + n) (book_now s changes) → Ok d ≡ op_of own_domain op (book_now s changes) → Lawful own_domain (64 * s.number + (n + 1)) (book_now s (changes ++ d.writes))
     keeps s changes n op rest d here lawful e =
         let proper = op_at IsProperOp batch.ops n op rest made.proper here in
-        let faultless = op_at (λ op. op_fault own_domain op ≡ None) batch.ops n op rest (no_fault own_domain batch.ops batch.token made.no_fault).none here in
+        let faultless = op_at (λ op. op_fault own_domain op ≡ None) batch.ops n op rest ((not_refused own_domain batch.ops batch.token).0 made.no_fault).0.none here in
         let k = of_ok (op_of own_domain op (book_now s changes)) d (λ d. Lawful own_domain (64 * s.number + n + 1) (after d.writes (book_now s changes))) e (op_keeps own_domain (64 * s.number + n) op (book_now s changes) proper faultless lawful) in
         let q : 64 * s.number + n + 1 ≡ 64 * s.number + (n + 1) = omega arith in
         subst (λ m. Lawful own_domain m (book_now s (changes ++ d.writes))) q (subst (Lawful own_domain (64 * s.number + n + 1)) (sym (after-append changes d.writes (book_in s))) k)

@@ -14,13 +14,13 @@ use Rattle.entry_book.specs.Batches.{Batch, IsMadeFor, is_query, past_place}
 use Rattle.entry_book.specs.Limits.{limit_passed}
 use Rattle.entry_book.specs.Lawful.{Lawful}
 use Rattle.entry_book.specs.Laws.{IsWithinLimits}
-use Rattle.entry_book.specs.History.{batch_writes, kept_under, verdict, adds, adds_within, refuses, last_book, place_of, reply_to, commits}
+use Rattle.entry_book.specs.History.{batch_writes, kept_under, verdict, adds, adds_within, refuses, is_committed, last_book, place_of, reply_to, commits}
 use Rattle.version_book.specs.Applying.{MayApply}
 use Rattle.version_book.specs.Marks.{Agree}
 use Rattle.version_book.specs.CommittedRows.{VersionState, book_of, next_state}
 use Rattle.version_book.specs.History.{CommitsOn, IsLast, version_with}
 use Rattle.version_book.specs.Written.{placed}
-use Rattle.batch_work.specs.Reads.{marks_of_ops, case_on, case_at, footprint_in, awaits_in, verdict_in, footprint_of, awaits_commit}
+use Rattle.batch_work.specs.Reads.{Case, runs, marks_of_ops, case_on, case_at, footprint_in, awaits_in, verdict_in, footprint_of, awaits_commit}
 use Rattle.batch_work.specs.Windows.{Window, IsNextVersion, WindowRepresents, book_in, pushed}
 use Rattle.batch_work.specs.declared.status.Status.TheVariants.{Ready, Running}
 use Rattle.batch_work.specs.Working.{Base, HasReplies, HasWrites, Work, base_in, footprint_there, awaits_there, marks_so_far, reply_there, status_of, status_on}
@@ -30,6 +30,14 @@ use Rattle.batch_work.specs.Working.{Base, HasReplies, HasWrites, Work, base_in,
 -- the specification's verdict is that of the case
 abbrev pub VerdictByCase : Type 0
 VerdictByCase = (batch : Batch) (place : ℕ) (b : Option Book) → verdict batch place b ≡ verdict_in batch place (case_at batch place b)
+
+-- in this case the batch runs on a book, isn't read-only, and its operations are accepted
+abbrev pub Waits : Batch → Case → Type 0
+Waits batch c = (b : Book) × (c ≡ runs b) × (is_query batch.ops ≡ false) × (t : RunEffect) × (run batch.domain batch.ops b ≡ Ok t)
+
+-- these are the only cases in which a batch awaits its commit
+abbrev pub AwaitsInCase : Type 0
+AwaitsInCase = (batch : Batch) (c : Case) → awaits_in batch c ≡ true → Waits batch c
 
 -- ---- the reads decide the outcome
 
@@ -82,6 +90,10 @@ AwaitsAsSaid = (own_domain : Bytes) (batch : Batch) (books : List Book) → IsMa
 -- a batch that doesn't await its commit isn't committed, and no limit refuses it
 abbrev pub OthersDontCommit : Type 0
 OthersDontCommit = (batch : Batch) (books : List Book) → awaits_commit batch books ≡ false → (commits batch books ≡ false) × ((limit : Limit) → (reply_to batch books).outcome ≡ Refused (Full limit) → ⊥)
+
+-- nor does the reply of a work commit it, if the work doesn't await its commit on what it began on
+abbrev pub AnswersDontCommit : Type 0
+AnswersDontCommit = (batch : Batch) (base : Base) → awaits_there batch base ≡ false → is_committed (reply_there batch base).outcome ≡ false
 
 -- ---- windows
 
@@ -141,3 +153,7 @@ ReadyTurns = (own_domain : Bytes) (w : Work) (base : Base) (writes : List RowWri
 -- if a batch has no more to read after n reads, these are its whole footprint
 abbrev pub EndHasRead : Type 0
 EndHasRead = (batch : Batch) (base : Base) (n : ℕ) → (status_on batch base n ≡ Running → ⊥) → take n (footprint_there batch base) ≡ footprint_there batch base
+
+-- a work has one list of replies
+abbrev pub OneListOfReplies : Type 0
+OneListOfReplies = (w : Work) (xs ys : List OpReply) → HasReplies w xs → HasReplies w ys → xs ≡ ys

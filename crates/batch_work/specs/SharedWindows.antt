@@ -1,4 +1,4 @@
--- How a window stores its older versions in two lists, the first of which it shares with other windows. For this crate's own contracts.
+-- How a window stores its older versions in two lists of slots, the first of which it shares with other windows. For this crate's own contracts.
 use Rattle.std.specs.Prelude.{◌≡◌, ◌≤◌, ℕ, ◌-◌, List, [], ◌∷◌, ◌++◌, map, length, nat_lt, slice_get, Option, Some, None, if◌then◌else◌}
 use Rattle.version_book.specs.CommittedRows.{VersionState}
 use Rattle.batch_work.specs.WindowSlots.{held}
@@ -13,8 +13,9 @@ abbrev pub back_from : ℕ → List VersionState → Option VersionState
 back_from n states = if nat_lt (length states) n then None else slice_get states (length states - n)
 
 -- No slot is empty, and both lists are short. Each version, up to the newest one, is the next after the one before it.
-pub record IsShared (shared : List VersionState) (recent : List (Option VersionState)) (newest : VersionState) : Type 0 where
-  pub all : recent ≡ map Some (held recent)
+pub record IsShared (shared recent : List (Option VersionState)) (newest : VersionState) : Type 0 where
+  pub all_shared : shared ≡ map Some (held shared)
+  pub all_recent : recent ≡ map Some (held recent)
   pub few_shared : length shared ≤ 63
   pub few_recent : length recent ≤ 10
-  pub counted : Counted (last_of_both shared (held recent) ++ newest ∷ [])
+  pub counted : Counted (last_of_both (held shared) (held recent) ++ newest ∷ [])

@@ -19,8 +19,8 @@ abbrev pub version_at : ℕ → Window → Option VersionState
 version_at n w = first (filter (λ s. nat_eq s.number n) (versions w))
 
 -- the last n of a list, or all of it if it has fewer
-abbrev pub ending : ℕ → List VersionState → List VersionState
-ending n states = drop (length states - n) states
+abbrev pub ending : {X : Type 0} → ℕ → List X → List X
+ending n xs = drop (length xs - n) xs
 
 -- the window after this version was pushed, with at most 63 older ones
 abbrev pub pushed : VersionState → Window → Window

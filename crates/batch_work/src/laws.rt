@@ -4,12 +4,13 @@
 //! `specs/Walked.antt`; a caller may rely on it after the call.
 
 ghost use Rattle.batch_work.specs.Bounds.{BatchReadsBounded, KeptReadOnly, OpReadsBounded, ReadsAreFew, ReadsAreFewAnywhere, ReadsInOrder, TokenReadFirst};
-ghost use Rattle.batch_work.specs.Laws.{AwaitsAsSaid, BatchReadsDecide, CommitCheck, EndHasRead, OthersDontCommit, ReadsDecide, ReadyHasRead, ReadyTurns, VerdictByCase, WindowBegins, WindowExtends, WindowLast, WindowRepresentsBooks};
+ghost use Rattle.batch_work.specs.Laws.{AnswersDontCommit, AwaitsAsSaid, AwaitsInCase, BatchReadsDecide, CommitCheck, EndHasRead, OneListOfReplies, OthersDontCommit, ReadsDecide, ReadyHasRead, ReadyTurns, VerdictByCase, WindowBegins, WindowExtends, WindowLast, WindowRepresentsBooks};
 ghost use Rattle.batch_work.specs.Walked.{AuthorisedReads, MissingReads, OneWalk, TrustReads, TrustedAsSaid, WalkAsSaid};
 
-/// The specification's verdict on a batch is that of the case that the batch meets.
+/// The specification's verdict on a batch is that of the case that the batch meets. In which cases it awaits its commit.
 pub fn cases()
     ensures verdict { VerdictByCase }
+    ensures waits { AwaitsInCase }
 {}
 
 /// What a batch reads decides its outcome.
@@ -23,6 +24,7 @@ pub fn commit_check()
     ensures check { CommitCheck }
     ensures awaits { AwaitsAsSaid }
     ensures others { OthersDontCommit }
+    ensures answers { AnswersDontCommit }
 {}
 
 /// A work that begins on a window has the reads and the reply of its batch on the list of all books. It awaits a commit exactly
@@ -58,9 +60,10 @@ pub fn walks()
     ensures missing { MissingReads }
 {}
 
-/// What a work has read at its end, and what its changes make of the book on which it began.
+/// What a work has read at its end, and what its changes make of the book on which it began. It has one list of replies.
 pub fn works()
     ensures end { EndHasRead }
     ensures ready { ReadyHasRead }
     ensures turns { ReadyTurns }
+    ensures one { OneListOfReplies }
 {}

@@ -1,6 +1,6 @@
 //! Which versions are published, and what does the next window share with the one before it?
 
-ghost use Rattle.std.specs.Prelude.{◌≡◌, ◌≤◌, ◌<◌, ◌++◌, ◌∷◌, [], IfOk, OnOk, Some, length, map, slice_get};
+ghost use Rattle.std.specs.Prelude.{◌≡◌, ◌≤◌, ◌<◌, ◌+◌, ◌++◌, ◌∷◌, [], IfOk, OnOk, Some, length, map, slice_get};
 ghost use Rattle.std.specs.Option.{option_copied};
 ghost use Rattle.batch_work.specs.SharedWindows.{back_from, last_of_both};
 ghost use Rattle.batch_work.specs.WindowSlots.{held};
@@ -16,59 +16,78 @@ use version_book::Version;
 /// How many older versions a window retains.
 const MOST_OLDER: usize = 63;
 
-/// Appends clones of these versions. The error is out of memory.
-fn push_clones(versions: &mut Vec<Version>, more: &[Version]) -> Result<(), AllocError>
-    ensures { OnOk result (versions.new.items ≡ versions.old.items ++ more.now) }
+/// The slots that several windows share.
+type SharedSlots = Shared<ArrayVec<Option<Version>, 63>>;
+
+/// The slots of one window alone.
+type OwnSlots = ArrayVec<Option<Version>, 10>;
+
+/// Appends clones of these slots, for which there is room. The error is out of memory.
+fn push_clones(
+    all: &mut ArrayVec<Option<Version>, 63>,
+    more: &[Option<Version>],
+) -> Result<(), AllocError>
+    requires room { length all.old.items + length more.now ≤ 63 }
+    ensures { OnOk result (all.new.items ≡ all.old.items ++ more.now) }
 {
-    for version in more {
-        versions.push(version.clone()?)?;
+    for place in more {
+        all.push(place.clone()?);
     }
     Ok(())
 }
 
-/// Appends clones of the versions in these slots. The error is out of memory.
-fn push_held(versions: &mut Vec<Version>, places: &[Option<Version>]) -> Result<(), AllocError>
-    ensures { OnOk result (versions.new.items ≡ versions.old.items ++ held places.now) }
-{
-    for place in places {
-        if let Some(version) = place {
-            versions.push(version.clone()?)?;
-        }
-    }
-    Ok(())
-}
-
-/// Returns clones of the last 63 of these versions, or of all of them if there are fewer: the shared ones, then those in the slots,
-/// then the newest one. The error is out of memory.
+/// Returns clones of the last 63 of these slots, or of all of them if there are fewer: the shared ones, then a window's own, then
+/// one with the newest version. The error is out of memory.
 fn last_clones(
-    alloc: Global,
-    shared: &[Version],
+    shared: &[Option<Version>],
     recent: &[Option<Version>],
     newest: &Version,
-) -> Result<Vec<Version>, AllocError>
+) -> Result<ArrayVec<Option<Version>, 63>, AllocError>
     requires few { (length shared.now ≤ 63) × (length recent.now ≤ 10) }
-    requires held { recent.now ≡ map Some (held recent.now) }
-    ensures { IfOk result (λ all. all.items ≡ ending 63 (shared.now ++ (held recent.now ++ newest.now ∷ []))) }
+    ensures { IfOk result (λ all. all.items ≡ ending 63 (shared.now ++ (recent.now ++ Some newest.now ∷ []))) }
 {
     let more = recent.len() + 1;
     let skipped = (shared.len() + more).saturating_sub(MOST_OLDER);
-    let mut all = Vec::with_capacity(alloc, shared.len() - skipped + more)?;
+    let mut all = ArrayVec::new();
     push_clones(&mut all, &shared[skipped..])?;
-    push_held(&mut all, recent)?;
-    all.push(newest.clone()?)?;
+    push_clones(&mut all, recent)?;
+    all.push(Some(newest.clone()?));
     Ok(all)
 }
 
-/// Returns the version this many steps before the end of two lists, of which the second one is in slots, if there is one.
+/// Returns the slots of the next window, in which the newest version of this one is the last of the older ones. It is put behind
+/// the own slots, and the shared ones remain shared. If the own slots are full, the last 63 of all are new shared ones instead.
+/// The error is out of memory.
+fn next_slots(
+    alloc: Global,
+    shared: &SharedSlots,
+    recent: &OwnSlots,
+    newest: &Version,
+) -> Result<(SharedSlots, OwnSlots), AllocError>
+    ensures room { IfOk result (λ slots. length recent.now.items < 10
+        → (slots.0.items ≡ shared.now.items) × (slots.1.items ≡ recent.now.items ++ Some newest.now ∷ [])) }
+    ensures full { IfOk result (λ slots. 10 ≤ length recent.now.items
+        → (slots.0.items ≡ ending 63 (shared.now.items ++ (recent.now.items ++ Some newest.now ∷ []))) × (slots.1.items ≡ [])) }
+{
+    if recent.is_full() {
+        let all = last_clones(shared.get().as_slice(), recent.as_slice(), newest)?;
+        return Ok((Shared::of(alloc, all)?, ArrayVec::new()));
+    }
+    let mut more = recent.clone()?;
+    more.push(Some(newest.clone()?));
+    Ok((shared.clone()?, more))
+}
+
+/// Returns the version this many steps before the end of two lists of slots, if there is one.
 fn version_back<'a>(
-    shared: &'a [Version],
+    shared: &'a [Option<Version>],
     recent: &'a [Option<Version>],
     steps: usize,
 ) -> Option<&'a Version>
     requires few { (length shared.now ≤ 63) × (length recent.now ≤ 10) }
-    requires held { recent.now ≡ map Some (held recent.now) }
+    requires held { (shared.now ≡ map Some (held shared.now)) × (recent.now ≡ map Some (held recent.now)) }
     requires steps { (0 < steps) × (steps ≤ 63) }
-    ensures { option_copied result ≡ back_from steps (last_of_both shared.now (held recent.now)) }
+    ensures { option_copied result ≡ back_from steps (last_of_both (held shared.now) (held recent.now)) }
 {
     let own = recent.len();
     if steps <= own {
@@ -78,20 +97,24 @@ fn version_back<'a>(
     if steps > count {
         return None;
     }
-    shared.get(count - steps)
+    version_in(shared, count - steps)
 }
 
 /// The last versions of one history, as a [`Window`](crate::Window) has them, in a value that never changes. The model in
 /// contracts is the same record.
 ///
-/// Windows that follow each other share most of their older versions. These are the last 63 of two lists: one that several windows
-/// share, and up to ten of this window's own. [`next`](SharedWindow::next) clones the second one, five versions on average, and
-/// increments one reference count for the first one. If the second one is full, it makes a new shared list instead.
+/// Windows that follow each other share most of their older versions. These are the last 63 of two lists in slots: one that
+/// several windows share, and up to ten of this window's own. Moving a window moves the ten slots and no shared one.
+///
+/// A reader finds a version in either list without a search, and allocates no memory. A writer calls
+/// [`next`](SharedWindow::next), which clones the second list, five versions on average, and increments one reference count for
+/// the first one. That allocates no memory either. At each eleventh call the second list is full: then the call clones the last
+/// 63 versions into a new list of 63 slots, and allocates the memory in which they are shared.
 #[derive(Drop)]
 pub struct SharedWindow {
-    shared: Shared<Vec<Version>>,
     // no slot in use is empty, as in a `Window`
-    recent: ArrayVec<Option<Version>, 10>,
+    shared: SharedSlots,
+    recent: OwnSlots,
     newest: Version,
 }
 
@@ -103,7 +126,7 @@ impl Model for SharedWindow {
     ghost Value = { Window };
 
     ghost view = { λ window. record {
-      older = last_of_both window.shared.items (held window.recent.items);
+      older = last_of_both (held window.shared.items) (held window.recent.items);
       newest = window.newest;
     } };
 
@@ -120,7 +143,7 @@ impl SharedWindow {
         ensures { IfOk result (λ window. window ≡ record { older = []; newest = version }) }
     {
         Ok(SharedWindow {
-            shared: Shared::of(alloc, Vec::new(alloc))?,
+            shared: Shared::of(alloc, ArrayVec::new())?,
             recent: ArrayVec::new(),
             newest: version,
         })
@@ -180,28 +203,10 @@ impl SharedWindow {
         requires next { IsNextVersion self.now.newest version }
         ensures { IfOk result (λ window. window ≡ pushed version self.now) }
     {
-        if self.recent.is_full() {
-            return self.next_alone(alloc, version);
-        }
-        let mut recent = self.recent.clone()?;
-        recent.push(Some(self.newest.clone()?));
+        let (shared, recent) = next_slots(alloc, &self.shared, &self.recent, &self.newest)?;
         Ok(SharedWindow {
-            shared: self.shared.clone()?,
+            shared,
             recent,
-            newest: version,
-        })
-    }
-
-    /// Returns the same window, with all older versions in a new list to be shared.
-    fn next_alone(&self, alloc: Global, version: Version) -> Result<SharedWindow, AllocError>
-        requires next { IsNextVersion self.now.newest version }
-        ensures { IfOk result (λ window. window ≡ pushed version self.now) }
-    {
-        let (shared, newest) = (self.shared.get(), &self.newest);
-        let older = last_clones(alloc, shared.as_slice(), self.recent.as_slice(), newest)?;
-        Ok(SharedWindow {
-            shared: Shared::of(alloc, older)?,
-            recent: ArrayVec::new(),
             newest: version,
         })
     }

@@ -1,8 +1,9 @@
 //! On which versions can a work begin?
 
-ghost use Rattle.std.specs.Prelude.{◌≡◌, ◌++◌, ◌∷◌, ◌-◌, [], Some, drop, length, map, slice_get};
+ghost use Rattle.std.specs.Prelude.{◌≡◌, ◌++◌, ◌∷◌, [], Some, map, slice_get};
 ghost use Rattle.std.specs.Option.{option_copied};
 ghost use Rattle.batch_work.specs.WindowSlots.{held};
+ghost use Rattle.batch_work.specs.Windows.{ending};
 
 use arrayvec::ArrayVec;
 use std::alloc::AllocError;
@@ -12,7 +13,7 @@ use version_book::Version;
 
 /// Appends an item, and keeps only the last 63.
 fn push_last<T: Default + Drop>(items: &mut ArrayVec<T, 63>, item: T)
-    ensures { items.new.items ≡ drop (length (items.old.items ++ item ∷ []) - 63) (items.old.items ++ item ∷ []) }
+    ensures { items.new.items ≡ ending 63 (items.old.items ++ item ∷ []) }
 {
     if items.is_full() {
         items.remove(0);

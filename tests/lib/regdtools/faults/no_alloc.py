@@ -21,7 +21,7 @@ FAMILIES = [
      "Version::agent", "Version::bundle"],
     ["Work::status", "Changes::hits", "Batch::is_query"],
     ["Head::place", "Head::kept", "Head::window", "Head::item", "Head::checkpoint", "Head::checkpoint_into"],
-    ["Window::push", "SharedWindow::newest", "SharedWindow::book"],
+    ["Window::push", "SharedWindow::newest", "SharedWindow::book", "SharedWindow::next"],
     ["Head::finish"],
     ["PlainBook::place"],
     ["print_to of a reply", "print_to of L6", "print_to of L8", "print_to of a borrowed reply"],

@@ -26,6 +26,6 @@ returns c =
     let w : Window = window_of c.self.inside.shared.items c.self.inside.recent.items c.self.inside.newest in
     let back : ℕ = c.number-newest.result - c.args.number in
     c.version_back.ensures
-    ∙ ((λ i. back_from back (last_of_both (c.as_slice.ensures.value i) (held c.as_slice-2.result.now)))
-    ∙ ((λ i. back_from back (last_of_both ((c.get.ensures i).items) (held (c.as_slice-2.ensures.value i))))
+    ∙ ((λ i. back_from back (last_of_both (held (c.as_slice.ensures.value i)) (held c.as_slice-2.result.now)))
+    ∙ ((λ i. back_from back (last_of_both (held ((c.get.ensures i).items)) (held (c.as_slice-2.ensures.value i))))
     ∙ (found_back c.args.number back w c.self.invariant.counted (omega arith) (omega arith) ∙ ap (version_at c.args.number) c.self.view_is)))
