@@ -108,6 +108,7 @@ module _ {h : Head} {count : ℕ} {es entries : List (ℕ × Slot)} {slot : Slot
         in_turn = d.in_turn;
         decision = ⊎_elim
             (λ c. let m = calls _ c.stage_is in inl (record {
+              validated = c.validated;
               commits = c.commits;
               answer = λ i. Decided n (c.decision_is i) (c.place_is i);
               after = λ i. record { domain = d.extends.domain i; journal = c.journal_is i; count = count + 1; calls = m i };

@@ -5,13 +5,14 @@ use Rattle.entry_book.specs.declared.reply.ReplyOutcome.TheVariants.{Committed a
 use Rattle.entry_book.specs.declared.reply.Refusal.TheVariants.{Full as TooMuch}
 use Rattle.entry_book.specs.declared.reply.Reply.{Reply}
 use Rattle.entry_book.specs.History.{books_of, is_committed, reply_to}
+use Rattle.version_book.specs.CommittedRows.{book_of}
 use Rattle.batch_work.specs.declared.status.Status.TheVariants.{Ready}
 use Rattle.batch_work.specs.Working.{Work, status_of}
 use Rattle.batch_work.proofs.Ready.{same_replies}
 use Rattle.commit_head.specs.declared.commit.Commit.TheVariants.{Committed, Conflict, Full}
-use Rattle.commit_head.specs.Heads.{BeganOn, Fits, Head, IsCommitted, IsItemOf, IsRefused, Prepared, IsUnchangedHead, newest_of, head_place}
+use Rattle.commit_head.specs.Heads.{BeganOn, Fits, Head, IsCommitted, IsItemOf, IsRefused, Prepared, IsUnchangedHead, ReadsAreUnchanged, newest_of, head_place}
 use Rattle.commit_head.specs.Journals.{Joins, batches_of}
-use Rattle.commit_head.specs.Outcomes.{IsHitSince, IsReadyOn}
+use Rattle.commit_head.specs.Outcomes.{IsHitSince, IsReadyOn, IsUnchangedSince}
 use Rattle.commit_head.proofs.OnBooks.{batches_join, commit_on_books, count_of_batches}
 use Rattle.call_answers.specs.declared.answer.CallAnswer.{CallAnswer}
 use Rattle.call_answers.specs.declared.answer.CallAnswer.TheVariants.{Replied}
@@ -35,12 +36,12 @@ may_prepare h w whole rests s =
 ready_on : (h : Head) (w : Work) (r : IsAwaiting w) → RestsOn (head_domain h) h.kept w → status_of w ≡ Ready → IsReadyOn (head_domain h) h.kept w r.base
 ready_on h w r rests s = record { made = rests.made; ready = s; base_is = r.base_is; leads = (began h w r rests).leads }
 
-pub decided_committed : (old between new : Head) (w : Work) (seat call : ℕ) (p : Prepared) (answer : CallAnswer) (place : ℕ) → HasWholeJournal old → RestsOn (head_domain old) old.kept w → status_of w ≡ Ready → IsUnchangedHead old between → Fits between p → IsItemOf seat call w p.item → Finishes between p.item answer place new → IsDecided old w answer to.Committed place new
-decided_committed old between new w seat call p answer place whole rests s is_unchanged fits item done =
+pub decided_committed : (old between new : Head) (w : Work) (seat call : ℕ) (p : Prepared) (answer : CallAnswer) (place : ℕ) → HasWholeJournal old → RestsOn (head_domain old) old.kept w → status_of w ≡ Ready → IsUnchangedHead old between → ReadsAreUnchanged w.base w.batch (book_of (newest_of old).rows) → Fits between p → IsItemOf seat call w p.item → Finishes between p.item answer place new → IsDecided old w answer to.Committed place new
+decided_committed old between new w seat call p answer place whole rests s is_unchanged validated fits item done =
     let r = ready_is w s in
     let joins : Joins p.item (newest_of old) = subst (λ v. Joins p.item v.newest) is_unchanged.window fits.goes.joins in
     let appended = appended_from old between new p.item is_unchanged done.appended in
-    let commit : IsCommitted old seat call w place new = record { item = p.item; of_work = item; joins = joins; number = done.place_is ∙ ap (λ v. v.newest.number + 1) is_unchanged.window; appended = appended } in
+    let commit : IsCommitted old seat call w place new = record { item = p.item; of_work = item; validated = validated; joins = joins; number = done.place_is ∙ ap (λ v. v.newest.number + 1) is_unchanged.window; appended = appended } in
     let on = commit_on_books old.kept old seat call w r.base (Committed place) new whole (ready_on old w r rests s) commit in
     let same : p.item.replies ≡ on.item.replies = same_replies w p.item.replies on.item.replies item.replies on.of_work.replies in
     let reply : reply_to w.batch (books_of (journal_of old)) ≡ record { place = head_place between + 1; outcome = WasCommitted p.item.replies } = on.reply ∙ (λ i. record { place = done.place_is i; outcome = WasCommitted (sym same i) }) in
@@ -49,6 +50,7 @@ decided_committed old between new w seat call p answer place whole rests s is_un
       base = r.base.newest.number;
       in_turn = r.stage;
       decided = inl (record {
+        validated = subst (IsUnchangedSince (journal_of old) r.base.newest.number) (began old w r rests).is_on.reads on.validated;
         commits = ap (λ (r : Reply). is_committed r.outcome) reply;
         stage_is = ap stage_over done.answer_is ∙ ap committed (sym reply);
         decision_is = refl;

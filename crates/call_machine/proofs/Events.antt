@@ -94,7 +94,7 @@ steps s n d t h i =
 refused_is : (r : Reply) (o : ReplyOutcome) → r.outcome ≡ o → is_committed o ≡ false → is_committed r.outcome ≡ false
 refused_is r o e f = ap is_committed e ∙ f
 
-commits_now : (s : MachineState) (call : Call) (base : ℕ) (d : Done) (t : MachineState) → Sound s → Within s.calls call → call.stage ≡ ready base → CommitsNow s call d t → Sound t
+commits_now : (s : MachineState) (call : Call) (base : ℕ) (d : Done) (t : MachineState) → Sound s → Within s.calls call → call.stage ≡ ready base → CommitsNow s call base d t → Sound t
 commits_now s call base d t h w e i =
     let k = h.stamped call w in
     subst Sound (sym i.after) (went_last s call (record call { stage = committed (reply_to call.batch (books_of s.journal)); turn = s.count + 1 }) h w refl (ap is_begun e) refl

@@ -16,7 +16,7 @@ use Rattle.call_answers.specs.declared.answer.Done.{Done}
 use Rattle.call_answers.specs.declared.answer.Done.TheVariants.{Invoked, Begun, Stepped, Decided, Answered}
 use Rattle.call_answers.specs.declared.answer.CallAnswer.{CallAnswer}
 use Rattle.batch_work.specs.declared.status.Status.{Status}
-use Rattle.call_machine.specs.Schedules.{Happened, EventAt, HandedIn, BatchesOf, BeginsCountCommits, CountsCommits, commit_of, commits_in, IsDueConflict, ConflictsAreDue, Different}
+use Rattle.call_machine.specs.Schedules.{Happened, EventAt, HandedIn, BatchesOf, BeginsCountCommits, CountsCommits, commit_of, commits_in, CommitsAreValidated, IsDueConflict, IsValidatedCommit, ConflictsAreDue, Different}
 use Rattle.call_machine.specs.Calls.{CallStage, waiting, running, ready, answered, committed, conflict, Call, MachineState, with_call, answer_of}
 use Rattle.call_machine.specs.Laws.{SettledAt}
 use Rattle.call_machine.specs.Kept.{number_of}
@@ -212,11 +212,14 @@ pub record Tied (log : List Happened) (s : MachineState) : Type 0 where
   pub kept : (k : ℕ) (h : Happened) → slice_get log k ≡ Some h → Keeps s.calls (k + 1) h.event h.done
   pub journal : BatchesOf log (commits_in log) s.journal
   pub begins : BeginsCountCommits log
+  pub validated : CommitsAreValidated log
   pub due : ConflictsAreDue log
 
--- What a new event must satisfy after those before it: a begin counts the committed batches, and a conflict is due.
+-- What a new event must satisfy after those before it: a begin counts the committed batches, what a committed batch read is unchanged,
+-- and a conflict is due.
 pub record IsRightNow (log : List Happened) (e : Event) (d : Done) : Type 0 where
   pub begins : (c : ℕ) → e ≡ Begin c → CountsCommits log c d
+  pub validated : (c place : ℕ) → e ≡ Commit c → d ≡ Decided c Committed place → IsValidatedCommit log c place
   pub due : (c place : ℕ) → e ≡ Commit c → d ≡ Decided c Conflict place → IsDueConflict log c place
 
 pub begins_more : (log : List Happened) (e : Event) (d : Done) → BeginsCountCommits log → IsRightNow log e d → BeginsCountCommits (log ++ record { event = e; done = d } ∷ [])
@@ -225,6 +228,12 @@ begins_more log e d f g k c done q = ⊎_elim
     (λ o.
     let logged = subst (CountsCommits log c) (ap (λ (h : Happened). h.done) o.1) (g.begins c (ap (λ (h : Happened). h.event) o.1)) in
     subst (λ t. CountsCommits t c done) (sym (ap (λ n. take n (log ++ record { event = e; done = d } ∷ [])) o.0 ∙ take_whole log _)) logged)
+    (from_get_snoc log (record { event = e; done = d }) k _ q)
+
+pub validated_more : (log : List Happened) (e : Event) (d : Done) → CommitsAreValidated log → IsRightNow log e d → CommitsAreValidated (log ++ record { event = e; done = d } ∷ [])
+validated_more log e d f g k c place q = ⊎_elim
+    (λ o. let l = get_within log k _ o in subst (λ t. IsValidatedCommit t c place) (sym (take_more log _ k (omega arith))) (f k c place o))
+    (λ o. subst (λ t. IsValidatedCommit t c place) (sym (ap (λ n. take n (log ++ record { event = e; done = d } ∷ [])) o.0 ∙ take_whole log _)) (g.validated c place (ap (λ (h : Happened). h.event) o.1) (ap (λ (h : Happened). h.done) o.1)))
     (from_get_snoc log (record { event = e; done = d }) k _ q)
 
 pub due_more : (log : List Happened) (e : Event) (d : Done) → ConflictsAreDue log → IsRightNow log e d → ConflictsAreDue (log ++ record { event = e; done = d } ∷ [])
@@ -252,6 +261,7 @@ tied_moved log s t r c e d entry h n w y tc tl tj logged keeps batches now =
       kept = kept_more log s.calls t.calls s.count e d h.count h.kept (subst (AllCarried s.calls) (sym tl) carried) keeps;
       journal = subst (BatchesOf (log ++ record { event = e; done = d } ∷ []) (commits_in (log ++ record { event = e; done = d } ∷ []))) (sym tj) (subst (λ l. BatchesOf (log ++ record { event = e; done = d } ∷ []) l (s.journal ++ entry)) (sym (commits-snoc log (record { event = e; done = d }))) batches);
       begins = begins_more log e d h.begins now;
+      validated = validated_more log e d h.validated now;
       due = due_more log e d h.due now;
     }
   where

@@ -268,4 +268,4 @@ module _ (log : List Happened) (s : MachineState) (sound : Sound s) (tied : Tied
     held = subst (HoldReplies s.calls first_books) (sym numbers) (hold_from sound.line [] sound.fits (λ c w. ((sound.members c).0 w).0))
 
     pub headline : Headline log order
-    headline = record { one_batch = one_batch; serial = serial; legal = legal; strict = strict; begins = tied.begins; conflicts = tied.due; over = over; met = met }
+    headline = record { one_batch = one_batch; serial = serial; legal = legal; strict = strict; begins = tied.begins; validated = tied.validated; conflicts = tied.due; over = over; met = met }

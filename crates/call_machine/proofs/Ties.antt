@@ -21,13 +21,13 @@ use Rattle.call_answers.specs.declared.answer.Done.TheVariants.{Invoked, Begun, 
 use Rattle.call_answers.specs.declared.answer.CallAnswer.{CallAnswer}
 use Rattle.call_answers.specs.declared.answer.CallAnswer.TheVariants.{Conflict as Conflicted, Replied}
 use Rattle.batch_work.specs.declared.status.Status.{Status}
-use Rattle.call_machine.specs.Schedules.{Happened, EventAt, HandedIn, BatchesOf, commit_of, commits_in, IsDueConflict}
+use Rattle.call_machine.specs.Schedules.{Happened, EventAt, HandedIn, BatchesOf, commit_of, commits_in, IsDueConflict, IsValidatedCommit}
 use Rattle.call_machine.specs.Calls.{CallStage, waiting, running, ready, answered, committed, conflict, Call, MachineState, first_machine, with_call, answer_of, stage_settled, stage_on, status_at}
 use Rattle.call_machine.specs.Machine.{Invokes, Begins, Steps, CommitsNow, IsFull, Conflicts, Commits, Replies, Accepts}
 use Rattle.call_machine.proofs.Rows.{call_within, within_new}
 use Rattle.call_machine.proofs.Sound.{Sound, Stamped}
 use Rattle.call_machine.proofs.Events.{not_replied}
-use Rattle.call_machine.proofs.Logs.{at_more, at_last, batches_more, batches_snoc, commits-snoc, handed_more, StageLogged, ReplyLogged, IsLogged, settled_more, logged_more, HasTurn, Keeps, Carries, carries_itself, Tied, IsRightNow, batches_count, begins_more, due_more, kept_more, tied_moved}
+use Rattle.call_machine.proofs.Logs.{at_more, at_last, batches_more, batches_snoc, commits-snoc, handed_more, StageLogged, ReplyLogged, IsLogged, settled_more, logged_more, HasTurn, Keeps, Carries, carries_itself, Tied, IsRightNow, batches_count, begins_more, due_more, kept_more, tied_moved, validated_more}
 use Rattle.call_machine.proofs.PlainBook.{commit_place, never_full}
 use Rattle.call_machine.proofs.Journal.{sound_journal}
 
@@ -74,7 +74,7 @@ invokes log s n batch d t h i =
     let c : Call = record { number = n; batch = batch; stage = waiting; invoked = s.count + 1; turn = 0; replied = None } in
     let e : Event = Invoke n batch in
     let f : Happened = record { event = e; done = Invoked n } in
-    let now : IsRightNow log e (Invoked n) = record { begins = λ c q. cc; due = λ c place q. cc } in
+    let now : IsRightNow log e (Invoked n) = record { begins = λ c q. cc; validated = λ c place q. cc; due = λ c place q. cc } in
     let tied : Tied (log ++ f ∷ []) (record s { count = s.count + 1; calls = s.calls ++ c ∷ [] }) = record {
       count = length-append log (f ∷ []) ∙ ap (λ k. k + 1) h.count;
       logged = λ x v. ⊎_elim
@@ -84,6 +84,7 @@ invokes log s n batch d t h i =
       kept = kept_more log s.calls (s.calls ++ c ∷ []) s.count e (Invoked n) h.count h.kept (λ x v. (x, within_left s.calls (c ∷ []) x v, carries_itself x)) (c, within_right s.calls (c ∷ []) c (inl refl), refl, refl, refl);
       journal = subst (λ l. BatchesOf (log ++ f ∷ []) l s.journal) (sym (commits-snoc log f ∙ append-nil (commits_in log))) (batches_more log f (commits_in log) s.journal h.journal);
       begins = begins_more log e (Invoked n) h.begins now;
+      validated = validated_more log e (Invoked n) h.validated now;
       due = due_more log e (Invoked n) h.due now;
     } in
     subst (λ d. Tied (log ++ record { event = e; done = d } ∷ []) t) (sym i.answer) (subst (Tied (log ++ f ∷ [])) (sym i.after) tied)
@@ -112,6 +113,7 @@ begins log s n d t g h i =
     (none_entered log f (commits_in log) s.journal h.journal)
     (record {
       begins = λ c q. (status_at i.stage, let same : n ≡ c = cc in λ x. Begun (same x) (count x) (status_at i.stage));
+      validated = λ c place q. cc;
       due = λ c place q. cc;
     }))
 
@@ -135,7 +137,7 @@ steps log s n d t g h i =
       stage = subst (λ z. StageLogged (log ++ f ∷ []) z c) (sym i.stage_is) (logged_on (log ++ f ∷ []) i.call.batch (books_of (take i.base s.journal)) i.base (i.made + 1) c b.0 (at_more log f i.call.turn _ _ b.1));
       replied = none_logged (log ++ f ∷ []) i.call.replied c (not_replied s.count i.call k none);
     })
-    tt (none_entered log f (commits_in log) s.journal h.journal) (record { begins = λ c q. cc; due = λ c place q. cc }))
+    tt (none_entered log f (commits_in log) s.journal h.journal) (record { begins = λ c q. cc; validated = λ c place q. cc; due = λ c place q. cc }))
 
 -- the common parts of the three decisions on a commit
 decides : (log : List Happened) (s : MachineState) (n : ℕ) (t : MachineState) (r : Call) (base : ℕ) (stage : CallStage) (decision : Decision) (place : ℕ) (entry : List Batch) → Sound s → Tied log s → Within s.calls r → r.number ≡ n → r.stage ≡ ready base → t.count ≡ s.count + 1 → t.calls ≡ with_call (record r { stage = stage; turn = s.count + 1 }) s.calls → t.journal ≡ s.journal ++ entry → ((m : ℕ) → HasTurn stage (s.count + 1) m) → (EventAt (log ++ record { event = Commit n; done = Decided n decision place } ∷ []) (s.count + 1) (Commit n) (Decided n decision place) → StageLogged (log ++ record { event = Commit n; done = Decided n decision place } ∷ []) stage (record r { stage = stage; turn = s.count + 1 })) → Keeps t.calls (s.count + 1) (Commit n) (Decided n decision place) → BatchesOf (log ++ record { event = Commit n; done = Decided n decision place } ∷ []) (commits_in log ++ commit_of (Decided n decision place)) (s.journal ++ entry) → IsRightNow log (Commit n) (Decided n decision place) → Tied (log ++ record { event = Commit n; done = Decided n decision place } ∷ []) t
@@ -153,7 +155,7 @@ decides log s n t r base stage decision place entry g h w e q tc tl tj turn logg
     })
     keeps batches now
 
-commits_now : (log : List Happened) (s : MachineState) (n : ℕ) (d : Done) (t : MachineState) (r : Call) (base : ℕ) → Sound s → Tied log s → Within s.calls r → r.number ≡ n → r.stage ≡ ready base → CommitsNow s r d t → Tied (log ++ record { event = Commit n; done = d } ∷ []) t
+commits_now : (log : List Happened) (s : MachineState) (n : ℕ) (d : Done) (t : MachineState) (r : Call) (base : ℕ) → Sound s → Tied log s → Within s.calls r → r.number ≡ n → r.stage ≡ ready base → CommitsNow s r base d t → Tied (log ++ record { event = Commit n; done = d } ∷ []) t
 commits_now log s n d t r base g h w e q i =
     let place = length s.journal + 1 in
     let reply = reply_to r.batch (books_of s.journal) in
@@ -163,6 +165,17 @@ commits_now log s n d t r base g h w e q i =
     let a : d ≡ Decided n Committed place = i.answer ∙ ap (λ m. Decided m Committed place) e in
     let o = h.logged r w in
     let handed : HandedIn log n r.batch = (r.invoked, o.invoked.0, subst (λ m. EventAt log r.invoked (Invoke m r.batch) o.invoked.0) e o.invoked.1) in
+    let b : StageLogged log (ready base) r = subst (λ z. StageLogged log z r) q o.stage in
+    let validated : IsValidatedCommit log n place = record {
+      journal = s.journal;
+      journal_is = h.journal;
+      batch = r.batch;
+      handed_in = handed;
+      base = base;
+      began = (r.turn, b.0, subst (λ m. EventAt log r.turn (Begin m) (Begun m base b.0)) e b.1);
+      place_is = refl;
+      validated = i.validated;
+    } in
     let tl : t.calls ≡ with_call c s.calls = ap (λ (s : MachineState). s.calls) i.after in
     subst (λ d. Tied (log ++ record { event = Commit n; done = d } ∷ []) t) (sym a)
     (decides log s n t r base (committed reply) Committed place (r.batch ∷ []) g h w e q
@@ -170,7 +183,11 @@ commits_now log s n d t r base g h w e q i =
     (λ at. subst (λ m. EventAt (log ++ f ∷ []) (s.count + 1) (Commit r.number) (Decided r.number Committed m)) (sym p) (subst (λ m. EventAt (log ++ f ∷ []) (s.count + 1) (Commit m) (Decided m Committed place)) (sym e) at))
     (c, subst (λ l. Within l c) (sym tl) (within_new c s.calls r w refl), e, refl, reply, refl, p)
     (batches_snoc (log ++ f ∷ []) (commits_in log) s.journal n r.batch (batches_more log f (commits_in log) s.journal h.journal) (handed_more log f n r.batch handed))
-    (record { begins = λ c q. cc; due = λ c place x y. cc }))
+    (record {
+      begins = λ c q. cc;
+      validated = λ c m x y. let u : n ≡ c = cc in let v : place ≡ m = cc in subst (IsValidatedCommit log c) v (subst (λ k. IsValidatedCommit log k place) u validated);
+      due = λ c place x y. cc;
+    }))
 
 is_full : (log : List Happened) (s : MachineState) (n : ℕ) (d : Done) (t : MachineState) (r : Call) (base : ℕ) → Sound s → Tied log s → Within s.calls r → r.number ≡ n → r.stage ≡ ready base → IsFull s r d t → Tied (log ++ record { event = Commit n; done = d } ∷ []) t
 is_full log s n d t r base g h w e q i =
@@ -188,7 +205,7 @@ is_full log s n d t r base g h w e q i =
     (λ at. inr (i.limit, outcome, subst (λ m. EventAt (log ++ f ∷ []) (s.count + 1) (Commit r.number) (Decided r.number (Full i.limit) m)) (sym p) (subst (λ m. EventAt (log ++ f ∷ []) (s.count + 1) (Commit m) (Decided m (Full i.limit) place)) (sym e) at)))
     (c, subst (λ l. Within l c) (sym tl) (within_new c s.calls r w refl), e, refl, reply, refl)
     (none_entered log _ (commits_in log) s.journal h.journal)
-    (record { begins = λ c q. cc; due = λ c place x y. cc }))
+    (record { begins = λ c q. cc; validated = λ c place x y. cc; due = λ c place x y. cc }))
 
 conflicts : (log : List Happened) (s : MachineState) (n : ℕ) (d : Done) (t : MachineState) (r : Call) (base : ℕ) → Sound s → Tied log s → Within s.calls r → r.number ≡ n → r.stage ≡ ready base → Conflicts s r base d t → Tied (log ++ record { event = Commit n; done = d } ∷ []) t
 conflicts log s n d t r base g h w e q i =
@@ -216,6 +233,7 @@ conflicts log s n d t r base g h w e q i =
     (none_entered log _ (commits_in log) s.journal h.journal)
     (record {
       begins = λ c q. cc;
+      validated = λ c p x y. cc;
       due = λ c p x y. let u : n ≡ c = cc in let v : place ≡ p = cc in subst (IsDueConflict log c) v (subst (λ m. IsDueConflict log m place) u due);
     }))
 
@@ -244,7 +262,7 @@ replies log s n d t g h i =
       replied = (i.given, i.in_turn, subst (λ m. EventAt (log ++ f ∷ []) (s.count + 1) (ReplyEvent m) (Answered m i.given)) (sym w.1) (at_last log f s.count h.count));
     })
     (c, subst (λ l. Within l c) (sym tl) (within_new c s.calls i.call w.0 refl), w.1, refl, i.given, i.in_turn, refl)
-    (none_entered log f (commits_in log) s.journal h.journal) (record { begins = λ c q. cc; due = λ c place q. cc }))
+    (none_entered log f (commits_in log) s.journal h.journal) (record { begins = λ c q. cc; validated = λ c place q. cc; due = λ c place q. cc }))
   where
     stage_same : (log : List Happened) (f : Happened) (z : CallStage) (r : Call) (m : Option ℕ) → StageLogged log z r → StageLogged (log ++ f ∷ []) z (record r { replied = m })
     stage_same log f waiting r m t = tt
@@ -268,5 +286,6 @@ first_tied own_domain = record {
   kept = λ k h e. cc;
   journal = tt;
   begins = λ k c done e. cc;
+  validated = λ k c place e. cc;
   due = λ k c place e. cc;
 }

@@ -1,5 +1,5 @@
 -- The main theorem, for every list of events.
-use Rattle.std.proofs.Common.{List, [], ◌∷◌, ◌++◌, Ok, Err, refl, sym, ap, ◌∙◌, ⊎_elim, subst, append_assoc, Option, Some, None, ℕ, ◌≡◌, ◌↔◌}
+use Rattle.std.proofs.Common.{List, [], ◌∷◌, ◌++◌, Ok, Err, refl, sym, ap, ◌∙◌, ⊎_elim, subst, append_assoc, Option, Some, None, ℕ, ◌<◌, ◌≡◌, ◌↔◌, true}
 use Rattle.std.proofs.lemmas.List.{append-nil}
 use Rattle.entry_book.specs.Order.{Within}
 use Rattle.entry_book.specs.Batches.{Batch}
@@ -13,7 +13,8 @@ use Rattle.call_machine.specs.Schedules.{EventAnswer, EventAt, Happened, accepte
 use Rattle.call_machine.specs.Calls.{CallStage, waiting, running, ready, answered, committed, conflict, Call, MachineState, first_machine, answer_of}
 use Rattle.call_machine.specs.Known.{decided_of}
 use Rattle.call_machine.specs.Machine.{Runs}
-use Rattle.call_machine.specs.Laws.{CallsAreStamped, DecidedAt, HeadlineHolds, IsStamped, RepliesHeld, SettledAt}
+use Rattle.call_machine.specs.Laws.{CallsAreInOrder, CallsAreStamped, DecidedAt, FoundUnderNumber, HeadlineHolds, IsStamped, RepliesHeld, SettledAt}
+use Rattle.call_machine.proofs.Line.{is_begun}
 use Rattle.call_machine.proofs.Sound.{Sound}
 use Rattle.call_machine.proofs.Events.{accepts_sound, first_sound}
 use Rattle.call_machine.proofs.Logs.{HasTurn, Keeps, KeepsBegin, KeepsCommit, KeepsFull, KeepsInvoke, KeepsReply, ReplyLogged, StageLogged, Tied}
@@ -120,3 +121,26 @@ pub calls_are_stamped : CallsAreStamped
 calls_are_stamped own_domain events answers s c call r f =
     let h = runs_keep_invariant events answers [] (first_machine own_domain) s (record { sound = first_sound own_domain; tied = first_tied own_domain }) r in
     is_stamped (accepted events answers) s h call (call_within c s.calls call f).0
+
+-- ---- the order of these numbers
+
+pub found_under_number : FoundUnderNumber
+found_under_number calls n call f = (call_within n calls call f).1
+
+-- a decided call has begun and met no conflict, and its turn is the number of the event that decided it
+decided_begun : (g : CallStage) (turn n : ℕ) → decided_of g turn ≡ Some n → (is_begun g ≡ true) × (turn ≡ n)
+decided_begun waiting turn n e = absurd (cc)
+decided_begun (running base made) turn n e = absurd (cc)
+decided_begun (ready base) turn n e = absurd (cc)
+decided_begun (conflict place) turn n e = absurd (cc)
+decided_begun (answered r) turn n e = (refl, cc)
+decided_begun (committed r) turn n e = (refl, cc)
+
+pub calls_are_in_order : CallsAreInOrder
+calls_are_in_order own_domain events answers s c call r f =
+    let h = runs_keep_invariant events answers [] (first_machine own_domain) s (record { sound = first_sound own_domain; tied = first_tied own_domain }) r in
+    let k = h.sound.stamped call (call_within c s.calls call f).0 in
+    record {
+      decided = λ n e. let d = decided_begun call.stage call.turn n e in subst (λ i. call.invoked < i) d.1 (k.begun d.0).0;
+      replied = λ n m e q. let d = decided_begun call.stage call.turn n e in subst (λ i. i < m) d.1 ((k.over m q).2 d.0);
+    }

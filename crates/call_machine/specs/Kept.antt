@@ -28,7 +28,7 @@ use Rattle.call_events.specs.declared.event.EventRefusal.TheVariants.{NotNow, No
 use Rattle.call_machine.specs.declared.slot.Slot.{Slot}
 use Rattle.call_machine.specs.declared.slot.SlotState.{SlotState}
 use Rattle.call_machine.specs.declared.slot.SlotState.TheVariants.{Open, Over}
-use Rattle.call_machine.specs.Schedules.{EventAnswer, IsDue}
+use Rattle.call_machine.specs.Schedules.{EventAnswer, IsDue, IsValidated}
 use Rattle.call_machine.specs.Calls.{CallStage, waiting, running, ready, answered, committed, conflict, Call, MachineState, stage_settled, stage_after, status_at}
 use Rattle.call_machine.specs.Machine.{is_waiting, is_ready, is_running, is_over}
 
@@ -219,7 +219,8 @@ pub record SlotSteps (own_domain : Bytes) (items : List Item) (old : Slot) (mark
 -- ---- a commit
 
 -- the effect of each decision on the machine's journal, and on the call's stage
-pub record DecidesCommitted (journal : List Batch) (batch : Batch) (decision : Decision) (place : ℕ) (stage : CallStage) (after : List Batch) : Type 0 where
+pub record DecidesCommitted (journal : List Batch) (batch : Batch) (base : ℕ) (decision : Decision) (place : ℕ) (stage : CallStage) (after : List Batch) : Type 0 where
+  pub validated : IsValidated journal batch base
   pub commits : commits batch (books_of journal) ≡ true
   pub stage_is : stage ≡ committed (reply_to batch (books_of journal))
   pub decision_is : decision ≡ to.Committed
@@ -242,7 +243,7 @@ pub record DecidesConflict (journal : List Batch) (batch : Batch) (base : ℕ) (
   pub journal_is : after ≡ journal
 
 abbrev pub Decides : List Batch → Batch → ℕ → Decision → ℕ → CallStage → List Batch → Type 0
-Decides journal batch base decision place stage after = DecidesCommitted journal batch decision place stage after ⊎ (DecidesFull journal batch decision place stage after ⊎ DecidesConflict journal batch base decision place stage after)
+Decides journal batch base decision place stage after = DecidesCommitted journal batch base decision place stage after ⊎ (DecidesFull journal batch decision place stage after ⊎ DecidesConflict journal batch base decision place stage after)
 
 -- The new head has the same trust domain, and its whole journal: the old one's, perhaps with more items.
 pub record ExtendsJournal (old new : Head) : Type 0 where

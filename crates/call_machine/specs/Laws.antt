@@ -1,6 +1,6 @@
 -- The order that a machine returns, and the theorems on it and on runs. Each theorem is a clause of a function of the module
 -- `laws`.
-use Rattle.std.specs.Prelude.{◌≡◌, ◌↔◌, ◌⊎◌, ℕ, ◌+◌, ◌≤◌, Bool, true, false, ⊤, List, [], ◌∷◌, ◌++◌, filter, map, Option, Some, None, Err, is_some}
+use Rattle.std.specs.Prelude.{◌≡◌, ◌↔◌, ◌⊎◌, ℕ, ◌+◌, ◌≤◌, ◌<◌, Bool, true, false, ⊤, List, [], ◌∷◌, ◌++◌, filter, map, Option, Some, None, Err, is_some}
 use Rattle.std.specs.List.Sorted.{IsPermutation, IsNonDecreasingBy}
 use Rattle.entry_book.specs.declared.limit.Limit.{Limit}
 use Rattle.entry_book.specs.declared.reply.ReplyOutcome.TheVariants.{Refused}
@@ -84,6 +84,19 @@ pub record IsStamped (log : List Happened) (call : Call) : Type 0 where
 -- after every run, each call has exactly the numbers of its events
 abbrev pub CallsAreStamped : Type 0
 CallsAreStamped = (own_domain : Bytes) (events : List Event) (answers : List EventAnswer) (s : MachineState) (c : ℕ) (call : Call) → Runs (first_machine own_domain) events answers s → call_at c s.calls ≡ Some call → IsStamped (accepted events answers) call
+
+-- a call that is found under a number has this number
+abbrev pub FoundUnderNumber : Type 0
+FoundUnderNumber = (calls : List Call) (n : ℕ) (call : Call) → call_at n calls ≡ Some call → call.number ≡ n
+
+-- The call's invoke has a smaller accepted number than the event that decided it, and that event a smaller one than its reply.
+pub record HasEventsInOrder (call : Call) : Type 0 where
+  pub decided : (n : ℕ) → decided_of call.stage call.turn ≡ Some n → call.invoked < n
+  pub replied : (n m : ℕ) → decided_of call.stage call.turn ≡ Some n → call.replied ≡ Some m → n < m
+
+-- after every run, so it is with each call
+abbrev pub CallsAreInOrder : Type 0
+CallsAreInOrder = (own_domain : Bytes) (events : List Event) (answers : List EventAnswer) (s : MachineState) (c : ℕ) (call : Call) → Runs (first_machine own_domain) events answers s → call_at c s.calls ≡ Some call → HasEventsInOrder call
 
 -- ---- how a run continues
 

@@ -20,7 +20,7 @@ use Rattle.call_answers.specs.declared.answer.CallAnswer.{CallAnswer}
 use Rattle.call_events.specs.declared.event.EventRefusal.{EventRefusal}
 use Rattle.call_events.specs.declared.event.EventRefusal.TheVariants.{CallTaken, UnknownCall, NotNow, TooManyCalls, NoMemory}
 use Rattle.call_events.specs.declared.event.RefusedEvent.{RefusedEvent}
-use Rattle.call_machine.specs.Schedules.{EventAnswer, IsDue}
+use Rattle.call_machine.specs.Schedules.{EventAnswer, IsDue, IsValidated}
 use Rattle.call_machine.specs.Calls.{CallStage, waiting, running, ready, answered, committed, conflict, Call, MachineState, answer_of, call_at, moved, status_at, stage_after}
 
 -- each of the events may be submitted for this trust domain
@@ -61,8 +61,10 @@ pub record Steps (s : MachineState) (n : ℕ) (done : Done) (t : MachineState) :
   pub answer : done ≡ Stepped n mark (status_at stage)
   pub after : t ≡ moved (record call { stage = stage }) s
 
--- without a conflict, the decision is that of the plain book on the newest books: the batch is committed, or a limit refuses it
-pub record CommitsNow (s : MachineState) (call : Call) (done : Done) (t : MachineState) : Type 0 where
+-- Without a conflict, the decision is that of the plain book on the newest books: the batch is committed, or a limit refuses it. A
+-- batch is committed only if it reads the same on the newest book as on that of its begin.
+pub record CommitsNow (s : MachineState) (call : Call) (base : ℕ) (done : Done) (t : MachineState) : Type 0 where
+  pub validated : IsValidated s.journal call.batch base
   pub commits : commits call.batch (books_of s.journal) ≡ true
   pub answer : done ≡ Decided call.number is.Committed (length s.journal + 1)
   pub after : t ≡ record (moved (record call { stage = committed (reply_to call.batch (books_of s.journal)); turn = s.count + 1 }) s) { journal = s.journal ++ call.batch ∷ [] }
@@ -86,7 +88,7 @@ pub record Commits (s : MachineState) (n : ℕ) (done : Done) (t : MachineState)
   pub found : call_at n s.calls ≡ Some call
   pub base : ℕ
   pub in_turn : call.stage ≡ ready base
-  pub decision : CommitsNow s call done t ⊎ (IsFull s call done t ⊎ Conflicts s call base done t)
+  pub decision : CommitsNow s call base done t ⊎ (IsFull s call done t ⊎ Conflicts s call base done t)
 
 -- the reply of call n, once
 pub record Replies (s : MachineState) (n : ℕ) (done : Done) (t : MachineState) : Type 0 where

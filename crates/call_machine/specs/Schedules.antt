@@ -9,7 +9,7 @@ use Rattle.entry_book.specs.Book.{Book}
 use Rattle.entry_book.specs.Batches.{Batch}
 use Rattle.entry_book.specs.History.{first_books, books_of, books_after, reply_to, is_committed}
 use Rattle.batch_work.specs.Reads.{footprint_of}
-use Rattle.commit_head.specs.Outcomes.{IsHitSince}
+use Rattle.commit_head.specs.Outcomes.{IsHitSince, IsUnchangedSince}
 use Rattle.batch_work.specs.declared.status.Status.{Status}
 use Rattle.call_events.specs.declared.event.Event.{Event}
 use Rattle.call_events.specs.declared.event.Event.TheVariants.{Invoke, Begin, Commit}
@@ -141,7 +141,7 @@ CountsCommits log c done = (status : Status) × (done ≡ Begun c (length (commi
 abbrev pub BeginsCountCommits : List Happened → Type 0
 BeginsCountCommits log = (k c : ℕ) (done : Done) → slice_get log k ≡ Some (record { event = Begin c; done = done }) → CountsCommits (take k log) c done
 
--- ---- conflicts
+-- ---- conflicts and commits
 
 -- these are the batches of these calls, in the same order
 abbrev pub BatchesOf : List Happened → List ℕ → List Batch → Type 0
@@ -171,6 +171,26 @@ pub record IsDueConflict (log : List Happened) (c place : ℕ) : Type 0 where
 abbrev pub ConflictsAreDue : List Happened → Type 0
 ConflictsAreDue log = (k c place : ℕ) → slice_get log k ≡ Some (record { event = Commit c; done = Decided c is.Conflict place }) → IsDueConflict (take k log) c place
 
+-- After these committed batches, the last book reads the same as book `base` at each mark of the footprint of `batch` on `base`.
+abbrev pub IsValidated : List Batch → Batch → ℕ → Type 0
+IsValidated journal batch base = IsUnchangedSince journal base (footprint_of batch (books_of (take base journal)))
+
+-- After these accepted events, all that the call's batch read on the book on which the call began is unchanged, and the call may be
+-- committed at this place. The journal has the batches of the calls committed so far.
+pub record IsValidatedCommit (log : List Happened) (c place : ℕ) : Type 0 where
+  pub journal : List Batch
+  pub journal_is : BatchesOf log (commits_in log) journal
+  pub batch : Batch
+  pub handed_in : HandedIn log c batch
+  pub base : ℕ
+  pub began : BeganOnBook log c base
+  pub place_is : place ≡ length journal + 1
+  pub validated : IsValidated journal batch base
+
+-- what each committed batch read is unchanged after the events before its commit
+abbrev pub CommitsAreValidated : List Happened → Type 0
+CommitsAreValidated log = (k c place : ℕ) → slice_get log k ≡ Some (record { event = Commit c; done = Decided c is.Committed place }) → IsValidatedCommit (take k log) c place
+
 -- a call whose commit was a conflict is not listed
 abbrev pub ConflictsAreOver : List Happened → Type 0
 ConflictsAreOver log = (n c place : ℕ) → EventAt log n (Commit c) (Decided c is.Conflict place) → IsListed log c → ⊥
@@ -186,14 +206,15 @@ abbrev pub OneBatch : List Happened → Type 0
 OneBatch log = (c : ℕ) (batch other : Batch) → HandedIn log c batch → HandedIn log c other → batch ≡ other
 
 -- Each call has one batch. The order is serial, legal and strict. The answer to each begin has the number of batches committed
--- before it. Each conflict is due since the begin of its call, and that call is not listed. A call replies with a conflict only
--- if its commit was one.
+-- before it. A committed batch reads the same on the last book before its commit as on the book on which its call began. Each
+-- conflict is due since the begin of its call, and that call is not listed. A call replies with a conflict only if its commit was one.
 pub record Headline (log : List Happened) (order : List ℕ) : Type 0 where
   pub one_batch : OneBatch log
   pub serial : IsSerial log order
   pub legal : IsLegal log order
   pub strict : IsStrict log order
   pub begins : BeginsCountCommits log
+  pub validated : CommitsAreValidated log
   pub conflicts : ConflictsAreDue log
   pub over : ConflictsAreOver log
   pub met : ConflictsWereMet log

@@ -1,5 +1,5 @@
 -- Journals: where their items lead, in relation to the list of all books.
-use Rattle.std.proofs.Common.{◌≡◌, ℕ, ◌+◌, ◌-◌, ◌≤◌, ◌^◌, List, [], ◌∷◌, ◌++◌, length, take, refl, sym, ap, subst, ◌∙◌, arith}
+use Rattle.std.proofs.Common.{◌≡◌, ℕ, ◌+◌, ◌-◌, List, [], ◌∷◌, ◌++◌, length, take, refl, sym, ap, subst, ◌∙◌, arith}
 use Rattle.std.proofs.lemmas.List.{append_assoc, map-append, take-append-drop}
 use Rattle.entry_book.specs.declared.reply.Reply.{Reply}
 use Rattle.entry_book.specs.Rows.{Bytes}
@@ -16,7 +16,7 @@ use Rattle.batch_work.proofs.Windows.{window_begins, window_extends, window_last
 use Rattle.commit_head.specs.declared.item.Item.{Item}
 use Rattle.commit_head.specs.Heads.{IsPreparedFor, HasJournal, Head, IsJournal, Prepared, last_items, newest_of}
 use Rattle.commit_head.specs.Journals.{Joins, Leads, batches_of, committed_after, empty_version}
-use Rattle.commit_head.specs.Laws.{ItemsFollow, JoinsOnBooks, JournalBegins, JournalExtends, JournalIsLawful, JournalLast, LeadsInParts, LeadsToOne}
+use Rattle.commit_head.specs.Laws.{ItemsFollow, JoinsOnBooks, JournalBegins, JournalBounded, JournalExtends, JournalIsLawful, JournalLast, LeadsFurther, LeadsInParts, LeadsToOne}
 
 pub commits : (item : Item) (s : VersionState) → Joins item s → CommitsOn item.batch s
 commits item s j = record { made = j.made; replies = item.replies; added = j.added }
@@ -32,7 +32,7 @@ leads_count (item ∷ items) s t l = let k = leads_count items (version_with ite
 pub items_follow : ItemsFollow
 items_follow items older newer l = record { follows = leads_follow items older newer l; count = leads_count items older newer l }
 
-pub leads_more : (items : List Item) (item : Item) (s t : VersionState) → Leads s items t → Joins item t → Leads s (items ++ item ∷ []) (version_with item.batch t)
+pub leads_more : LeadsFurther
 leads_more [] item s t l j = (subst (Joins item) (sym l) j, ap (version_with item.batch) l)
 leads_more (i ∷ is) item s t l j = (l.0, leads_more is item (version_with i.batch s) t l.1 j)
 
@@ -123,7 +123,7 @@ journal_is_lawful own_domain items s l once =
 
 -- ---- the number of commits
 
-pub low : (items : List Item) (h : Head) → IsJournal items h → h.window.newest.number ≤ 2 ^ 48
+pub low : JournalBounded
 low items h k =
     let own_domain = h.window.newest.domain in
     let follows = leads_follow items (empty_version own_domain) h.window.newest k.leads in

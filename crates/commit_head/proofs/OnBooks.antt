@@ -1,6 +1,7 @@
 -- What the outcome of a commit means for the list of all books of the head's journal.
 use Rattle.std.proofs.Common.{◌≡◌, ℕ, ◌+◌, List, ◌∷◌, ◌++◌, length, length-append, take, drop, Some, None, refl, sym, ap, subst, ◌∙◌, arith}
-use Rattle.std.proofs.lemmas.List.{append_assoc, length-map, map-append, take-append-drop}
+use Rattle.std.specs.List.{AllByRecursion}
+use Rattle.std.proofs.lemmas.List.{append_assoc, length-map, map-append, take-append-drop, take-map}
 use Rattle.entry_book.specs.declared.limit.Limit.{Limit}
 use Rattle.entry_book.specs.declared.reply.ReplyOutcome.TheVariants.{Committed as WasCommitted, Refused as WasRefused}
 use Rattle.entry_book.specs.declared.reply.Refusal.TheVariants.{Full as TooMuch}
@@ -11,8 +12,9 @@ use Rattle.entry_book.specs.History.{CommitAll, books_after, books_from, books_o
 use Rattle.entry_book.proofs.Histories.{count_of_books}
 use Rattle.entry_book.proofs.PastPages.{changes_newest}
 use Rattle.entry_book.proofs.Sets.{from_any}
-use Rattle.version_book.specs.CommittedRows.{VersionState, book_of}
-use Rattle.version_book.specs.History.{IsLast, SomeHit, any_hits, writes_of}
+use Rattle.version_book.specs.CommittedRows.{book_of}
+use Rattle.version_book.specs.History.{SomeHit, any_hits, writes_of}
+use Rattle.version_book.specs.Marks.{Agree}
 use Rattle.version_book.proofs.Batches.{books_join, commits_join}
 use Rattle.version_book.proofs.Histories.{books_follow, verdict_last}
 use Rattle.version_book.proofs.Writers.{hits_in_books}
@@ -24,27 +26,22 @@ use Rattle.batch_work.proofs.Cases.{waits}
 use Rattle.batch_work.proofs.Ready.{ready_has_read}
 use Rattle.commit_head.specs.declared.commit.Commit.TheVariants.{Conflict, Full, Committed, NoMemory}
 use Rattle.commit_head.specs.declared.item.Item.{Item}
-use Rattle.commit_head.specs.Heads.{Head, IsCommitted, IsDueOnVersions, IsJournal, newest_of, head_place}
+use Rattle.commit_head.specs.Heads.{Head, IsCommitted, IsDueOnVersions, IsJournal, ReadsAreUnchanged, newest_of, head_place}
 use Rattle.commit_head.specs.Journals.{Leads, batches_of, empty_version}
-use Rattle.commit_head.specs.Outcomes.{CommitOnBooks, CommitsOnBooks, IsHitSince}
+use Rattle.commit_head.specs.Laws.{BatchesJoin, CountOfBatches, LeadsOnBooks}
+use Rattle.commit_head.specs.Outcomes.{CommitOnBooks, CommitsOnBooks, IsHitSince, IsReadyOn, IsUnchangedSince}
 use Rattle.commit_head.proofs.Begun.{began_inside, journal_kept}
 use Rattle.commit_head.proofs.Journals.{items_follow, joins_on_books, journal_extends, journal_last}
 
 -- ---- items and batches
 
-pub count_of_batches : (items : List Item) → length (batches_of items) ≡ length items
+pub count_of_batches : CountOfBatches
 count_of_batches items = length-map items (λ item. item.batch)
 
-pub batches_join : (items more : List Item) → batches_of (items ++ more) ≡ batches_of items ++ batches_of more
+pub batches_join : BatchesJoin
 batches_join items more = map-append (λ item. item.batch) items more
 
--- A version to which items lead from the first one has the last of the books of their batches, and each of them commits.
-pub record LedTo (items : List Item) (s : VersionState) : Type 0 where
-  pub commit : CommitAll first_books (batches_of items)
-  pub last : IsLast s (books_of (batches_of items))
-  pub number : s.number ≡ length items
-
-pub led_to : (own_domain : Bytes) (items : List Item) (s : VersionState) → Leads (empty_version own_domain) items s → LedTo items s
+pub led_to : LeadsOnBooks
 led_to own_domain items s l =
     let f = items_follow items (empty_version own_domain) s l in
     let b = books_follow (batches_of items) (empty_version own_domain) s first_books (omega arith) refl refl f.follows in
@@ -106,8 +103,17 @@ asks_newest own_domain w made ready =
     let read = ready_has_read own_domain w made ready in
     changes_newest own_domain w.batch made (waits w.batch (case_on w.batch (book_in read.base.newest)) read.awaits).2
 
-committed_on_books : (items : List Item) (old new : Head) (seat call : ℕ) (w : Work) (n : ℕ) → IsJournal items old → IsCommitted old seat call w n new → CommitsOnBooks items seat call w n new
-committed_on_books items old new seat call w n k c =
+-- what is unchanged between the version on which a work began and the newest one is unchanged on the journal's books
+unchanged_on_books : (items : List Item) (h : Head) (batch : Batch) (base : Base) → IsJournal items h → Leads (empty_version h.window.newest.domain) (take base.newest.number items) base.newest → ReadsAreUnchanged (Some base) batch (book_of (newest_of h).rows) → IsUnchangedSince (batches_of items) base.newest.number (footprint_there batch base)
+unchanged_on_books items h batch base k leads same =
+    let n = base.newest.number in
+    let began : last_book (books_of (take n (batches_of items))) ≡ book_of base.newest.rows = ap (λ l. last_book (books_of l)) (take-map (λ (item : Item). item.batch) n items) ∙ (led_to h.window.newest.domain (take n items) base.newest leads).last.book in
+    let now : last_book (books_of (batches_of items)) ≡ book_of (newest_of h).rows = (journal_last items h k).book in
+    subst (λ b. AllByRecursion (Agree b (last_book (books_of (batches_of items)))) (footprint_there batch base)) (sym began)
+    (subst (λ b. AllByRecursion (Agree (book_of base.newest.rows) b) (footprint_there batch base)) (sym now) same)
+
+committed_on_books : (items : List Item) (old new : Head) (seat call : ℕ) (w : Work) (base : Base) (n : ℕ) → IsJournal items old → IsReadyOn old.window.newest.domain items w base → IsCommitted old seat call w n new → CommitsOnBooks items seat call w base n new
+committed_on_books items old new seat call w base n k r c =
     let on = joins_on_books items c.item old k c.joins in
     let batch : c.item.batch ≡ w.batch = c.of_work.batch_is in
     let number = (led_to old.window.newest.domain items (newest_of old) k.leads).number in
@@ -115,13 +121,14 @@ committed_on_books items old new seat call w n k c =
       item = c.item;
       of_work = c.of_work;
       number = let m = c.number in omega arith;
+      validated = unchanged_on_books items old w.batch base k r.leads (subst (λ o. ReadsAreUnchanged o w.batch (book_of (newest_of old).rows)) r.base_is c.validated);
       reply = ap (λ b. reply_to b (books_of (batches_of items))) (sym batch) ∙ (on.reply ∙ ap (λ m. record { place = m; outcome = WasCommitted c.item.replies }) (sym c.number));
       books = ap (λ b. books_after b (books_of (batches_of items))) (sym batch) ∙ on.books;
       journal = journal_extends items c.item old new k c.joins c.appended;
     }
 
 pub commit_on_books : CommitOnBooks
-commit_on_books items old seat call w base (Committed n) new k r c = committed_on_books items old new seat call w n k c
+commit_on_books items old seat call w base (Committed n) new k r c = committed_on_books items old new seat call w base n k r c
 commit_on_books items old seat call w base (Full limit n) new k r c =
     let number = (led_to old.window.newest.domain items (newest_of old) k.leads).number in (
       c.1.0 ∙ number,

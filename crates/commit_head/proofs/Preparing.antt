@@ -28,7 +28,7 @@ use Rattle.batch_work.specs.Laws.{ResultsIn, HasRead}
 use Rattle.batch_work.proofs.Batches.{commit_check}
 use Rattle.batch_work.proofs.Ready.{ready_has_read}
 use Rattle.commit_head.specs.declared.item.Item.{Item}
-use Rattle.commit_head.specs.Heads.{IsPreparedFor, BeganBefore, IsDueOnVersions}
+use Rattle.commit_head.specs.Heads.{IsPreparedFor, BeganBefore, IsDueOnVersions, ReadsAreUnchanged}
 use Rattle.commit_head.specs.Journals.{Leads, Agrees, batches_of}
 use Rattle.commit_head.proofs.Journals.{leads_count}
 
@@ -131,6 +131,18 @@ due newest kept w made ready start start_is marks marks_are hit =
     subst (λ b. IsDueOnVersions b w.batch newest kept) (sym read.base_is)
     (λ items l a. subst (λ ms. list_any (λ m. any_hits m read.base.newest (batches_of items)) ms ≡ true) all
     (subst (λ s. list_any (λ m. any_hits m s (batches_of items)) marks ≡ true) same (hit items (subst (λ s. Leads s items newest) (sym same) l) a)))
+
+-- what a commit's work has read is unchanged
+pub validated : (newest : VersionState) (kept : List Item) (w : Work) → IsMadeFor newest.domain w.batch → status_of w ≡ Ready → BeganBefore w.base newest kept → (start : VersionState) → option_map (λ b. b.newest) w.base ≡ Some start → (marks : List MarkKind) → marks ≡ marks_so_far w → ((items : List Item) → Leads start items newest → Agrees items kept → AllByRecursion (Agree (book_of start.rows) (book_of newest.rows)) marks) → ReadsAreUnchanged w.base w.batch (book_of newest.rows)
+validated newest kept w made ready began start start_is marks marks_are agree =
+    let read = ready_has_read newest.domain w made ready in
+    let same : start ≡ read.base.newest = newest_base w.base read.base start read.base_is start_is in
+    let all : marks ≡ footprint_there w.batch read.base = marks_are ∙ read.all_read in
+    let there : BeganBefore (Some read.base) newest kept = subst (λ b. BeganBefore b newest kept) read.base_is began in
+    let unchanged = agree there.0 (subst (λ s. Leads s there.0 newest) (sym same) there.1) there.2 in
+    subst (λ b. ReadsAreUnchanged b w.batch (book_of newest.rows)) (sym read.base_is)
+    (subst (AllByRecursion (Agree (book_of read.base.newest.rows) (book_of newest.rows))) all
+    (subst (λ s. AllByRecursion (Agree (book_of s.rows) (book_of newest.rows)) marks) same unchanged))
 
 -- the batch was made for the newest version's trust domain
 pub made_there : (newest : VersionState) (batch : Batch) → batch.domain ≡ newest.domain → IsMadeFor batch.domain batch → IsMadeFor newest.domain batch

@@ -1,11 +1,13 @@
 -- What a head is, and what a commit does to it.
 use Rattle.std.specs.Prelude.{◌≡◌, ⊤, ℕ, ◌+◌, ◌-◌, ◌<◌, ◌≤◌, true, List, [], ◌∷◌, ◌++◌, drop, length, nat_lt, slice_get, Option, Some, None, if◌then◌else◌}
-use Rattle.std.specs.List.{list_any}
+use Rattle.std.specs.List.{AllByRecursion, list_any}
 use Rattle.entry_book.specs.declared.reply.Refusal.TheVariants.{Full as TooMuch}
+use Rattle.entry_book.specs.Book.{Book}
 use Rattle.entry_book.specs.Batches.{Batch}
 use Rattle.entry_book.specs.History.{verdict, refuses, books_of}
 use Rattle.version_book.specs.CommittedRows.{VersionState, book_of}
 use Rattle.version_book.specs.History.{any_hits, version_with}
+use Rattle.version_book.specs.Marks.{Agree}
 use Rattle.batch_work.specs.Windows.{Window, WindowRepresents, pushed}
 use Rattle.batch_work.specs.Working.{Base, Work, HasReplies, HasWrites, footprint_there}
 use Rattle.commit_head.specs.declared.commit.Commit.{Commit}
@@ -97,6 +99,11 @@ abbrev pub IsDueOnVersions : Option Base → Batch → VersionState → List Ite
 IsDueOnVersions None batch newest kept = ⊥
 IsDueOnVersions (Some base) batch newest kept = (items : List Item) → Leads base.newest items newest → Agrees items kept → list_any (λ m. any_hits m base.newest (batches_of items)) (footprint_there batch base) ≡ true
 
+-- At each mark of the batch's footprint on its base, this book reads the same as the book on which the work began.
+abbrev pub ReadsAreUnchanged : Option Base → Batch → Book → Type 0
+ReadsAreUnchanged None batch now = ⊥
+ReadsAreUnchanged (Some base) batch now = AllByRecursion (Agree (book_of base.newest.rows) now) (footprint_there batch base)
+
 -- why a ready work isn't committed on this version, with these retained items; running out of memory is always allowed
 abbrev pub IsRefusal : VersionState → List Item → Work → Commit → Type 0
 IsRefusal newest kept w (Conflict n) = (n ≡ newest.number) × IsDueOnVersions w.base w.batch newest kept
@@ -112,10 +119,11 @@ BeganOn base h = BeganBefore base (newest_of h) h.kept
 abbrev pub IsRefused : Head → Work → Commit → Type 0
 IsRefused h w c = IsRefusal (newest_of h) h.kept w c
 
--- The batch is committed: its item joins the newest version and is appended.
+-- The batch is committed: what it read is unchanged on the newest version, and its item joins that version and is appended.
 pub record IsCommitted (old : Head) (seat call : ℕ) (w : Work) (n : ℕ) (new : Head) : Type 0 where
   pub item : Item
   pub of_work : IsItemOf seat call w item
+  pub validated : ReadsAreUnchanged w.base w.batch (book_of (newest_of old).rows)
   pub joins : Joins item (newest_of old)
   pub number : n ≡ head_place old + 1
   pub appended : IsAppended old item new

@@ -3,9 +3,9 @@ use Rattle.std.specs.Prelude.{◌≡◌, ℕ, ◌+◌, ◌≤◌, ◌^◌, List,
 use Rattle.entry_book.specs.Rows.{Bytes}
 use Rattle.entry_book.specs.declared.reply.ReplyOutcome.TheVariants.{Committed}
 use Rattle.entry_book.specs.Batches.{Batch, IsMadeFor}
-use Rattle.entry_book.specs.History.{books_after, books_of, reply_to}
+use Rattle.entry_book.specs.History.{CommitAll, books_after, books_of, first_books, reply_to}
 use Rattle.version_book.specs.CommittedRows.{VersionState}
-use Rattle.version_book.specs.History.{Follows, IsLast}
+use Rattle.version_book.specs.History.{Follows, IsLast, version_with}
 use Rattle.batch_work.specs.Reads.{footprint_of}
 use Rattle.batch_work.specs.Working.{Base}
 use Rattle.commit_head.specs.declared.item.Item.{Item}
@@ -20,6 +20,29 @@ pub record AreBatches (older : VersionState) (items : List Item) (newer : Versio
 -- if items lead from one version to another, so do their batches
 abbrev pub ItemsFollow : Type 0
 ItemsFollow = (items : List Item) (older newer : VersionState) → Leads older items newer → AreBatches older items newer
+
+-- after one more item, which joins the newer version, they lead to the version after it
+abbrev pub LeadsFurther : Type 0
+LeadsFurther = (items : List Item) (item : Item) (older newer : VersionState) → Leads older items newer → Joins item newer → Leads older (items ++ item ∷ []) (version_with item.batch newer)
+
+-- a journal has one batch for each item
+abbrev pub CountOfBatches : Type 0
+CountOfBatches = (items : List Item) → length (batches_of items) ≡ length items
+
+-- the batches of two lists of items joined are those of the first, then those of the second
+abbrev pub BatchesJoin : Type 0
+BatchesJoin = (first second : List Item) → batches_of (first ++ second) ≡ batches_of first ++ batches_of second
+
+-- A version to which items lead from the first one has the last of the books of their batches, and each of them commits. Its
+-- number is how many there are.
+pub record LedTo (items : List Item) (s : VersionState) : Type 0 where
+  pub commit : CommitAll first_books (batches_of items)
+  pub last : IsLast s (books_of (batches_of items))
+  pub number : s.number ≡ length items
+
+-- so it is with each such version
+abbrev pub LeadsOnBooks : Type 0
+LeadsOnBooks = (own_domain : Bytes) (items : List Item) (s : VersionState) → Leads (empty_version own_domain) items s → LedTo items s
 
 -- a new head's journal has no items
 abbrev pub JournalBegins : Type 0
@@ -46,6 +69,10 @@ JoinsOnBooks = (items : List Item) (item : Item) (h : Head) → IsJournal items 
 -- the newest version has the last book of the journal, and its number
 abbrev pub JournalLast : Type 0
 JournalLast = (items : List Item) (h : Head) → IsJournal items h → IsLast (newest_of h) (books_of (batches_of items))
+
+-- and this number is at most 2^48
+abbrev pub JournalBounded : Type 0
+JournalBounded = (items : List Item) (h : Head) → IsJournal items h → h.window.newest.number ≤ 2 ^ 48
 
 -- if no two items have the same seat and call, a journal is lawful
 abbrev pub JournalIsLawful : Type 0

@@ -1,5 +1,6 @@
 -- The outcome of a commit, in terms of the specification.
 use Rattle.std.specs.Prelude.{◌≡◌, ℕ, ◌+◌, ◌≤◌, true, List, [], ◌∷◌, ◌++◌, length, take, Some}
+use Rattle.std.specs.List.{AllByRecursion}
 use Rattle.entry_book.specs.declared.reply.ReplyOutcome.TheVariants.{Committed as WasCommitted, Refused as WasRefused}
 use Rattle.entry_book.specs.declared.reply.Refusal.TheVariants.{Full as TooMuch}
 use Rattle.entry_book.specs.Rows.{Bytes}
@@ -9,7 +10,7 @@ use Rattle.entry_book.specs.Batches.{Batch, IsMadeFor}
 use Rattle.entry_book.specs.History.{books_after, books_of, last_book, reply_to}
 use Rattle.version_book.specs.declared.mark.MarkKind.{MarkKind}
 use Rattle.version_book.specs.History.{writes_of}
-use Rattle.version_book.specs.Marks.{hits}
+use Rattle.version_book.specs.Marks.{Agree, hits}
 use Rattle.batch_work.specs.declared.status.Status.TheVariants.{Ready}
 use Rattle.batch_work.specs.Working.{Base, Work, footprint_there, status_of}
 use Rattle.commit_head.specs.declared.commit.Commit.{Commit}
@@ -32,6 +33,10 @@ pub record IsHitSince (journal : List Batch) (base : ℕ) (marks : List MarkKind
   pub is_made : Within (writes_of other (length before + 1) (last_book (books_of before))) write
   pub hit : hits write mark ≡ true
 
+-- At each of these marks, the last book after these committed batches reads the same as book `base`.
+abbrev pub IsUnchangedSince : List Batch → ℕ → List MarkKind → Type 0
+IsUnchangedSince journal base marks = AllByRecursion (Agree (last_book (books_of (take base journal))) (last_book (books_of journal))) marks
+
 -- The work is ready, its batch was made for the trust domain, and it began on a version. The first items of this journal, as
 -- many as the version's number, lead to that version.
 pub record IsReadyOn (own_domain : Bytes) (items : List Item) (w : Work) (base : Base) : Type 0 where
@@ -40,21 +45,23 @@ pub record IsReadyOn (own_domain : Bytes) (items : List Item) (w : Work) (base :
   pub base_is : w.base ≡ Some base
   pub leads : Leads (empty_version own_domain) (take base.newest.number items) base.newest
 
--- The specification commits the batch as the next book, with the replies of an item made from the work. The head's journal is
--- longer by this item.
-pub record CommitsOnBooks (items : List Item) (seat call : ℕ) (w : Work) (n : ℕ) (new : Head) : Type 0 where
+-- The specification commits the batch as the next book, with the replies of an item made from the work. What the work has read is
+-- the same on the last book as on the one on which it began. The head's journal is longer by this item.
+pub record CommitsOnBooks (items : List Item) (seat call : ℕ) (w : Work) (base : Base) (n : ℕ) (new : Head) : Type 0 where
   pub item : Item
   pub of_work : IsItemOf seat call w item
   pub number : n ≡ length items + 1
+  pub validated : IsUnchangedSince (batches_of items) base.newest.number (footprint_there w.batch base)
   pub reply : reply_to w.batch (books_of (batches_of items)) ≡ record { place = n; outcome = WasCommitted item.replies }
   pub books : books_after w.batch (books_of (batches_of items)) ≡ books_of (batches_of (items ++ item ∷ []))
   pub journal : IsJournal (items ++ item ∷ []) new
 
--- If the outcome is `Committed`, the specification commits the batch on the books of this journal. If it is `Full`, the
--- specification refuses the batch there for the same limit. If it is a conflict, a batch that was committed since the work
--- began has a write that hits what the work has read. If the batch isn't committed, the journal is unchanged.
+-- If the outcome is `Committed`, what the work has read is the same now, and the specification commits the batch on the books of this
+-- journal. If it is `Full`, the specification refuses the batch there for the same limit. If it is a conflict, a batch that was
+-- committed since the work began has a write that hits what the work has read. If the batch isn't committed, the journal is
+-- unchanged.
 abbrev pub AnswersOnBooks : List Item → ℕ → ℕ → Work → Base → Commit → Head → Type 0
-AnswersOnBooks items seat call w base (Committed n) new = CommitsOnBooks items seat call w n new
+AnswersOnBooks items seat call w base (Committed n) new = CommitsOnBooks items seat call w base n new
 AnswersOnBooks items seat call w base (Full limit n) new = (n ≡ length items) × (reply_to w.batch (books_of (batches_of items)) ≡ record { place = n; outcome = WasRefused (TooMuch limit) }) × IsJournal items new
 AnswersOnBooks items seat call w base (Conflict n) new = (n ≡ length items) × IsHitSince (batches_of items) base.newest.number (footprint_there w.batch base) × IsJournal items new
 AnswersOnBooks items seat call w base NoMemory new = IsJournal items new

@@ -73,10 +73,10 @@ fn move_older(items: &mut Vec<Item>, older: &mut Vec<Item>)
 /// each commit, of which a checkpoint drops all but the last 64.
 ///
 /// A reader gets a clone of the window, and begins on it without the head. A writer first prepares a commit, which checks
-/// what the work has read and allocates all memory, and then finishes it, which allocates none. If at most 63 items were
-/// added since the work began, and all are retained, the check looks at their writes. Otherwise it compares the rows of
-/// both versions at each mark. A commit costs this check and the version's `apply`. The caller ensures that no seat commits
-/// a call twice.
+/// that what the work has read is unchanged and allocates all memory, and then finishes it, which allocates none. If at
+/// most 63 items were added since the work began, and all are retained, the check looks at their writes. Otherwise it
+/// compares the rows of both versions at each mark. A commit costs this check and the version's `apply`. The caller ensures
+/// that no seat commits a call twice.
 #[derive(Drop)]
 pub struct Head {
     window: Window,
@@ -105,8 +105,9 @@ impl Model for Head {
 impl Head {
     ghost use Rattle.std.specs.Prelude.{◌≡◌, ◌+◌, ◌^◌, ◌≤◌, ◌++◌, [], IfErr, IfOk, OnOk, length, vec_capacity};
     ghost use Rattle.std.specs.Option.{option_copied};
+    ghost use Rattle.version_book.specs.CommittedRows.{book_of};
     ghost use Rattle.batch_work.specs.Working.{status_of};
-    ghost use Rattle.commit_head.specs.Heads.{BeganOn, Fits, IsPreparedFor, HasJournal, IsAppended, IsCommit, IsItemOf, IsRefused, IsUnchangedHead, item_at, head_place};
+    ghost use Rattle.commit_head.specs.Heads.{BeganOn, Fits, IsPreparedFor, HasJournal, IsAppended, IsCommit, IsItemOf, IsRefused, IsUnchangedHead, ReadsAreUnchanged, item_at, head_place};
     ghost use Rattle.commit_head.specs.Journals.{empty_version};
 
     /// Makes a head with book 0 and no item. The error is out of memory.
@@ -154,14 +155,16 @@ impl Head {
         self.kept.as_slice().get(index as usize)
     }
 
-    /// Prepares the commit of a ready work for this seat and call, or returns why it can't be committed. It allocates all
-    /// memory that the commit needs; nothing has changed but the room for items. The work must have begun on the newest version
-    /// of this head or an earlier one of its history.
+    /// Prepares the commit of a ready work for this seat and call, or returns why it can't be committed. A commit is prepared
+    /// only if everything that the work has read is unchanged: at each of its marks, the newest book reads the same as the one
+    /// on which the work began. It allocates all memory that the commit needs; nothing has changed but the room for items. The
+    /// work must have begun on the newest version of this head or an earlier one of its history.
     pub fn prepare(&mut self, seat: u32, call: u64, work: &Work) -> Result<Prepared, Commit>
         requires ready { status_of work.now ≡ Status.Ready }
         requires domain { work.now.batch.domain ≡ self.old.window.newest.domain }
         requires began { BeganOn work.now.base self.old }
         ensures is_unchanged { IsUnchangedHead self.old self.new }
+        ensures validated { IfOk result (λ prepared. ReadsAreUnchanged work.now.base work.now.batch (book_of self.old.window.newest.rows)) }
         ensures fits { IfOk result (Fits self.new) }
         ensures of_work { IfOk result (λ prepared. IsItemOf seat call work.now prepared.item) }
         ensures refused { IfErr result (IsRefused self.old work.now) }
@@ -186,8 +189,9 @@ impl Head {
         number
     }
 
-    /// Commits a ready work for this seat and call, or returns why it can't; then nothing has changed but the room for items.
-    /// The work must have begun on the newest version of this head or an earlier one of its history.
+    /// Commits a ready work for this seat and call if everything that it has read is unchanged, or returns why it can't; then
+    /// nothing has changed but the room for items. The work must have begun on the newest version of this head or an earlier one
+    /// of its history.
     pub fn commit(&mut self, seat: u32, call: u64, work: &Work) -> Commit
         requires ready { status_of work.now ≡ Status.Ready }
         requires domain { work.now.batch.domain ≡ self.old.window.newest.domain }
@@ -229,6 +233,7 @@ impl Head {
         requires ready { status_of work.now ≡ Status.Ready }
         requires domain { work.now.batch.domain ≡ self.now.window.newest.domain }
         requires began { BeganOn work.now.base self.now }
+        ensures validated { IfOk result (λ prepared. ReadsAreUnchanged work.now.base work.now.batch (book_of self.now.window.newest.rows)) }
         ensures goes { IfOk result (IsPreparedFor self.now.window.newest) }
         ensures of_work { IfOk result (λ prepared. IsItemOf seat call work.now prepared.item) }
         ensures refused { IfErr result (IsRefused self.now work.now) }

@@ -3,10 +3,11 @@
 //! The bodies do nothing. Each contract is a theorem about the definitions, stated in `specs/Laws.antt` or
 //! `specs/Outcomes.antt`; a caller may rely on it after the call.
 
-ghost use Rattle.commit_head.specs.Laws.{BeganExtends, BeganHere, BeganInside, BeganKept, BeganUnchanged, ItemsFollow, JoinsOnBooks, JournalBegins, JournalExtends, JournalIsLawful, JournalKept, JournalLast, JournalReadsFew, JournalUnchanged, LeadsInParts, LeadsToOne};
+ghost use Rattle.commit_head.specs.Laws.{BatchesJoin, BeganExtends, BeganHere, BeganInside, BeganKept, BeganUnchanged, CountOfBatches, ItemsFollow, JoinsOnBooks, JournalBegins, JournalBounded, JournalExtends, JournalIsLawful, JournalKept, JournalLast, JournalReadsFew, JournalUnchanged, LeadsFurther, LeadsInParts, LeadsOnBooks, LeadsToOne};
 ghost use Rattle.commit_head.specs.Outcomes.{CommitOnBooks};
 
-/// What a head's journal implies for its versions and for the list of all books.
+/// What a head's journal implies for its versions and for the list of all books. Its items have one batch each, in order; the
+/// version to which they lead has the last book of these batches and their count as its number, at most 2^48.
 pub fn journals()
     ensures follow { ItemsFollow }
     ensures parts { LeadsInParts }
@@ -19,6 +20,11 @@ pub fn journals()
     ensures last { JournalLast }
     ensures lawful { JournalIsLawful }
     ensures few { JournalReadsFew }
+    ensures further { LeadsFurther }
+    ensures led { LeadsOnBooks }
+    ensures count { CountOfBatches }
+    ensures joined { BatchesJoin }
+    ensures bounded { JournalBounded }
 {}
 
 /// What the outcome of a commit means in terms of the specification.

@@ -1,9 +1,9 @@
 //! When may a batch commit, and what does a commit change?
 //!
-//! A batch was run on an older version, and changed no shared state. A head decides whether its work commits. If no batch
-//! committed since then wrote what the work has read, its replies and writes are those of the specification on the newest
-//! version. The head then adds the book after these writes, unless it would pass a limit. Otherwise the outcome may be a
-//! conflict, and nothing changes.
+//! A batch was run on an older version, and changed no shared state. A head decides whether its work commits. It commits only
+//! if everything that the work has read is unchanged on the newest version. Then the work's replies and writes are those of
+//! the specification there. The head adds the book after these writes, unless it would pass a limit. If a batch that was
+//! committed since then wrote what the work has read, the outcome may be a conflict, and nothing changes.
 //!
 //! - [`Head`]: the only place where the book changes: the window on which works begin, and the journal (commit log).
 //! - [`Item`]: what the journal stores of one commit: seat, call, batch, replies and writes.

@@ -5,7 +5,7 @@ ghost use Rattle.entry_book.specs.Laws.{IsWithinLimits};
 ghost use Rattle.entry_book.specs.Limits.{limit_passed};
 ghost use Rattle.version_book.specs.CommittedRows.{book_of};
 ghost use Rattle.batch_work.specs.Working.{status_of};
-ghost use Rattle.commit_head.specs.Heads.{BeganBefore, IsPreparedFor, IsItemOf, IsRefusal};
+ghost use Rattle.commit_head.specs.Heads.{BeganBefore, IsPreparedFor, IsItemOf, IsRefusal, ReadsAreUnchanged};
 
 use crate::check::is_conflict;
 use crate::commit::Commit;
@@ -69,6 +69,7 @@ pub(crate) fn prepared(
     requires began { BeganBefore work.now.base newest.now kept.now }
     requires within { IsWithinLimits (book_of newest.now.rows) }
     requires low { newest.now.number ≤ 2 ^ 48 }
+    ensures validated { IfOk result (λ prepared. ReadsAreUnchanged work.now.base work.now.batch (book_of newest.now.rows)) }
     ensures goes { IfOk result (IsPreparedFor newest.now) }
     ensures of_work { IfOk result (λ prepared. IsItemOf seat call work.now prepared.item) }
     ensures refused { IfErr result (IsRefusal newest.now kept.now work.now) }

@@ -5,7 +5,7 @@ pub prepare-requires-clause-began : goal.prepare-requires-clause-began
 prepare-requires-clause-began c = may_prepare c.args.head.now c.args.work.now c.requires.whole c.requires.rests c.requires.ready
 
 pub returns-in_ok-answer-in-Ok-clause-some : goal.returns-in_ok-answer-in-Ok-clause-some
-returns-in_ok-answer-in-Ok-clause-some c = decided_committed c.args.head.now c.prepare.new.self c.finish.new.head c.args.work.now 0 c.args.number c.in-Ok.prepared c.in_ok-answer-in-Ok.answer c.in_ok-answer-in-Ok.place c.requires.whole c.requires.rests c.requires.ready c.in-Ok.ensures.is_unchanged c.in-Ok.ensures.fits c.in-Ok.ensures.of_work c.in_ok-answer-in-Ok.ensures.some
+returns-in_ok-answer-in-Ok-clause-some c = decided_committed c.args.head.now c.prepare.new.self c.finish.new.head c.args.work.now 0 c.args.number c.in-Ok.prepared c.in_ok-answer-in-Ok.answer c.in_ok-answer-in-Ok.place c.requires.whole c.requires.rests c.requires.ready c.in-Ok.ensures.is_unchanged c.in-Ok.ensures.validated c.in-Ok.ensures.fits c.in-Ok.ensures.of_work c.in_ok-answer-in-Ok.ensures.some
 
 pub returns-in-Err-Conflict-clause-some : goal.returns-in-Err-Conflict-clause-some
 returns-in-Err-Conflict-clause-some c =

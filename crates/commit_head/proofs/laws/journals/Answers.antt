@@ -1,6 +1,7 @@
 use Rattle.commit_head.proofs.Begun.{journal_kept, journal_unchanged}
 use Rattle.commit_head.proofs.FewReads.{journal_reads_few}
-use Rattle.commit_head.proofs.Journals.{items_follow, joins_on_books, journal_begins, journal_extends, journal_is_lawful, journal_last, leads_in_parts, leads_to_one}
+use Rattle.commit_head.proofs.Journals.{items_follow, joins_on_books, journal_begins, journal_extends, journal_is_lawful, journal_last, leads_in_parts, leads_more, leads_to_one, low}
+use Rattle.commit_head.proofs.OnBooks.{batches_join, count_of_batches, led_to}
 use Rattle.commit_head.proofs.laws.journals.Goals as goal
 
 pub returns : goal.returns
@@ -16,4 +17,9 @@ returns c = record {
   last = journal_last;
   lawful = journal_is_lawful;
   few = journal_reads_few;
+  further = leads_more;
+  led = led_to;
+  count = count_of_batches;
+  joined = batches_join;
+  bounded = low;
 }

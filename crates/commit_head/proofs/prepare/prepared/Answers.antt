@@ -6,7 +6,7 @@ use Rattle.entry_book.specs.Limits.{limit_passed}
 use Rattle.version_book.specs.CommittedRows.{book_of, next_state}
 use Rattle.batch_work.specs.Working.{HasReplies}
 use Rattle.commit_head.specs.declared.item.Item.{Item}
-use Rattle.commit_head.proofs.Preparing.{due, fits, full, made_there, may}
+use Rattle.commit_head.proofs.Preparing.{due, fits, full, made_there, may, validated}
 use Rattle.commit_head.proofs.prepare.prepared.Goals as goal
 
 pub returns-then-is_conflict-clause-refused : goal.returns-then-is_conflict-clause-refused
@@ -30,6 +30,11 @@ returns-in-Some-limit_of-clause-refused c =
       full c.args.newest.now c.args.kept.now c.args.work.now made c.requires.ready c.number-place.ensures.lawful c.requires.within c.requires.began c.changes-changes.result.now (c.changes-changes.ensures c.requires.ready) c.in-Some.base.now (sym c.in-Some.ensures) c.number.ensures.lawful.ascending c.marks.result.now c.marks.ensures.marks (λ items l a. c.is_conflict.ensures.agree items l a c.if-is_conflict.false)
           c.in-Ok.version version c.in-Some-limit_of.limit (sym c.in-Some-limit_of.is ∙ (c.limit_of.ensures ∙ ap (λ n. limit_passed n (book_of c.in-Ok.version.rows)) c.number-place.ensures.number)),
     )
+
+pub returns-clause-validated : goal.returns-clause-validated
+returns-clause-validated c =
+    let made = made_there c.args.newest.now c.args.work.now.batch c.requires.domain (subst (λ b. IsMadeFor b.domain b) c.batch.ensures c.ops.ensures.made) in
+    validated c.args.newest.now c.args.kept.now c.args.work.now made c.requires.ready c.requires.began c.in-Some.base.now (sym c.in-Some.ensures) c.marks.result.now c.marks.ensures.marks (λ items l a. c.is_conflict.ensures.agree items l a c.if-is_conflict.false)
 
 pub returns-clause-goes : goal.returns-clause-goes
 returns-clause-goes c =
