@@ -1,5 +1,5 @@
 -- What a commit under the lock means for the journal and for its seat.
-use Rattle.std.proofs.Common.{◌≡◌, ◌⊎◌, ℕ, ◌<◌, ◌≤◌, ◌^◌, List, [], ◌∷◌, ◌++◌, length, length-append, refl, sym, ap, subst, ◌∙◌, ⊎_elim, arith}
+use Rattle.std.proofs.Common.{◌≡◌, ◌⊎◌, ℕ, ◌<◌, ◌≤◌, ◌^◌, List, [], ◌∷◌, ◌++◌, length, length-append, Option, Ok, refl, sym, ap, subst, ◌∙◌, ⊎_elim, arith}
 use mathlib.Core.List.{IsPrefix}
 use Rattle.entry_book.specs.Rows.{Bytes}
 use Rattle.version_book.specs.History.{version_with}
@@ -12,10 +12,11 @@ use Rattle.commit_head.specs.declared.item.Item.{Item}
 use Rattle.commit_head.specs.Heads.{IsPreparedFor, Head, IsAppended, IsJournal, IsRefused, Prepared, IsUnchangedHead, last_items, newest_of, head_place as place_at}
 use Rattle.commit_head.specs.Journals.{IsLawfulJournal, Joins, Leads, empty_version}
 use Rattle.commit_head.proofs.Begun.{journal_kept, journal_unchanged}
-use Rattle.commit_head.proofs.Journals.{journal_extends, journal_is_lawful, leads_count, leads_more, leads_to_one, low}
+use Rattle.commit_head.proofs.Journals.{journal_extends, journal_is_lawful, leads_more, leads_to_one, low}
+use Rattle.commit_head.proofs.OnBooks.{led_to}
 use Rattle.commit_head.proofs.OnBooks.{commit_on_books}
 use Rattle.shared_registry.specs.WriterStates.{IsTied}
-use Rattle.shared_registry.specs.OutcomesPrivate.{HasLooked, IsCommitThere}
+use Rattle.shared_registry.specs.OutcomesPrivate.{HandsOut, HasLooked, IsCommitThere}
 use Rattle.shared_registry.specs.Seated.{Seated}
 use Rattle.shared_registry.specs.SeatCalls.{AllBelow, calls_of}
 use Rattle.shared_registry.specs.ShownPrivate.{IsCounted, ShowsJournal, whole_head}
@@ -42,7 +43,7 @@ tied_unchanged domain log old new t s = record {
 -- ---- the length of a journal
 
 pub place_is : (domain : Bytes) (log : List Item) (h : Head) → IsTied domain log h → place_at h ≡ length log
-place_is domain log h t = let n = leads_count log (empty_version h.window.newest.domain) (newest_of h) t.journal_is.leads in omega arith
+place_is domain log h t = (led_to h.window.newest.domain log (newest_of h) t.journal_is.leads).number
 
 pub journal_low : (domain : Bytes) (log : List Item) (h : Head) → IsTied domain log h → length log ≤ 2 ^ 48
 journal_low domain log h t = let n = place_is domain log h t in let l = low log h t.journal_is in omega arith
@@ -93,3 +94,10 @@ refused_there domain log s t w h (Full limit n) r ready p tied looked f =
     let on = commit_on_books log h 0 0 w (base_in w.batch r.snapshot.window) (Full limit n) h tied.journal_is (ready_on domain s.seen log w h r ready p tied) (unchanged_itself h, f) in
     (looked, on.0, on.1)
 refused_there domain log s t w h NoMemory r ready p tied looked f = looked
+
+-- a refused commit has replaced nothing
+pub refused_hands_out : {A : Type 0} (w : Work) (h : Head) (commit : Commit) (replaced : Option A) → IsRefused h w commit → HandsOut (Ok commit) replaced
+refused_hands_out w h (Committed m) replaced f n is = absurd f
+refused_hands_out w h (Conflict m) replaced f n is = absurd cc
+refused_hands_out w h (Full limit m) replaced f n is = absurd cc
+refused_hands_out w h NoMemory replaced f n is = absurd cc

@@ -4,6 +4,7 @@ pub mod Calls
 pub mod Committing
 pub mod Counts
 pub mod Once
+pub mod OneList
 pub mod Opening
 pub mod Overtaken
 pub mod Prefixes

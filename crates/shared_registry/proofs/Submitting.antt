@@ -1,5 +1,5 @@
 -- The outcome of a try whose commit was decided under the lock.
-use Rattle.std.proofs.Common.{◌≡◌, ℕ, List, [], ◌∷◌, ◌++◌, length, sym, ap, subst, ◌∙◌, arith}
+use Rattle.std.proofs.Common.{◌≡◌, ℕ, List, [], ◌∷◌, ◌++◌, length, Result, Ok, Err, sym, ap, subst, ◌∙◌, arith}
 use mathlib.Core.List.{IsPrefix}
 use Rattle.entry_book.specs.declared.limit.Limit.{Limit}
 use Rattle.entry_book.specs.declared.reply.OpReply.{OpReply}
@@ -11,12 +11,15 @@ use Rattle.entry_book.specs.Rows.{Bytes}
 use Rattle.entry_book.specs.History.{books_of, reply_to}
 use Rattle.batch_work.specs.Working.{HasReplies, Work}
 use Rattle.batch_work.proofs.Ready.{same_replies}
+use Rattle.commit_head.specs.declared.commit.Commit.{Commit}
+use Rattle.commit_head.specs.declared.commit.Commit.TheVariants as is
 use Rattle.commit_head.specs.declared.item.Item.{Item}
 use Rattle.commit_head.specs.Journals.{IsLawfulJournal, batches_of}
 use Rattle.shared_registry.specs.declared.outcome.Outcome.TheVariants.{Refused}
+use Rattle.shared_registry.specs.declared.seat.NoEntry.{NoEntry as NotAdmitted}
 use Rattle.shared_registry.specs.Outcomes.{IsAdded, IsOvertaken, IsSubmitted}
-use Rattle.shared_registry.specs.OutcomesPrivate.{HasAdded, HasLooked, IsOvertakenOnce}
-use Rattle.shared_registry.specs.Seated.{AfterCall, DuringCall, MaySee, Seated}
+use Rattle.shared_registry.specs.OutcomesPrivate.{HasAdded, HasLooked, IsCommitOutcome, WasDecided, IsOvertakenOnce}
+use Rattle.shared_registry.specs.Seated.{AfterCall, DuringCall, MaySeeFound, Seated}
 use Rattle.shared_registry.specs.SeatCalls.{calls_of}
 use Rattle.shared_registry.proofs.Prefixes.{prefix_length, prefix_self, prefix_trans}
 
@@ -39,7 +42,7 @@ added log next s t w replies n a during_call h =
     }
 
 -- a seat may see what it has found by its commit
-pub may_see_added : (domain : Bytes) (s t : Seated) (batch : Batch) (reply : Reply) → AfterCall domain s t → IsPrefix s.learnt t.seen → IsAdded s t batch reply → MaySee domain t
+pub may_see_added : (domain : Bytes) (s t : Seated) (batch : Batch) (reply : Reply) → AfterCall domain s t → IsPrefix s.learnt t.seen → IsAdded s t batch reply → MaySeeFound domain t
 may_see_added domain s t batch reply after_call seen_learnt a =
     let learnt : IsPrefix t.learnt t.seen = subst (λ (l : List Item). IsPrefix l t.seen) (sym after_call.learnt) seen_learnt in record {
       lawful = subst (IsLawfulJournal domain) (sym a.found) after_call.lawful;
@@ -69,3 +72,23 @@ full_refused log next s t batch limit n l e r = (
   },
   l.own,
 )
+
+-- ---- what was decided, for the journal that the lock guarded
+
+pub decided : (log next : List Item) (s t : Seated) (w : Work) (r : Result Commit NotAdmitted) → IsCommitOutcome log next s t w r → WasDecided s t w r
+decided log next s t w r o = record { log = log; next = next; outcome = o }
+
+pub decided_added : (s t : Seated) (w : Work) (replies : List OpReply) (n : ℕ) → WasDecided s t w (Ok (is.Committed n)) → DuringCall s t → HasReplies w replies → IsAdded s t w.batch (record { place = n; outcome = became.Committed replies })
+decided_added s t w replies n d during_call h = added d.log d.next s t w replies n d.outcome during_call h
+
+pub decided_overtaken : (s t : Seated) (w : Work) (n : ℕ) → WasDecided s t w (Ok (is.Conflict n)) → DuringCall s t → IsPrefix s.learnt s.seen → IsOvertakenOnce s t w.batch n
+decided_overtaken s t w n d during_call seen_learnt = overtaken d.log d.next s t w.batch n d.outcome.0 d.outcome.1 d.outcome.2 during_call seen_learnt
+
+pub decided_full : (s t : Seated) (w : Work) (limit : Limit) (n : ℕ) → WasDecided s t w (Ok (is.Full limit n)) → IsSubmitted s t w.batch 0 (Refused (record { place = n; outcome = became.Refused (Full limit) }))
+decided_full s t w limit n d = full_refused d.log d.next s t w.batch limit n d.outcome.0 d.outcome.1 d.outcome.2
+
+pub decided_no_memory : (s t : Seated) (w : Work) → WasDecided s t w (Ok is.NoMemory) → t.own ≡ s.own
+decided_no_memory s t w d = d.outcome.own
+
+pub decided_no_entry : (s t : Seated) (w : Work) (e : NotAdmitted) → WasDecided s t w (Err e) → t.own ≡ s.own
+decided_no_entry s t w e d = d.outcome.2

@@ -11,7 +11,7 @@ use Rattle.commit_head.specs.Outcomes.{IsHitSince}
 use Rattle.version_book.specs.declared.mark.MarkKind.{MarkKind}
 use Rattle.shared_registry.specs.declared.outcome.Outcome.{Outcome}
 use Rattle.shared_registry.specs.declared.outcome.Outcome.TheVariants.{Committed, Repeated, Refused, Conflict, NoMemory, NoEntry}
-use Rattle.shared_registry.specs.Outcomes.{AreOvertaken, HasSeenLearnt, IsOvertaken, IsSubmitted, WasOvertaken}
+use Rattle.shared_registry.specs.Outcomes.{AreOvertaken, HasSeenLearnt, IsOvertaken, IsSubmitted, TookCommits, WasOvertaken}
 use Rattle.shared_registry.specs.OutcomesPrivate.{IsNotConflict, IsOvertakenOnce}
 use Rattle.shared_registry.specs.Seated.{DuringCall, Seated}
 use Rattle.commit_head.proofs.OnBooks.{batches_join}
@@ -95,6 +95,30 @@ once_again s u t batch tries place n o e p learnt q once =
         subst (λ j. AreOvertaken j batch (length s.learnt) once.base o.bases) (sym journal) (are_on (batches_of u.seen) (batches_of q.0) batch (length s.learnt) place once.base o.bases le o.since_learnt),
       );
     }
+
+-- ---- how many commits the tries took
+
+-- each try began at a later place than the one before
+began_apart : (journal : List Batch) (batch : Batch) (least place : ℕ) (bases : List ℕ) → least ≤ place → AreOvertaken journal batch least place bases → least + length bases ≤ place
+began_apart journal batch least place [] le o = omega arith
+began_apart journal batch least place (base ∷ bases) le o =
+    let earlier = began_apart journal batch least base bases o.0 o.2 in
+    let hit = o.1 in
+    let l = ap length hit.split in
+    let n = length-append hit.before (hit.other ∷ hit.later) in
+    let short = length-take place journal in
+    let since = hit.since in
+    omega arith
+
+pub conflict_took : (s t : Seated) (batch : Batch) (tries place : ℕ) → WasOvertaken s t batch tries place → place ≡ length t.seen → IsPrefix s.seen t.seen → TookCommits s t tries (Conflict place)
+conflict_took s t batch tries place o e p n is =
+    let long = prefix_length s.seen t.seen p in
+    let apart = began_apart (batches_of t.seen) batch (length s.seen) place o.bases (omega arith) o.since_seen in
+    let count = o.count in
+    omega arith
+
+pub no_conflict_took : (s t : Seated) (tries : ℕ) (o : Outcome) → IsNotConflict o → TookCommits s t tries o
+no_conflict_took s t tries o over n is = absurd (over n is)
 
 -- ---- the end
 

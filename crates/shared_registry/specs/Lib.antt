@@ -1,6 +1,8 @@
 pub mod WriterStates
+pub mod OneList
 pub mod Outcomes
 pub mod OutcomesPrivate
+pub mod RetainedStates
 pub mod Rules
 pub mod RulesPrivate
 pub mod Seated

@@ -13,7 +13,7 @@ use Rattle.commit_head.specs.Journals.{batches_of}
 use Rattle.commit_head.specs.Outcomes.{IsHitSince}
 use Rattle.shared_registry.specs.declared.outcome.Outcome.{Outcome}
 use Rattle.shared_registry.specs.declared.outcome.Outcome.TheVariants.{Committed, Repeated, Refused, Conflict, NoMemory, NoEntry}
-use Rattle.shared_registry.specs.Seated.{AfterCall, MaySee, Seated}
+use Rattle.shared_registry.specs.Seated.{AfterCall, MaySeeFound, Seated}
 
 -- ---- tries with a conflict
 
@@ -34,6 +34,11 @@ pub record WasOvertaken (s t : Seated) (batch : Batch) (tries place : ℕ) : Typ
   pub count : length bases ≡ tries
   pub since_seen : AreOvertaken (batches_of t.seen) batch (length s.seen) place bases
   pub since_learnt : AreOvertaken (batches_of t.seen) batch (length s.learnt) place bases
+
+-- A conflict after this many tries took at least as many commits: what the seat has then seen has so many items more than what it had
+-- seen before.
+abbrev pub TookCommits : Seated → Seated → ℕ → Outcome → Type 0
+TookCommits s t tries o = (n : ℕ) → o ≡ Conflict n → length s.seen + tries ≤ length t.seen
 
 -- ---- the outcomes of a batch of changes
 
@@ -91,4 +96,4 @@ HasSeenLearnt s t NoEntry = ⊤
 -- ---- the theorem: a seat may see what it has found by its commit, without a look
 
 abbrev pub CommitsMayBeSeen : Type 0
-CommitsMayBeSeen = (domain : Bytes) (s t : Seated) (batch : Batch) (reply : Reply) → AfterCall domain s t → HasSeenLearnt s t (Committed reply) → IsAdded s t batch reply → MaySee domain t
+CommitsMayBeSeen = (domain : Bytes) (s t : Seated) (batch : Batch) (reply : Reply) → AfterCall domain s t → HasSeenLearnt s t (Committed reply) → IsAdded s t batch reply → MaySeeFound domain t

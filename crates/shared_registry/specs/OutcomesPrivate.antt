@@ -1,5 +1,5 @@
 -- One try of a batch of changes, and what its commit does under the lock. For this crate's own contracts.
-use Rattle.std.specs.Prelude.{◌≡◌, ℕ, ◌+◌, ◌≤◌, List, [], ◌∷◌, ◌++◌, length, Result, Ok, Err}
+use Rattle.std.specs.Prelude.{◌≡◌, ℕ, ◌+◌, ◌≤◌, List, [], ◌∷◌, ◌++◌, length, Option, IsSome, Result, Ok, Err}
 use mathlib.Core.List.{IsPrefix}
 use Rattle.entry_book.specs.declared.reply.ReplyOutcome.TheVariants as became
 use Rattle.entry_book.specs.declared.reply.Refusal.TheVariants.{Full}
@@ -64,3 +64,13 @@ IsCommitThere log next s t w is.NoMemory = HasLooked log next s t
 abbrev pub IsCommitOutcome : List Item → List Item → Seated → Seated → Work → Result Commit NotAdmitted → Type 0
 IsCommitOutcome log next s t w (Ok commit) = IsCommitThere log next s t w commit
 IsCommitOutcome log next s t w (Err e) = (next ≡ log) × (t.seen ≡ s.seen) × (t.own ≡ s.own)
+
+-- for some journal before the commit and some journal after it
+pub record WasDecided (s t : Seated) (w : Work) (decided : Result Commit NotAdmitted) : Type 0 where
+  pub log : List Item
+  pub next : List Item
+  pub outcome : IsCommitOutcome log next s t w decided
+
+-- a commit hands out what it has replaced, to be dropped without the lock
+abbrev pub HandsOut : {A : Type 0} → Result Commit NotAdmitted → Option A → Type 0
+HandsOut decided replaced = (n : ℕ) → decided ≡ Ok (is.Committed n) → IsSome replaced

@@ -39,7 +39,7 @@ pub record SawNothingNew (domain : Bytes) (s t : Seated) : Type 0 where
 
 -- The seat may see what it found: a lawful journal that begins with all that the seat has seen and learnt of. The items of this
 -- seat in it are the seat's own calls.
-pub record MaySee (domain : Bytes) (s : Seated) : Type 0 where
+pub record MaySeeFound (domain : Bytes) (s : Seated) : Type 0 where
   pub lawful : IsLawfulJournal domain s.found
   pub seen : IsPrefix s.seen s.found
   pub learnt : IsPrefix s.learnt s.found

@@ -6,7 +6,7 @@ ghost use Rattle.batch_work.specs.Windows.{pushed};
 ghost use Rattle.batch_work.specs.Working.{status_of};
 ghost use Rattle.commit_head.specs.Heads.{IsPreparedFor as IsNextOf, IsJournal, last_items};
 ghost use Rattle.shared_registry.specs.WriterStates.{IsPublished, IsTied};
-ghost use Rattle.shared_registry.specs.OutcomesPrivate.{IsCommitOutcome};
+ghost use Rattle.shared_registry.specs.OutcomesPrivate.{HandsOut, IsCommitOutcome};
 ghost use Rattle.shared_registry.specs.Seated.{DuringCall};
 ghost use Rattle.shared_registry.specs.SeatCalls.{AllBelow};
 ghost use Rattle.shared_registry.specs.ShownPrivate.{IsCounted, IsOf, ShowsJournal};
@@ -156,6 +156,7 @@ pub(crate) fn decide<J: RegistryId, R: Wait>(
     ensures clear { drop result.0.behind result.0.log.items ≡ [] }
     ensures during_call { DuringCall seat.old seat.new }
     ensures decided { IsCommitOutcome last.old last.new seat.old seat.new work.now result.1 }
+    ensures handed_out { HandsOut result.1 result.2 }
 {
     let published = writer.published();
     let _window = published.window();

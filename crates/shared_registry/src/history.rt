@@ -3,6 +3,7 @@
 ghost use Rattle.std.specs.Prelude.{◌≡◌, ◌+◌, ◌==◌, ◌<◌, ◌≤◌, ◌^◌, ◌++◌, ◌∷◌, ◌⊎◌, [], length, MatchBool, IsTrue};
 ghost use mathlib.Core.List.{IsPrefix};
 ghost use Rattle.commit_head.specs.Journals.{IsLawfulJournal};
+ghost use Rattle.shared_registry.specs.OneList.{AreOneList};
 ghost use Rattle.shared_registry.specs.Rules.{word_of};
 
 use commit_head::Item;
@@ -178,6 +179,13 @@ impl<J: RegistryId> HistoryPrefix<J> {
         } else {
             self.again()
         }
+    }
+
+    /// Does nothing at run time. Its contract: the two are prefixes of one list.
+    pub(crate) fn agree(&self, other: &HistoryPrefix<J>)
+        ensures { AreOneList self.now other.now }
+    {
+        let _longer = self.longer(other);
     }
 
     /// Returns the token of what was seen.

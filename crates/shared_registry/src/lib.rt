@@ -4,7 +4,7 @@
 //! published state, and answers the batch on it. A batch of changes runs on that state in small steps, and the lock is held
 //! only for its commit. If a batch that was committed since then wrote what it has read, it begins again while tries are
 //! left. What a seat has seen only grows, is always a lawful journal, and begins with all that it learnt from the receipts
-//! of others. So the answers to callers that meet agree with one list of committed batches.
+//! of others. What two seats have seen are prefixes of one list, so all answers agree with one list of committed batches.
 //!
 //! - [`Registry`]: the state that the threads share. [`Seat`]: one caller, with what it has seen; [`NoSeat`]: all are
 //!   given.
@@ -12,7 +12,8 @@
 //!   nothing.
 //! - [`Answer`]: the reply to a query. [`NoAnswer`] and [`NoEntry`]: why a query, or a request for news, has no answer.
 //! - [`Receipt`]: what a seat had seen, for another seat to learn.
-//! - [`commits_law`]: after a commit a seat may answer queries without a look.
+//! - [`commits_law`]: after a commit a seat may answer queries without a look. [`one_list`], [`one_list_of_receipts`] and
+//!   [`one_list_with_receipt`]: what any two callers have seen are prefixes of one list.
 //! - [`RegistryId`] and [`NewHistory`]: which registry it is, and its empty history. The types ensure that seats, receipts and
 //!   registries of one registry belong together.
 //! - [`PublishedValue`], [`History`] and [`HistoryPrefix`] occur in contracts: what the writer publishes, the word that counts the
@@ -28,14 +29,15 @@
 //! - own: the numbers of the calls that a seat has committed.
 //!
 //! The definitions are in `specs/`. `Outcomes` defines the outcome of a batch of changes, `Shown` the published value, `Seated`
-//! and `SeatCalls` a seat, and `Rules` the history's word. The others are for this crate's own contracts: `WriterStates` defines the
-//! state under the lock, `Works` a work in execution, and the files that end in `Private` the invariants.
+//! and `SeatCalls` a seat, `OneList` how the journals of two callers are related, and `Rules` the history's word. The others are
+//! for this crate's own contracts: `WriterStates` and `RetainedStates` define the state under the lock, `Works` a work in execution,
+//! and the files that end in `Private` the invariants.
 //!
 //! - `history`: the one history, and the prefixes of it that were seen; `published` and `rule`: the state that readers look at,
 //!   and the invariant that each step over it preserves; `run`: how a batch of changes runs on the published state;
 //!   `writer_state` and `commit`: the state under the lock, and the commit on it; `recent`: published states that are retained;
 //!   `seat` and `registry`: the calls of the two types; `reading`: how a seat looks at the published state; `outcome`; `gate`:
-//!   the test hook; `laws`: a theorem that follows from the contracts.
+//!   the test hook; `laws`: theorems that follow from the contracts.
 //!
 //! A statement such as `let _place = seat.place();` has no effect at run time. It brings the contract of the call, mostly
 //! an invariant of its value, into the proof, which fails without it.
@@ -59,7 +61,7 @@ mod writer_state;
 
 pub use gate::{Gate, OpenGate, Point};
 pub use history::{History, HistoryPrefix, NewHistory, RegistryId};
-pub use laws::commits_law;
+pub use laws::{commits_law, one_list, one_list_of_receipts, one_list_with_receipt};
 pub use outcome::Outcome;
 pub use published::PublishedValue;
 pub use registry::Registry;

@@ -1,6 +1,6 @@
 //! How does a seat look at the published state, and answer a query on it?
 
-ghost use Rattle.std.specs.Prelude.{◌≡◌, ◌<◌, length, IfOk, IfSome, IsSome, IsTrue, true};
+ghost use Rattle.std.specs.Prelude.{◌≡◌, ◌<◌, length, unwrap_or, Err, IfErr, IfOk, IfSome, IsSome, IsTrue, Ok, true};
 ghost use mathlib.Core.List.{IsPrefix};
 ghost use Rattle.entry_book.specs.Batches.{is_query};
 ghost use Rattle.entry_book.specs.History.{books_of, reply_to};
@@ -11,7 +11,7 @@ ghost use Rattle.shared_registry.specs.ShownPrivate.{IsOf};
 use crate::history::{HistoryPrefix, RegistryId};
 use crate::published::PublishedValue;
 use crate::rule::{PublishedRule, Sees, View};
-use crate::seat::NoAnswer;
+use crate::seat::{NoAnswer, NoEntry};
 use batch_work::{BorrowedReply, answer_shared};
 use entry_book::Batch;
 use left_right::reader::Reader;
@@ -21,40 +21,44 @@ use std::mem::replace;
 /// A reader of the published value.
 pub(crate) type SeatReader<J> = Reader<PublishedValue, View, PublishedRule<J>>;
 
-/// Replaces the snapshot by the newer one, if a look has found one, and drops the one before.
+/// What a look has found: a copy of the published value, if that has another number of items than the snapshot. The inner error is
+/// that a reference count can't grow, the outer one that the reader can't enter.
+type Found = Result<Result<Option<PublishedValue>, AllocError>, NoEntry>;
+
+/// Replaces the snapshot by the newer one, if a look has found one, and drops the one before. With an error, the snapshot is
+/// unchanged.
 fn replace_snapshot<J: RegistryId>(
     snapshot: &mut PublishedValue,
-    newer: Result<Option<PublishedValue>, AllocError>,
+    found: Found,
 ) -> Result<(), NoAnswer>
     requires snapshot { IsOf J.history J.domain snapshot.old }
-    requires newer { IfOk newer (λ o. IfSome o (IsOf J.history J.domain)) }
-    ensures { IsOf J.history J.domain snapshot.new }
+    requires found { IfOk found (λ copied. IfOk copied (λ newer. IfSome newer (IsOf J.history J.domain))) }
+    ensures snapshot { IsOf J.history J.domain snapshot.new }
+    ensures replaced { IfOk found (λ copied. IfOk copied (λ newer. (result ≡ Ok tt) × (snapshot.new ≡ unwrap_or newer snapshot.old))) }
+    ensures no_memory { IfOk found (λ copied. IfErr copied (λ _. (result ≡ Err NoAnswer.NoMemory) × (snapshot.new ≡ snapshot.old))) }
+    ensures no_entry { IfErr found (λ _. (result ≡ Err NoAnswer.NoEntry) × (snapshot.new ≡ snapshot.old)) }
 {
-    match newer {
-        Ok(None) => Ok(()),
-        Ok(Some(newer)) => {
+    match found {
+        Ok(Ok(None)) => Ok(()),
+        Ok(Ok(Some(newer))) => {
             drop(replace(snapshot, newer));
             Ok(())
         }
-        Err(AllocError) => Err(NoAnswer::NoMemory),
+        Ok(Err(AllocError)) => Err(NoAnswer::NoMemory),
+        Err(NoEntry) => Err(NoAnswer::NoEntry),
     }
 }
 
-/// Looks once at the published state, and keeps a copy if it has another number of items.
-fn look<J: RegistryId>(
-    reader: SeatReader<J>,
-    snapshot: &mut PublishedValue,
-) -> (SeatReader<J>, Result<(), NoAnswer>)
-    requires { IsOf J.history J.domain snapshot.old }
-    ensures { IsOf J.history J.domain snapshot.new }
+/// Looks once at the published state, and copies it if it has another number of items than the snapshot.
+fn look<J: RegistryId>(reader: SeatReader<J>, snapshot: &PublishedValue) -> (SeatReader<J>, Found)
+    ensures { IfOk result.1 (λ copied. IfOk copied (λ newer. IfSome newer (IsOf J.history J.domain))) }
 {
     match reader.enter_as::<Sees<J>>() {
         Ok(reading) => {
             let newer = reading.get().newer(snapshot);
-            let reader = reading.leave();
-            (reader, replace_snapshot::<J>(snapshot, newer))
+            (reading.leave(), Ok(newer))
         }
-        Err(reader) => (reader, Err(NoAnswer::NoEntry)),
+        Err(reader) => (reader, Err(NoEntry)),
     }
 }
 
@@ -99,9 +103,9 @@ pub(crate) fn find<J: RegistryId>(
     let Some(entering) = reader.take() else {
         unreachable!()
     };
-    let (left, looked) = look(entering, snapshot);
+    let (left, found) = look(entering, snapshot);
     *reader = Some(left);
-    looked?;
+    replace_snapshot::<J>(snapshot, found)?;
     if continues(snapshot, seen, learnt, number, count) {
         Ok(snapshot.prefix())
     } else {

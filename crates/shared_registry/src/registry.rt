@@ -6,8 +6,8 @@ ghost use Rattle.entry_book.specs.Batches.{is_query};
 ghost use Rattle.entry_book.specs.History.{books_of, is_repeated, reply_to};
 ghost use Rattle.commit_head.specs.Journals.{IsLawfulJournal, batches_of};
 ghost use Rattle.batch_work.specs.Working.{HasReplies, status_of};
-ghost use Rattle.shared_registry.specs.Outcomes.{HasSeenLearnt, IsSubmitted};
-ghost use Rattle.shared_registry.specs.OutcomesPrivate.{IsNotConflict, IsTry};
+ghost use Rattle.shared_registry.specs.Outcomes.{HasSeenLearnt, IsSubmitted, TookCommits};
+ghost use Rattle.shared_registry.specs.OutcomesPrivate.{HandsOut, WasDecided, IsNotConflict, IsTry};
 ghost use Rattle.shared_registry.specs.Seated.{AfterCall, CaughtUp, DuringCall, SawNothingNew};
 ghost use Rattle.shared_registry.specs.SeatCalls.{AllBelow, calls_of};
 ghost use Rattle.shared_registry.specs.Works.{IsRead};
@@ -15,6 +15,7 @@ ghost use Rattle.shared_registry.specs.Works.{IsRead};
 use crate::gate::{Gate, Point};
 use crate::history::{History, NewHistory, RegistryId};
 use crate::outcome::Outcome;
+use crate::recent::Replaced;
 use crate::run::discard;
 use crate::seat::{Answer, NoAnswer, NoEntry, Receipt, Seat};
 use crate::writer_state::{NoSeat, WriterState};
@@ -146,6 +147,7 @@ impl<J: RegistryId> Registry<J> {
         ensures after_call { AfterCall J.domain seat.old seat.new }
         ensures seen_learnt { HasSeenLearnt seat.old seat.new result }
         ensures answer { IsSubmitted seat.old seat.new batch tries result }
+        ensures commits { TookCommits seat.old seat.new tries result }
     {
         seat.take_call();
         let mut place = seat.place();
@@ -213,10 +215,7 @@ impl<J: RegistryId> Registry<J> {
         ensures tried { IsTry seat.old seat.new work.batch result }
     {
         let (number, call) = (seat.number(), seat.calls());
-        let mut state = self.state.lock(rt);
-        gate.pass(Point::BeforeCommit, number, call);
-        let (decided, replaced) = state.commit(rt, &self.history, seat, &work);
-        MutexGuard::unlock(state);
+        let (decided, replaced) = self.commit_locked(rt, seat, gate, &work);
         drop(replaced);
         gate.pass(Point::AfterCommit, number, call);
         let batch = work.into_batch();
@@ -233,6 +232,29 @@ impl<J: RegistryId> Registry<J> {
             Ok(Commit::NoMemory) => Ok(Outcome::NoMemory),
             Err(NoEntry) => Ok(Outcome::NoEntry),
         }
+    }
+
+    /// Commits the work of one try. It holds the lock for nothing else, and returns what the commit has replaced, to be dropped
+    /// without the lock.
+    fn commit_locked<R: Wait, G: Gate>(
+        &self,
+        rt: &R,
+        seat: &mut Seat<J>,
+        gate: &G,
+        work: &Work,
+    ) -> (Result<Commit, NoEntry>, Option<Replaced>)
+        requires below { AllBelow seat.old.calls seat.old.own }
+        requires ready { status_of work.now ≡ Status.Ready }
+        requires read { IsRead J.domain seat.old.seen work.now.batch work.now }
+        ensures during_call { DuringCall seat.old seat.new }
+        ensures decided { WasDecided seat.old seat.new work.now result.0 }
+        ensures handed_out { HandsOut result.0 result.1 }
+    {
+        let mut state = self.state.lock(rt);
+        gate.pass(Point::BeforeCommit, seat.number(), seat.calls());
+        let (decided, replaced) = state.commit(rt, &self.history, seat, work);
+        MutexGuard::unlock(state);
+        (decided, replaced)
     }
 
     /// Lets the seat see every item so far, including those that it has learnt of, and returns the receipt of that. It

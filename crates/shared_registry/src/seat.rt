@@ -6,7 +6,7 @@ ghost use Rattle.entry_book.specs.Batches.{is_query};
 ghost use Rattle.entry_book.specs.History.{books_of, reply_to};
 ghost use Rattle.commit_head.specs.Journals.{IsLawfulJournal, batches_of};
 ghost use Rattle.shared_registry.specs.SeatCalls.{calls_of, AllBelow};
-ghost use Rattle.shared_registry.specs.Seated.{CaughtUp, DuringCall, MaySee, SawNothingNew};
+ghost use Rattle.shared_registry.specs.Seated.{CaughtUp, DuringCall, MaySeeFound, SawNothingNew};
 ghost use Rattle.shared_registry.specs.ShownPrivate.{IsOf};
 
 use crate::gate::{Gate, Point};
@@ -53,6 +53,17 @@ impl<J: RegistryId> Model for Receipt<J> {
     ghost view = { λ r. r.seen };
 }
 
+impl<J: RegistryId> Receipt<J> {
+    ghost use Rattle.std.specs.Prelude.{◌≡◌};
+
+    /// Returns the prefix that was seen.
+    pub(crate) fn prefix(&self) -> &HistoryPrefix<J>
+        ensures { result.now ≡ self.now }
+    {
+        &self.seen
+    }
+}
+
 /// One caller of a registry: its number, the number of its calls, and what it has seen. The model in contracts has lists of
 /// items, which are tokens of the history (see [`HistoryPrefix`]); at run time the seat has their lengths.
 ///
@@ -96,6 +107,13 @@ impl<J: RegistryId> Seat<J> {
     {
         let _number = self.number;
         self.seen.len()
+    }
+
+    /// Returns the prefix that it has seen.
+    pub(crate) fn prefix(&self) -> &HistoryPrefix<J>
+        ensures { result.now ≡ self.now.seen }
+    {
+        &self.seen
     }
 
     /// Returns its number, below 32.
@@ -249,7 +267,7 @@ impl<J: RegistryId> Seat<J> {
     /// and see it. It waits for no other thread.
     pub fn look(&mut self) -> Result<(), NoAnswer>
         requires has_calls { self.old.calls < 2 ^ 48 }
-        ensures found { IfOk result (λ _. MaySee J.domain self.new) }
+        ensures found { IfOk result (λ _. MaySeeFound J.domain self.new) }
         ensures is_unchanged { SawNothingNew J.domain self.old self.new }
         ensures own { self.new.own ≡ self.old.own }
     {
@@ -276,7 +294,7 @@ impl<J: RegistryId> Seat<J> {
     /// The seat must have found it by a look or by its own commit. It waits for no other thread. The only error is a failed
     /// allocation.
     pub fn answer(&self, batch: &Batch) -> Result<BorrowedReply<'_>, AllocError>
-        requires found { MaySee J.domain self.now }
+        requires found { MaySeeFound J.domain self.now }
         requires query { is_query batch.now.ops ≡ true }
         requires domain { batch.now.domain ≡ J.domain }
         ensures answer { IfOk result (λ reply. reply ≡ reply_to batch.now (books_of (batches_of self.now.found))) }
@@ -287,7 +305,7 @@ impl<J: RegistryId> Seat<J> {
 
     /// Lets the seat see what it has found. Takes no memory.
     pub fn see_found(&mut self)
-        requires found { MaySee J.domain self.old }
+        requires found { MaySeeFound J.domain self.old }
         ensures { self.new ≡ record self.old { seen = self.old.found } }
     {
         self.seen = self.snapshot.prefix();
@@ -317,7 +335,7 @@ impl<J: RegistryId> Seat<J> {
     /// Returns the answer to a query, on the books of what the seat has found. The answer owns its rows. The only error is
     /// a failed allocation.
     fn kept_answer(&self, batch: &Batch) -> Result<Answer, AllocError>
-        requires found { MaySee J.domain self.now }
+        requires found { MaySeeFound J.domain self.now }
         requires query { is_query batch.now.ops ≡ true }
         requires domain { batch.now.domain ≡ J.domain }
         ensures answer { IfOk result (λ reply. reply ≡ reply_to batch.now (books_of (batches_of self.now.found))) }

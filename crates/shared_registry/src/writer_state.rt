@@ -3,7 +3,7 @@
 ghost use Rattle.std.specs.Prelude.{◌≡◌, [], IfOk, MatchResult};
 ghost use mathlib.Core.List.{IsPrefix};
 ghost use Rattle.batch_work.specs.Working.{status_of};
-ghost use Rattle.shared_registry.specs.OutcomesPrivate.{IsCommitOutcome};
+ghost use Rattle.shared_registry.specs.OutcomesPrivate.{HandsOut, IsCommitOutcome};
 ghost use Rattle.shared_registry.specs.Seated.{DuringCall};
 ghost use Rattle.shared_registry.specs.SeatCalls.{AllBelow};
 ghost use Rattle.shared_registry.specs.Works.{IsRead};
@@ -146,6 +146,7 @@ impl<J: RegistryId> WriterState<J> {
         requires read { IsRead J.domain seat.old.seen work.now.batch work.now }
         ensures during_call { DuringCall seat.old seat.new }
         ensures decided { IsCommitOutcome self.old self.new seat.old seat.new work.now result.0 }
+        ensures handed_out { HandsOut result.0 result.1 }
     {
         let Some(writer) = self.writer.take() else {
             unreachable!()

@@ -52,15 +52,18 @@ DONE => 3; committed at 4; entry 1.3
 1 SEAT => number 1; place 4; calls 1
 ";
 
-/// A query sees nothing of a create that is held under the lock. Once that is committed, it sees it.
+/// A query sees nothing of a create that is held under the lock. Another create, which has begun meanwhile, waits for the lock: no
+/// query sees it, and it is committed after the one that is held. Once they are committed, queries see them.
 const UNDER_THE_LOCK: &str = "\
 NEW
 NEW
+NEW
 HOLD under the lock: create 1 n1 /web u:1 0
-0 TIMES 2 show 1 => answered at 0; none
-DONE => 1; committed at 1; entry 1.0
-0 SEND 1 => sent at 1
-0 show 1 => answered at 1; shown 1.0
+BEHIND: create 2 n2 /web u:1 0
+0 TIMES 1000 show 1; show 2 => answered at 0; none; none
+DONE => 1; committed at 1; entry 1.0; then committed at 2; entry 2.0
+0 SEND 1 => sent at 2
+0 show 1; show 2 => answered at 2; shown 1.0; shown 2.0
 ";
 
 #[test]

@@ -6,13 +6,17 @@
 //! A script may hold a batch of the last seat, `HOLD after its begin: delete 1` or `HOLD under the lock: delete 1`. Another
 //! thread runs each of the following lines after that batch has reached the point again, and then lets the batch continue. After
 //! `DONE => ` come the number of times that the batch reached the point, and the reply to it.
+//!
+//! If the line after `HOLD` is `BEHIND: delete 2`, a third thread submits that batch for the seat before the last one, when the held
+//! batch has reached its point. The following lines are run once that batch has begun, too. The reply to it comes last after `DONE => `.
 
 use crate::failed::Failed;
 use crate::site::Site;
 use crate::telling::seat_text;
 use crate::turnstile::Turnstile;
 use crate::wanted::is_text;
-use shared_registry::{OpenGate, Point, RegistryId, Seat};
+use shared_registry::{OpenGate, Point, RegistryId, Seat, one_list};
+use std::alloc::Global;
 use std::process::Abort;
 use std::sync::Wait;
 use std::thread::{Threads, join};
@@ -38,6 +42,9 @@ fn takes_seat<J: RegistryId, R: Wait + Clock>(
     seats: &mut Vec<Seat<J>>,
 ) -> Result<String, Failed> {
     let seat = site.seat()?;
+    if let Some(first) = seats.first() {
+        one_list(first, &seat);
+    }
     let as_text = seat_text(site.alloc, &seat)?;
     seats.push(seat)?;
     Ok(as_text)
@@ -94,6 +101,15 @@ fn plays_lines<J: RegistryId, R: Wait + Clock + Abort>(
     Ok(())
 }
 
+/// Waits until this many batches have come to the gate.
+fn awaits<R: Clock>(gate: &Turnstile<R>, count: u64) -> Result<(), Failed> {
+    if gate.holds(count) {
+        Ok(())
+    } else {
+        Err(Failed("nobody came, as where there is no memory for a thread"))
+    }
+}
+
 /// Runs a line when the held batch has reached its point this many times, and then lets it continue.
 fn plays_concurrently<J: RegistryId, R: Wait + Clock + Abort>(
     site: &Site<J, R>,
@@ -102,9 +118,7 @@ fn plays_concurrently<J: RegistryId, R: Wait + Clock + Abort>(
     line: &str,
     count: u64,
 ) -> Result<(), Failed> {
-    if !gate.holds(count) {
-        return Err(Failed("nobody came, as where there is no memory for a thread"));
-    }
+    awaits(gate, count)?;
     let as_text = seat_answer(site, seats, question_of(line))?;
     check_text(site.rt, line, as_text.as_str());
     gate.lets_on(count);
@@ -150,6 +164,83 @@ fn is_held<J: RegistryId, R: Wait + Clock>(
     as_text
 }
 
+/// Runs the lines while the batch is held and the other one has begun.
+fn overtakes_both<J: RegistryId, R: Wait + Clock + Abort>(
+    site: &Site<J, R>,
+    seats: &mut [Seat<J>],
+    gate: &Turnstile<R>,
+    begun: &Turnstile<R>,
+    lines: &str,
+) -> Result<(), Failed> {
+    if let Err(failed) = awaits(begun, 1) {
+        gate.opens();
+        return Err(failed);
+    }
+    overtakes(site, seats, gate, lines)
+}
+
+/// The reply to a batch that begins while another one is held.
+fn is_behind<J: RegistryId, R: Wait + Clock>(
+    site: &Site<J, R>,
+    seat: &mut Seat<J>,
+    gate: &Turnstile<R>,
+    begun: &Turnstile<R>,
+    text: &str,
+) -> Result<String, Failed> {
+    let as_text = match awaits(gate, 1) {
+        Ok(()) => site.answer(seat, begun, 0, text),
+        Err(failed) => Err(failed),
+    };
+    begun.leaves();
+    as_text
+}
+
+/// The reply to the batch of the seat before the last one, which waits behind the held batch. The lines run concurrently.
+fn behind_text<J: RegistryId + Send + Sync, R: Threads + Wait + Clock + Abort + Sync>(
+    site: &Site<J, R>,
+    seats: &mut [Seat<J>],
+    gate: &Turnstile<R>,
+    text: &str,
+    lines: &str,
+) -> Result<String, Failed> {
+    let begun = Turnstile::new(site.rt, Point::AfterBegin, 0, 1);
+    let Some((seat, others)) = seats.split_last_mut() else {
+        gate.opens();
+        return Err(Failed("no seat in a script"));
+    };
+    let (as_text, played) = join(
+        site.rt,
+        || is_behind(site, seat, gate, &begun, text),
+        || overtakes_both(site, others, gate, &begun, lines),
+    );
+    played?;
+    as_text
+}
+
+/// Runs the lines while a batch is held, and returns the reply to a batch that waits behind it, if the first line has one.
+fn others_text<J: RegistryId + Send + Sync, R: Threads + Wait + Clock + Abort + Sync>(
+    site: &Site<J, R>,
+    seats: &mut [Seat<J>],
+    gate: &Turnstile<R>,
+    lines: &str,
+) -> Result<Option<String>, Failed> {
+    let (line, rest) = lines.split_once("\n").unwrap_or((lines, ""));
+    let Some(text) = line.strip_prefix("BEHIND: ") else {
+        overtakes(site, seats, gate, lines)?;
+        return Ok(None);
+    };
+    Ok(Some(behind_text(site, seats, gate, text, rest)?))
+}
+
+/// The reply to a held batch, and that to the batch behind it, if there is one.
+fn both_texts(alloc: Global, held: String, behind: Option<String>) -> Result<String, Failed> {
+    let Some(behind) = behind else {
+        return Ok(held);
+    };
+    let (held, behind) = (held.as_str(), behind.as_str());
+    Ok(format!(in alloc; "{held}; then {behind}")?)
+}
+
 /// The reply to the last seat's batch, which the first of the lines holds; the other lines run concurrently.
 fn concurrent_text<J: RegistryId + Send + Sync, R: Threads + Wait + Clock + Abort + Sync>(
     site: &Site<J, R>,
@@ -164,10 +255,10 @@ fn concurrent_text<J: RegistryId + Send + Sync, R: Threads + Wait + Clock + Abor
     let (as_text, played) = join(
         site.rt,
         || is_held(site, held, gate, line),
-        || overtakes(site, others, gate, concurrent),
+        || others_text(site, others, gate, concurrent),
     );
-    played?;
-    as_text
+    let behind = played?;
+    both_texts(site.alloc, as_text?, behind)
 }
 
 /// The point at which a line holds a batch.

@@ -9,6 +9,7 @@ use crate::turnstile::TURNS;
 use entry_book::Batch;
 use shared_registry::{
     Answer, Gate, NewHistory, OpenGate, Outcome, Receipt, Registry, RegistryId, Seat, commits_law,
+    one_list_of_receipts, one_list_with_receipt,
 };
 use spiffe_name::TrustDomain;
 use std::alloc::Global;
@@ -182,7 +183,8 @@ impl<'a, J: RegistryId, R: Wait + Clock> Site<'a, J, R> {
     /// The last place, as a new seat is informed of it.
     pub fn place(&self) -> Result<u64, Failed> {
         let mut seat = self.seat()?;
-        self.registry.news(self.rt, &mut seat)?;
+        let receipt = self.registry.news(self.rt, &mut seat)?;
+        one_list_of_receipts(&receipt, &receipt);
         Ok(seat.place())
     }
 
@@ -284,6 +286,7 @@ impl<'a, J: RegistryId, R: Wait + Clock> Site<'a, J, R> {
     fn takes(&self, seat: &mut Seat<J>, number: u64) -> Result<String, Failed> {
         let letter = self.letter(number)?;
         let place = letter.place;
+        one_list_with_receipt(seat, &letter.receipt);
         learn(seat, &letter.receipt);
         drop(letter);
         Ok(kind_at_place(self.alloc, "taken", place)?)

@@ -1,7 +1,8 @@
-use Rattle.std.proofs.Common.{◌+◌, ◌∙◌, sym, subst}
+use Rattle.std.proofs.Common.{◌+◌, ◌∙◌, length, sym, ap, subst, arith}
 use mathlib.Core.List.{IsPrefix}
 use Rattle.shared_registry.specs.Outcomes.{WasOvertaken}
-use Rattle.shared_registry.proofs.Tries.{during_call_joined, once_again}
+use Rattle.shared_registry.specs.Seated.{Seated}
+use Rattle.shared_registry.proofs.Tries.{conflict_took, during_call_joined, once_again}
 use Rattle.shared_registry.proofs.registry.Registry.submit.Goals as goal
 
 pub loop-preserved : goal.loop-preserved
@@ -17,3 +18,10 @@ loop-preserved g c =
           (once_again c.take_call.new.self c.loop.seat c.attempt.new.seat c.loop.batch c.loop.counter c.loop.place c.in-Err.end i.tries i.place i.during_call.seen i.during_call.learnt e.during_call.seen once);
       seen_learnt = λ _. subst (λ l. IsPrefix l c.attempt.new.seat.seen) (sym e.during_call.learnt) once.seen_learnt;
     }
+
+pub returns-clause-commits : goal.returns-clause-commits
+returns-clause-commits g c n is =
+    let i = c.loop.invariant in
+    let took = conflict_took c.take_call.new.self c.loop.seat c.loop.batch c.loop.counter c.loop.place i.tries i.place i.during_call.seen n is in
+    let same = ap (λ (s : Seated). length s.seen) c.take_call.ensures.taken in
+    omega (arith, took, same, c.loop-test.false, c.loop.auto.counter-end)

@@ -1,7 +1,7 @@
 use Rattle.std.proofs.Common.{◌≡◌, ◌+◌, ◌∙◌, IfOk, sym, ap, refl, subst, arith}
 use mathlib.Core.List.{IsPrefix}
 use Rattle.commit_head.specs.Journals.{IsLawfulJournal}
-use Rattle.shared_registry.specs.Seated.{MaySee, Seated}
+use Rattle.shared_registry.specs.Seated.{MaySeeFound, Seated}
 use Rattle.shared_registry.specs.SeatCalls.{AllBelow, calls_of}
 use Rattle.shared_registry.proofs.Calls.{calls_same, below_more}
 use Rattle.shared_registry.proofs.Prefixes.{prefix_self}
@@ -43,12 +43,12 @@ returns-clause-found g c =
           let more : IsPrefix run.seen w.in-Ok.prefix = ok_of _ _ _ w.in-Ok.is looked.seen in
           let learnt : IsPrefix run.learnt w.in-Ok.prefix = ok_of _ _ _ w.in-Ok.is looked.learnt in
           let count = ok_of _ _ _ w.in-Ok.is looked.count in
-          let may : MaySee domain new = record {
+          let may : MaySeeFound domain new = record {
             lawful = subst (IsLawfulJournal domain) same w.len-after.ensures.lawful;
             seen = subst (IsPrefix run.seen) same more;
             learnt = subst (IsPrefix run.learnt) same learnt;
             own = ap (calls_of run.number) (sym same) ∙ calls_same run.number _ _ more (sym (count ∙ c.self.invariant.1));
           } in
           ok_any _ c.match-found.result may
-      | in-Err w ↦ subst (λ r. IfOk r (λ _. MaySee domain new)) (sym w.result-is) tt
+      | in-Err w ↦ subst (λ r. IfOk r (λ _. MaySeeFound domain new)) (sym w.result-is) tt
     ]
