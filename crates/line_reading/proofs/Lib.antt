@@ -7,5 +7,3 @@ pub mod EventDomain
 pub mod RecordDomain
 pub mod Kept
 pub mod Others
-pub mod Trees
-pub mod Parsed

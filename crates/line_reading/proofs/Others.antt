@@ -1,17 +1,22 @@
 -- Which key is refused if an object has keys other than those of the format: the least in the order of bytes.
-use Rattle.std.proofs.Common.{◌≡◌, ℕ, Bool, true, false, cond, List, Option, None, Some, Ordering, Less, Equal, Greater, is_eq, refl, sym, ap, subst, ◌∙◌, inl, inr, ⊎_elim}
-use Rattle.std.proofs.lemmas.Bool.{both_ways}
-use Rattle.std.proofs.lemmas.Map.Text.{is_eq-slice_cmp}
-use Rattle.std.proofs.lemmas.Slice.Eq.{bytes_eq-Decides}
+use Rattle.std.proofs.Common.{◌≡◌, ℕ, true, false, cond, List, [], ◌∷◌, Option, None, Some, refl, sym, ap, subst, ◌∙◌, inl, inr, ⊎_elim}
+use Rattle.std.specs.Prelude.{String, ⊤, string_bytes}
+use Rattle.std.specs.List.{AllByRecursion}
+use Rattle.std.specs.List.Sorted.{IsStrictlySortedBy}
+use Rattle.std.specs.Ordering.{is_lt, nat_cmp}
 use Rattle.std.specs.Cmp.Lexicographic.{slice_cmp}
-use Rattle.std.specs.Ordering.{match_ordering, nat_cmp}
+use Rattle.std.specs.String.{string_cmp}
+use Rattle.std.specs.declared.alloc.Global.{Global}
+use Rattle.std.specs.declared.cmp.Ordering.TheVariants.{Less}
+use Rattle.std.specs.Map.{keys_of}
+use Rattle.std.proofs.lemmas.Bool.{both_ways}
 use Rattle.entry_book.specs.Order.{is_before}
 use Rattle.entry_book.proofs.Sets.{before-irrefl, before-total, before-trans}
-use Rattle.json.specs.Json as json
-use Rattle.serde_json.specs.Data.{Data, Members, no_members, member, put}
+use Rattle.serde_json.specs.Data.{Data, Members, no_members, member}
+use Rattle.serde_json.specs.View.{members_view}
+use Rattle.serde_json.specs.declared.value.Value.{Value}
 use Rattle.line_reading.specs.declared.fault.Key.{Key}
 use Rattle.line_reading.specs.Fields.{HasKey, HasNoOther, HasOther, IsLeastOther, is_known_key, least_other, lesser}
-use Rattle.line_reading.specs.Trees.{data_of, members_of}
 
 abbrev Bytes : Type 0
 Bytes = List ℕ
@@ -36,91 +41,61 @@ none_between x m n h k = not_before x n (λ e. ⊎_elim
     (λ r. ⊎_elim (λ q. both_ways (is_before m n) k (subst (λ y. is_before y n ≡ true) (sym q) e)) (λ b. both_ways (is_before x m) h b) r)
     (before-total m x))
 
--- ---- the least other name, as members go in
+-- ---- if names ascend, the first is the least
 
--- the least of the other names with one name more
-abbrev pub with_name : List Key → Bytes → Option Bytes → Option Bytes
-with_name keys k o = cond (is_known_key keys k) o (Some (lesser k o))
+-- k is before the name, if there is one
+abbrev Before : Bytes → Option Bytes → Type 0
+Before k None = ⊤
+Before k (Some name) = is_before k name ≡ true
 
--- the least of the other names, with those of more members
-abbrev pub least_after : List Key → json.Members → Option Bytes → Option Bytes
-least_after keys json.no_members o = o
-least_after keys (json.member k j ms) o = least_after keys ms (with_name keys k o)
+before_lesser : (k name : Bytes) (o : Option Bytes) → is_before k name ≡ true → Before k o → is_before k (lesser name o) ≡ true
+before_lesser k name None b h = b
+before_lesser k name (Some other) b h = elim (is_before other name) as (λ t. is_before k (cond t other name) ≡ true) [
+  | true ↦ h
+  | false ↦ b
+]
 
-either : (b : Bool) (x : Bytes) → cond b x x ≡ x
-either true x = refl
-either false x = refl
-
-lesser-twice : (k : Bytes) (o : Option Bytes) → lesser k (Some (lesser k o)) ≡ lesser k o
-lesser-twice k None = either (is_before k k) k
-lesser-twice k (Some x) = elim (is_before x k) as (λ b. is_before x k ≡ b → lesser k (Some (cond b x k)) ≡ cond b x k) [
-  | true ↦ λ e. ap (λ b. cond b x k) e
-  | false ↦ λ e. either (is_before k k) k
+lesser_first : (k : Bytes) (o : Option Bytes) → Before k o → lesser k o ≡ k
+lesser_first k None h = refl
+lesser_first k (Some other) h = elim (is_before other k) as (λ t. is_before other k ≡ t → cond t other k ≡ k) [
+  | true ↦ λ e. absurd (before-irrefl k (before-trans k other k h e))
+  | false ↦ λ e. refl
 ] refl
 
-same_name : (k l : Bytes) → is_before k l ≡ false → is_before l k ≡ false → k ≡ l
-same_name k l h g = ⊎_elim (λ a. absurd (both_ways (is_before k l) h a)) (λ r. ⊎_elim (λ e. e) (λ b. absurd (both_ways (is_before l k) g b)) r) (before-total k l)
+less_before : (x y : Bytes) → slice_cmp nat_cmp x y ≡ Less → is_before x y ≡ true
+unfolding is_before
+less_before x y e = ap is_lt e
 
-lesser-swap-none : (k l : Bytes) → cond (is_before l k) l k ≡ cond (is_before k l) k l
-lesser-swap-none k l = elim (is_before l k) as (λ b. is_before l k ≡ b → cond b l k ≡ cond (is_before k l) k l) [
-  | true ↦ λ e. sym (ap (λ c. cond c k l) (not_after l k e))
-  | false ↦ λ e. elim (is_before k l) as (λ c. is_before k l ≡ c → k ≡ cond c k l) [ true ↦ λ f. refl | false ↦ λ f. same_name k l f e ] refl
-] refl
+abbrev Entries : Type 0
+Entries = List (String Global × Value)
 
--- k is not after x, and x is before l
-before_first : (k x l : Bytes) → is_before x k ≡ false → is_before x l ≡ true → is_before k l ≡ true
-before_first k x l h e = ⊎_elim
-    (λ a. before-trans k x l a e)
-    (λ r. ⊎_elim (λ q. subst (λ y. is_before y l ≡ true) (sym q) e) (λ b. absurd (both_ways (is_before x k) h b)) r)
-    (before-total k x)
-
-lesser-swap-some : (k l x : Bytes) → lesser k (Some (lesser l (Some x))) ≡ lesser l (Some (lesser k (Some x)))
-lesser-swap-some k l x = elim (is_before x l) as (λ b. is_before x l ≡ b → lesser k (Some (cond b x l)) ≡ lesser l (Some (cond (is_before x k) x k))) [
-  | true ↦ λ e. elim (is_before x k) as (λ c. is_before x k ≡ c → cond c x k ≡ lesser l (Some (cond c x k))) [
-    | true ↦ λ f. sym (ap (λ b. cond b x l) e)
-    | false ↦ λ f. sym (ap (λ b. cond b k l) (before_first k x l f e))
-  ] refl
-  | false ↦ λ e. elim (is_before x k) as (λ c. is_before x k ≡ c → cond (is_before l k) l k ≡ lesser l (Some (cond c x k))) [
-    | true ↦ λ f. ap (λ b. cond b l k) (before_first l x k e f) ∙ sym (ap (λ b. cond b x l) e)
-    | false ↦ λ f. lesser-swap-none k l
-  ] refl
-] refl
-
-lesser-swap : (k l : Bytes) (o : Option Bytes) → lesser k (Some (lesser l o)) ≡ lesser l (Some (lesser k o))
-lesser-swap k l None = lesser-swap-none k l
-lesser-swap k l (Some x) = lesser-swap-some k l x
-
-module _ (keys : List Key) where
-  with_name-twice : (k : Bytes) (o : Option Bytes) → with_name keys k o ≡ with_name keys k (with_name keys k o)
-  with_name-twice k o = elim (is_known_key keys k) as (λ b. cond b o (Some (lesser k o)) ≡ cond b (cond b o (Some (lesser k o))) (Some (lesser k (cond b o (Some (lesser k o)))))) [
-    | true ↦ refl
-    | false ↦ ap (λ x. Some x) (sym (lesser-twice k o))
-  ]
-
-  with_name-swap : (k l : Bytes) (o : Option Bytes) → with_name keys k (with_name keys l o) ≡ with_name keys l (with_name keys k o)
-  with_name-swap k l o = elim (is_known_key keys k) as (λ b. cond b (with_name keys l o) (Some (lesser k (with_name keys l o))) ≡ with_name keys l (cond b o (Some (lesser k o)))) [
-    | true ↦ refl
-    | false ↦ elim (is_known_key keys l) as (λ c. Some (lesser k (cond c o (Some (lesser l o)))) ≡ cond c (Some (lesser k o)) (Some (lesser l (Some (lesser k o))))) [
-      | true ↦ refl
-      | false ↦ ap (λ x. Some x) (lesser-swap k l o)
+before_others : (keys : List Key) (k : String Global) (ms : Entries) → AllByRecursion (λ y. string_cmp k y ≡ Less) (keys_of ms) → Before (string_bytes k) (least_other keys (members_view ms))
+before_others keys k [] h = tt
+before_others keys k (m ∷ ms) h =
+    let rest = least_other keys (members_view ms) in
+    let after : Before (string_bytes k) rest = before_others keys k ms h.1 in
+    elim (is_known_key keys (string_bytes m.0)) as (λ b. Before (string_bytes k) (cond b rest (Some (lesser (string_bytes m.0) rest)))) [
+      | true ↦ after
+      | false ↦ before_lesser (string_bytes k) (string_bytes m.0) rest (less_before (string_bytes k) (string_bytes m.0) h.0) after
     ]
-  ]
 
-  least_other-put_at : (o : Ordering) (k l : Bytes) (d e : Data) (ms : Members) → slice_cmp nat_cmp k l ≡ o → least_other keys (put k d ms) ≡ with_name keys k (least_other keys ms)
-      → least_other keys (match_ordering o (member k d (member l e ms)) (member l d ms) (member l e (put k d ms))) ≡ with_name keys k (with_name keys l (least_other keys ms))
-  least_other-put_at Less k l d e ms is later = refl
-  least_other-put_at Equal k l d e ms is later =
-      let same : k ≡ l = (bytes_eq-Decides k l).0 (sym (is_eq-slice_cmp k l) ∙ ap is_eq is) in
-      with_name-twice l (least_other keys ms) ∙ ap (λ n. with_name keys n (with_name keys l (least_other keys ms))) (sym same)
-  least_other-put_at Greater k l d e ms is later = ap (with_name keys l) later ∙ with_name-swap l k (least_other keys ms)
+pub ascending_rest : (m : String Global × Value) (ms : Entries) → IsStrictlySortedBy string_cmp (keys_of (m ∷ ms)) → IsStrictlySortedBy string_cmp (keys_of ms)
+unfolding IsStrictlySortedBy
+ascending_rest m ms h = h.1
 
-  least_other-put : (k : Bytes) (d : Data) (ms : Members) → least_other keys (put k d ms) ≡ with_name keys k (least_other keys ms)
-  least_other-put k d no_members = refl
-  least_other-put k d (member l e ms) = least_other-put_at _ k l d e ms refl (least_other-put k d ms)
+pub first_is_least : (keys : List Key) (m : String Global × Value) (ms : Entries) → IsStrictlySortedBy string_cmp (keys_of (m ∷ ms)) → is_known_key keys (string_bytes m.0) ≡ false
+    → least_other keys (members_view (m ∷ ms)) ≡ Some (string_bytes m.0)
+unfolding IsStrictlySortedBy
+first_is_least keys m ms h e =
+    let rest = least_other keys (members_view ms) in
+    let least : lesser (string_bytes m.0) rest ≡ string_bytes m.0 = lesser_first (string_bytes m.0) rest (before_others keys m.0 ms h.0) in
+    ap (λ b. cond b rest (Some (lesser (string_bytes m.0) rest))) e ∙ ap (λ x. Some x) least
 
-  pub least_other-members_of : (ms : json.Members) (found : Members) → least_other keys (members_of ms found) ≡ least_after keys ms (least_other keys found)
-  least_other-members_of json.no_members found = refl
-  least_other-members_of (json.member k j ms) found = least_other-members_of ms (put k (data_of j) found) ∙ ap (least_after keys ms) (least_other-put k (data_of j) found)
+pub known_is_passed : (keys : List Key) (m : String Global × Value) (ms : Entries) → is_known_key keys (string_bytes m.0) ≡ true
+    → least_other keys (members_view (m ∷ ms)) ≡ least_other keys (members_view ms)
+known_is_passed keys m ms e =
+    let rest = least_other keys (members_view ms) in
+    ap (λ b. cond b rest (Some (lesser (string_bytes m.0) rest))) e
 
 -- ---- the theorem
 

@@ -2,7 +2,6 @@ pub mod Codes
 pub mod Ids
 pub mod Fields
 pub mod FieldsPrivate
-pub mod Trees
 pub mod Operations
 pub mod Batches
 pub mod Requests
@@ -10,3 +9,4 @@ pub mod Events
 pub mod Records
 pub mod RecordViews
 pub mod Kept
+pub mod Laws

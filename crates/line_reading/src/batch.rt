@@ -5,26 +5,25 @@
 //! none.
 
 ghost use Rattle.std.specs.Prelude.{◌≡◌};
-ghost use Rattle.line_reading.specs.Trees.{items_view, members_view, view};
+ghost use Rattle.serde_json.specs.View.{items_view, members_view, view};
 ghost use Rattle.line_reading.specs.Batches.{batch_alone_in, batch_in, batch_of, items_at, listed_in, missing_with_token};
 ghost use Rattle.line_reading.specs.FieldsPrivate.{Gives};
 
 use crate::fault::{Code, Fault, Key};
 use crate::fields::{at_key, no_others, optional_number_at, optional_uuid_at, value_at};
-use crate::ids::{IdStream, MissingId};
+use crate::ids::{Ids, MissingId};
 use crate::ops::ops_in;
-use crate::tree::{Members, items_of};
 use entry_book::{Batch, Op, Sequence};
-use json::Value;
+use serde_json::{Map, Value};
 use spiffe_name::{Failure, TrustDomain};
 use std::alloc::Global;
 use uuid::Uuid;
 
 /// The values at a batch's own keys.
 #[derive(Drop)]
-pub(crate) struct Listed<'v, 'a> {
+pub(crate) struct Listed<'a> {
     /// The operations, not read yet, in the order of the list.
-    pub(super) items: &'v Vec<Value<'a>>,
+    pub(super) items: &'a [Value],
     /// The smallest place (commit number) at which the batch may run.
     pub(super) after: u64,
     /// The token under which its commit is stored, if it has one.
@@ -33,10 +32,10 @@ pub(crate) struct Listed<'v, 'a> {
 
 /// Returns the list of operations of an object.
 #[tactic(auto, unfolding(crate::specs::Batches::items_at))]
-fn items_at<'v, 'a>(object: &'v Value<'a>) -> Result<&'v Vec<Value<'a>>, Failure<Fault>>
-    ensures { Gives (λ items. items_view items.now.items) result (items_at (view object.now)) }
+fn items_at(object: &Value) -> Result<&[Value], Failure<Fault>>
+    ensures { Gives (λ items. items_view items.now) result (items_at (view object.now)) }
 {
-    match value_at(object, Key::Ops).and_then(items_of) {
+    match value_at(object, Key::Ops).and_then(Value::as_array) {
         Some(items) => Ok(items),
         None => Err(at_key(Code::Field, Key::Ops)),
     }
@@ -44,9 +43,9 @@ fn items_at<'v, 'a>(object: &'v Value<'a>) -> Result<&'v Vec<Value<'a>>, Failure
 
 /// Reads a batch's own keys of an object. Without `after` the batch may run at any place.
 #[tactic(auto, unfolding(crate::specs::Batches::listed_in))]
-pub(crate) fn listed_in<'v, 'a>(object: &'v Value<'a>) -> Result<Listed<'v, 'a>, Failure<Fault>>
+pub(crate) fn listed_in(object: &Value) -> Result<Listed<'_>, Failure<Fault>>
     ensures { Gives (λ listed. record {
-      items = items_view listed.items.now.items;
+      items = items_view listed.items.now;
       after = listed.after;
       token = listed.token;
     }) result (listed_in (view object.now)) }
@@ -97,12 +96,12 @@ fn missing_with_token(token: &Option<Uuid>) -> MissingId
 pub(crate) fn batch_in(
     alloc: Global,
     domain: &TrustDomain,
-    ids: &mut IdStream,
-    listed: &Listed<'_, '_>,
+    ids: &mut Ids,
+    listed: &Listed<'_>,
 ) -> Result<Batch, Failure<Fault>>
     ensures { Gives (λ batch. (batch, ids.new)) result
         (batch_in domain.now ids.old (record {
-          items = items_view listed.now.items.now.items;
+          items = items_view listed.now.items.now;
           after = listed.now.after;
           token = listed.now.token;
         })) }
@@ -117,12 +116,12 @@ pub(crate) fn batch_in(
 pub(crate) fn batch_alone_in(
     alloc: Global,
     domain: &TrustDomain,
-    ids: &mut IdStream,
-    object: &Value<'_>,
-    members: &Members<'_>,
+    ids: &mut Ids,
+    object: &Value,
+    members: &Map<String, Value>,
 ) -> Result<Batch, Failure<Fault>>
     ensures { Gives (λ batch. (batch, ids.new)) result
-        (batch_alone_in domain.now ids.old (view object.now) (members_view members.now.items)) }
+        (batch_alone_in domain.now ids.old (view object.now) (members_view members.now.entries)) }
 {
     let listed = listed_in(object)?;
     no_others(members, &[Key::Ops, Key::After, Key::Token])?;

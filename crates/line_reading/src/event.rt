@@ -1,7 +1,7 @@
 //! Which event does a line parse to?
 
 ghost use Rattle.std.specs.Prelude.{◌≡◌, IfErr, IfOk, MatchResult, OnErr};
-ghost use Rattle.line_reading.specs.Trees.{members_view, view};
+ghost use Rattle.serde_json.specs.View.{members_view, view};
 ghost use Rattle.spiffe_name.specs.Failures.{IsNoMemory};
 ghost use Rattle.call_events.specs.Events.{IsFor};
 ghost use Rattle.line_reading.specs.Events.{event_alone_in, event_in, event_of, invoke_in, kind_at, kind_of, spelled_event};
@@ -12,12 +12,11 @@ ghost use Rattle.line_reading.specs.Requests.{NeedsMemory};
 use crate::batch::batch_alone_in;
 use crate::fault::{Code, Fault, Key};
 use crate::fields::{at_key, no_others, number_at, value_at};
-use crate::ids::{IdStream, Ids, free_after, scratch_in};
+use crate::ids::Ids;
 use crate::refusal::LineRefusal;
-use crate::request::{framed, object_in, text_in};
-use crate::tree::{Members, members_of, text_of, value_in};
+use crate::request::{framed, object_in, text_in, value_in};
 use call_events::Event;
-use json::{Scratch, Value};
+use serde_json::{Map, Value};
 use spiffe_name::{Failure, TrustDomain};
 use std::alloc::Global;
 
@@ -60,10 +59,13 @@ fn kind_of(word: &str) -> Option<EventKind>
 
 /// Reads the kind of event at the key.
 #[tactic(auto, unfolding(crate::specs::Events::kind_at))]
-fn kind_at(object: &Value<'_>, key: Key) -> Result<EventKind, Failure<Fault>>
+fn kind_at(object: &Value, key: Key) -> Result<EventKind, Failure<Fault>>
     ensures { Gives (λ kind. kind) result (kind_at key (view object.now)) }
 {
-    match value_at(object, key).and_then(text_of).and_then(kind_of) {
+    match value_at(object, key)
+        .and_then(Value::as_str)
+        .and_then(kind_of)
+    {
         Some(kind) => Ok(kind),
         None => Err(at_key(Code::Field, key)),
     }
@@ -74,18 +76,18 @@ fn kind_at(object: &Value<'_>, key: Key) -> Result<EventKind, Failure<Fault>>
 fn invoke_in(
     alloc: Global,
     domain: &TrustDomain,
-    ids: &mut IdStream,
+    ids: &mut Ids,
     call: u64,
-    object: &Value<'_>,
-    members: &Members<'_>,
+    object: &Value,
+    members: &Map<String, Value>,
 ) -> Result<Event, Failure<Fault>>
     ensures { Gives (λ event. (event, ids.new)) result
-        (invoke_in domain.now ids.old call (view object.now) (members_view members.now.items)) }
+        (invoke_in domain.now ids.old call (view object.now) (members_view members.now.entries)) }
 {
     let Some(inner) = value_at(object, Key::Batch) else {
         return Err(at_key(Code::Field, Key::Batch));
     };
-    let Some(inner_members) = members_of(inner) else {
+    let Some(inner_members) = inner.as_object() else {
         return Err(at_key(Code::Field, Key::Batch));
     };
     no_others(members, &[Key::Event, Key::Call, Key::Batch])?;
@@ -95,8 +97,8 @@ fn invoke_in(
 
 /// Returns the event, unless the line has keys other than `event` and `call`.
 #[tactic(auto, unfolding(crate::specs::Events::event_alone_in))]
-fn event_alone_in(event: Event, members: &Members<'_>) -> Result<Event, Failure<Fault>>
-    ensures { Gives (λ e. e) result (event_alone_in event (members_view members.now.items)) }
+fn event_alone_in(event: Event, members: &Map<String, Value>) -> Result<Event, Failure<Fault>>
+    ensures { Gives (λ e. e) result (event_alone_in event (members_view members.now.entries)) }
 {
     no_others(members, &[Key::Event, Key::Call])?;
     Ok(event)
@@ -106,14 +108,14 @@ fn event_alone_in(event: Event, members: &Members<'_>) -> Result<Event, Failure<
 fn event_of(
     alloc: Global,
     domain: &TrustDomain,
-    ids: &mut IdStream,
+    ids: &mut Ids,
     kind: EventKind,
     call: u64,
-    object: &Value<'_>,
-    members: &Members<'_>,
+    object: &Value,
+    members: &Map<String, Value>,
 ) -> Result<Event, Failure<Fault>>
     ensures { Gives (λ event. (event, ids.new)) result
-        (event_of domain.now ids.old kind call (view object.now) (members_view members.now.items)) }
+        (event_of domain.now ids.old kind call (view object.now) (members_view members.now.entries)) }
 {
     match kind {
         EventKind::Invoke => invoke_in(alloc, domain, ids, call, object, members),
@@ -129,12 +131,12 @@ fn event_of(
 fn event_in(
     alloc: Global,
     domain: &TrustDomain,
-    ids: &mut IdStream,
-    object: &Value<'_>,
-    members: &Members<'_>,
+    ids: &mut Ids,
+    object: &Value,
+    members: &Map<String, Value>,
 ) -> Result<Event, Failure<Fault>>
     ensures { Gives (λ event. (event, ids.new)) result
-        (event_in domain.now ids.old (view object.now) (members_view members.now.items)) }
+        (event_in domain.now ids.old (view object.now) (members_view members.now.entries)) }
 {
     let kind = kind_at(object, Key::Event)?;
     let call = number_at(object, Key::Call)?;
@@ -146,8 +148,7 @@ fn event_in(
 fn event_of_line(
     alloc: Global,
     domain: &TrustDomain,
-    ids: &mut IdStream,
-    scratch: &mut Option<Scratch>,
+    ids: &mut Ids,
     line: &[u8],
 ) -> Result<Event, Failure<Fault>>
     ensures spelled { Gives (λ event. (event, ids.new)) result (spelled_event domain.now ids.old line.now) }
@@ -156,7 +157,7 @@ fn event_of_line(
 {
     framed(line)?;
     let text = text_in(line)?;
-    let value = value_in(alloc, text, scratch_in(alloc, scratch))?;
+    let value = value_in(alloc, text)?;
     let members = object_in(&value)?;
     let mut after = ids.clone()?;
     let event = event_in(alloc, domain, &mut after, &value, members)?;
@@ -182,9 +183,7 @@ pub fn read_event(
     ensures memory { IfErr result (λ refusal. IsNoMemory refusal.failure → NeedsMemory line.now) }
     ensures domain { IfOk result (IsFor domain.now) }
 {
-    let result = event_of_line(alloc, domain, &mut ids.stream, &mut ids.scratch, line);
-    free_after(line, &mut ids.scratch);
-    match result {
+    match event_of_line(alloc, domain, ids, line) {
         Ok(event) => Ok(event),
         Err(failure) => Err(LineRefusal {
             line: number,

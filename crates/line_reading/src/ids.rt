@@ -4,17 +4,12 @@ ghost use Rattle.std.specs.Prelude.{◌≡◌, ◌++◌};
 ghost use Rattle.std.specs.Int.{to_le_bytes, w32};
 ghost use Rattle.line_reading.specs.Ids.{AreOfTheirWords, IsKnownFirst, ZeroIsTheSeeds};
 
-use json::Scratch;
 use rand_chacha::ChaCha20Rng;
 use rand_core::SeedableRng;
 use rand_core::utils::NextWord;
-use std::alloc::{AllocError, Global};
+use std::alloc::AllocError;
 use std::marker::Model;
 use uuid::{Builder, Uuid};
-
-/// After a line with more bytes than this, the memory with which it was parsed is freed. Otherwise a session that sent one long
-/// line would hold up to a megabyte until its end.
-const LONG_LINE: usize = 64 * 1024;
 
 /// What happens to a new entry without an id.
 #[derive(Clone, Copy, Debug, PartialEq, Eq, Drop)]
@@ -27,13 +22,9 @@ pub enum MissingId {
 
 /// The ids that a server gives to entries without one: version 4 UUIDs of the words of a ChaCha20 stream. The model in
 /// contracts is the generator: its key, its stream and the position of its next word.
-///
-/// The value also keeps the memory with which lines are parsed: 16 KB, and as many bytes as the longest line so far has. These
-/// bytes are freed after a line of more than 64 KiB.
 #[derive(Drop)]
 pub struct Ids {
-    pub(crate) stream: IdStream,
-    pub(crate) scratch: Option<Scratch>,
+    words: ChaCha20Rng,
 }
 
 impl Model for Ids {
@@ -41,20 +32,19 @@ impl Model for Ids {
 
     ghost Value = { ChaCha };
 
-    ghost view = { λ ids. ids.stream };
+    ghost view = { λ ids. ids.words };
 }
 
 impl Ids {
     ghost use Rattle.std.specs.Prelude.{◌≡◌};
-    ghost use Rattle.line_reading.specs.Ids.{first_ids, stream_ids};
+    ghost use Rattle.line_reading.specs.Ids.{after_id, first_ids, next_id, stream_ids};
 
     /// Returns the ids of a seed, from the start of stream 0.
     pub fn of_seed(seed: [u8; 32]) -> Ids
         ensures { result ≡ first_ids seed }
     {
         Ids {
-            stream: IdStream::of_seed(seed),
-            scratch: None,
+            words: ChaCha20Rng::from_seed(seed),
         }
     }
 
@@ -65,50 +55,7 @@ impl Ids {
     {
         let mut words = ChaCha20Rng::from_seed(seed);
         words.set_stream(stream);
-        Ids {
-            stream: IdStream { words },
-            scratch: None,
-        }
-    }
-}
-
-/// The copy keeps no memory for lines.
-impl Clone for Ids {
-    ghost is_clone = { λ original copy. copy ≡ original };
-
-    fn clone(&self) -> Result<Ids, AllocError> {
-        Ok(Ids {
-            stream: self.stream.clone()?,
-            scratch: None,
-        })
-    }
-}
-
-/// The generator of ids. Each line draws from a copy.
-#[derive(Drop)]
-pub(crate) struct IdStream {
-    words: ChaCha20Rng,
-}
-
-impl Model for IdStream {
-    ghost use Rattle.rand_chacha.specs.ChaCha.{ChaCha};
-
-    ghost Value = { ChaCha };
-
-    ghost view = { λ ids. ids.words };
-}
-
-impl IdStream {
-    ghost use Rattle.std.specs.Prelude.{◌≡◌};
-    ghost use Rattle.line_reading.specs.Ids.{after_id, first_ids, next_id};
-
-    /// Returns the generator of a seed, at the start of stream 0.
-    pub(crate) fn of_seed(seed: [u8; 32]) -> IdStream
-        ensures { result ≡ first_ids seed }
-    {
-        IdStream {
-            words: ChaCha20Rng::from_seed(seed),
-        }
+        Ids { words }
     }
 
     /// Returns the next id: four words, each as four bytes in little-endian order, with the bits of version 4 and the
@@ -125,25 +72,13 @@ impl IdStream {
     }
 }
 
-impl Clone for IdStream {
+impl Clone for Ids {
     ghost is_clone = { λ original copy. copy ≡ original };
 
-    fn clone(&self) -> Result<IdStream, AllocError> {
-        Ok(IdStream {
+    fn clone(&self) -> Result<Ids, AllocError> {
+        Ok(Ids {
             words: self.words.clone()?,
         })
-    }
-}
-
-/// Returns the memory with which lines are parsed. It is made here if there is none.
-pub(crate) fn scratch_in(alloc: Global, kept: &mut Option<Scratch>) -> &mut Scratch {
-    kept.get_or_insert_with(|| Scratch::new(alloc))
-}
-
-/// Frees the memory with which lines are parsed, if this line, the last, is longer than [`LONG_LINE`].
-pub(crate) fn free_after(line: &[u8], kept: &mut Option<Scratch>) {
-    if line.len() > LONG_LINE {
-        *kept = None;
     }
 }
 

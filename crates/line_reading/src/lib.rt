@@ -6,18 +6,19 @@
 //! - [`read_event`] does the same for the line of an event of the machine of calls; `spelled_event` is its definition.
 //! - [`read_record`] parses a line to a [`Record`] of a call, for an audit; `spelled_record` is its definition.
 //! - [`Ids`] gives ids to entries without one; [`ids_law`] says which words of its stream they are made of.
-//! - [`kept_law`] says that the bytes kept of a line parse to what the whole line parses to.
+//! - [`kept_law`] says that the bytes kept of a line parse to what the whole line parses to; [`parsed_law`] which value a line
+//!   has, and for which trust domain its event is.
 //!
 //! The definitions are in `specs/`. `Requests`, `Events` and `Records` define what a line parses to. `Batches` and `Operations`
 //! define what an object with a batch parses to, and `Fields` the values at the keys. `Codes` has the codes and keys, `Ids` the
 //! ids. `RecordViews` says which audit record a [`Record`] represents, and `Kept` has the theorem on the bytes that are kept of a
-//! line. `FieldsPrivate` and `Trees` are for this crate's own contracts.
+//! line, and `Laws` the other theorems. `FieldsPrivate` is for this crate's own contracts.
 //!
 //! - `fault`: what can be wrong with a line; `refusal`: the same with the line's number.
 //! - `request`: a line, and a request's keys next to those of its batch; `tries`: how often a batch may be tried.
 //! - `event`: a line that is an event of a call; `record`: a line that reports a call with its reply.
 //! - `batch`, `ops`: an object that holds a batch, and its operations; `ids`: the ids for entries without one.
-//! - `tree`: a line's JSON value; `fields`: the values at an object's keys; `kept_lines`: the bytes kept of a line.
+//! - `fields`: the values at an object's keys; `kept_lines`: the bytes kept of a line.
 //!
 //! `docs/GLOSSARY.md` explains the terms.
 #![tactic(auto)]
@@ -28,11 +29,11 @@ mod fault;
 mod fields;
 mod ids;
 mod kept_lines;
+mod laws;
 mod ops;
 mod record;
 mod refusal;
 mod request;
-mod tree;
 mod tries;
 
 pub use event::read_event;
@@ -40,6 +41,7 @@ pub use fault::{Code, Fault, Field, Key};
 pub use fields::unknown_keys_law;
 pub use ids::{Ids, ids_law};
 pub use kept_lines::kept_law;
+pub use laws::parsed_law;
 pub use record::{Record, read_record};
 pub use refusal::LineRefusal;
 pub use request::{Request, read_request};

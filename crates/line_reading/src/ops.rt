@@ -1,7 +1,7 @@
 //! Which operation does an object parse to?
 
 ghost use Rattle.std.specs.Prelude.{Some};
-ghost use Rattle.line_reading.specs.Trees.{items_view, members_view, view};
+ghost use Rattle.serde_json.specs.View.{items_view, members_view, view};
 ghost use Rattle.line_reading.specs.FieldsPrivate.{Gives};
 ghost use Rattle.line_reading.specs.Operations.{at_op, named_op, op_in, ops_in, undrawn_in};
 
@@ -12,14 +12,13 @@ mod pages;
 
 use crate::fault::{Code, Fault, Key};
 use crate::fields::{at_key, text_at};
-use crate::ids::{IdStream, MissingId};
-use crate::tree::{Members, members_of};
+use crate::ids::{Ids, MissingId};
 use agents::{authorised_in, drop_agent_in, set_agent_in, show_agent_in, trust_in};
 use bundles::{drop_bundle_in, set_bundle_in, show_bundle_in};
 use entries::{children_in, create_in, delete_in, prune_in, show_in, update_in};
 use entry_book::{Op, Sequence};
-use json::Value;
 use pages::page_in;
+use serde_json::{Map, Value};
 use spiffe_name::Failure;
 use std::alloc::Global;
 
@@ -27,11 +26,11 @@ use std::alloc::Global;
 fn undrawn_in(
     alloc: Global,
     name: &str,
-    object: &Value<'_>,
-    members: &Members<'_>,
+    object: &Value,
+    members: &Map<String, Value>,
 ) -> Result<Op, Failure<Fault>>
     ensures { Gives (λ op. op) result
-        (undrawn_in name.now (view object.now) (members_view members.now.items)) }
+        (undrawn_in name.now (view object.now) (members_view members.now.entries)) }
 {
     if name == "update" {
         return update_in(alloc, object, members);
@@ -82,13 +81,13 @@ fn undrawn_in(
 fn named_op(
     alloc: Global,
     missing: MissingId,
-    ids: &mut IdStream,
+    ids: &mut Ids,
     name: &str,
-    object: &Value<'_>,
-    members: &Members<'_>,
+    object: &Value,
+    members: &Map<String, Value>,
 ) -> Result<Op, Failure<Fault>>
     ensures { Gives (λ op. (op, ids.new)) result
-        (named_op missing ids.old name.now (view object.now) (members_view members.now.items)) }
+        (named_op missing ids.old name.now (view object.now) (members_view members.now.entries)) }
 {
     if name == "create" {
         return create_in(alloc, missing, ids, object, members);
@@ -101,12 +100,12 @@ fn named_op(
 fn op_in(
     alloc: Global,
     missing: MissingId,
-    ids: &mut IdStream,
-    object: &Value<'_>,
+    ids: &mut Ids,
+    object: &Value,
 ) -> Result<Op, Failure<Fault>>
     ensures { Gives (λ op. (op, ids.new)) result (op_in missing ids.old (view object.now)) }
 {
-    let Some(members) = members_of(object) else {
+    let Some(members) = object.as_object() else {
         return Err(at_key(Code::Field, Key::Ops));
     };
     let name = text_at(object, Key::Op)?;
@@ -117,9 +116,9 @@ fn op_in(
 fn op_at(
     alloc: Global,
     missing: MissingId,
-    ids: &mut IdStream,
+    ids: &mut Ids,
     index: usize,
-    object: &Value<'_>,
+    object: &Value,
 ) -> Result<Op, Failure<Fault>>
     ensures { Gives (λ op. (op, ids.new)) result
         (at_op index (op_in missing ids.old (view object.now))) }
@@ -139,8 +138,8 @@ fn op_at(
 pub(crate) fn ops_in(
     alloc: Global,
     missing: MissingId,
-    ids: &mut IdStream,
-    items: &[Value<'_>],
+    ids: &mut Ids,
+    items: &[Value],
 ) -> Result<Sequence<Op>, Failure<Fault>>
     ensures { Gives (λ ops. (ops, ids.new)) result (ops_in 0 missing ids.old (items_view items.now)) }
 {

@@ -1,7 +1,7 @@
 //! Which record of a call does a line parse to?
 
 ghost use Rattle.std.specs.Prelude.{◌≡◌, IfErr, Ok, IfOk, MatchResult};
-ghost use Rattle.line_reading.specs.Trees.{members_view, view};
+ghost use Rattle.serde_json.specs.View.{members_view, view};
 ghost use Rattle.spiffe_name.specs.Failures.{IsNoMemory};
 ghost use Rattle.line_reading.specs.Fields.{Fails};
 ghost use Rattle.line_reading.specs.FieldsPrivate.{Gives};
@@ -12,13 +12,12 @@ ghost use Rattle.line_reading.specs.Requests.{NeedsMemory};
 use crate::batch::{batch_of, listed_in};
 use crate::fault::{Code, Fault, Key};
 use crate::fields::{at_key, no_others, number_at, number_in, value_at};
-use crate::ids::{IdStream, MissingId};
+use crate::ids::{Ids, MissingId};
 use crate::ops::ops_in;
 use crate::refusal::LineRefusal;
-use crate::request::{framed, object_in, text_in};
-use crate::tree::{Members, is_null, members_of, owned, value_in};
+use crate::request::{framed, object_in, text_in, value_in};
 use entry_book::Batch;
-use json::{Scratch, Value};
+use serde_json::{Map, Value};
 use spiffe_name::{Failure, TrustDomain};
 use std::alloc::Global;
 
@@ -34,18 +33,18 @@ pub struct Record {
     /// The number of its reply; `None` if it hasn't replied.
     pub replied: Option<u64>,
     /// Its reply; a record with a reply that isn't an object is refused.
-    pub reply: serde_json::Value,
+    pub reply: Value,
 }
 
 /// Reads the whole number at a key, or `None` if the value is null. The key must be there.
 #[tactic(auto, unfolding(crate::specs::Records::number_or_null_at))]
-fn number_or_null_at(object: &Value<'_>, key: Key) -> Result<Option<u64>, Failure<Fault>>
+fn number_or_null_at(object: &Value, key: Key) -> Result<Option<u64>, Failure<Fault>>
     ensures { Gives (λ n. n) result (number_or_null_at key (view object.now)) }
 {
     let Some(value) = value_at(object, key) else {
         return Err(at_key(Code::Field, key));
     };
-    if is_null(value) {
+    if value.is_null() {
         return Ok(None);
     }
     Ok(Some(number_in(value, key)?))
@@ -53,13 +52,13 @@ fn number_or_null_at(object: &Value<'_>, key: Key) -> Result<Option<u64>, Failur
 
 /// Reads the object at a key.
 #[tactic(auto, unfolding(crate::specs::Records::object_at))]
-fn object_at<'v, 'a>(object: &'v Value<'a>, key: Key) -> Result<&'v Value<'a>, Failure<Fault>>
+fn object_at(object: &Value, key: Key) -> Result<&Value, Failure<Fault>>
     ensures { Gives (λ value. view value.now) result (object_at key (view object.now)) }
 {
     let Some(value) = value_at(object, key) else {
         return Err(at_key(Code::Field, key));
     };
-    if members_of(value).is_none() {
+    if !value.is_object() {
         return Err(at_key(Code::Field, key));
     }
     Ok(value)
@@ -70,15 +69,15 @@ fn object_at<'v, 'a>(object: &'v Value<'a>, key: Key) -> Result<&'v Value<'a>, F
 fn recorded_batch_in(
     alloc: Global,
     domain: &TrustDomain,
-    object: &Value<'_>,
-    members: &Members<'_>,
+    object: &Value,
+    members: &Map<String, Value>,
 ) -> Result<Batch, Failure<Fault>>
     ensures { Gives (λ batch. batch) result
-        (recorded_batch_in domain.now (view object.now) (members_view members.now.items)) }
+        (recorded_batch_in domain.now (view object.now) (members_view members.now.entries)) }
 {
     let listed = listed_in(object)?;
     no_others(members, &[Key::Ops, Key::After, Key::Token])?;
-    let mut ids = IdStream::of_seed([0; 32]);
+    let mut ids = Ids::of_seed([0; 32]);
     let ops = ops_in(alloc, MissingId::Refused, &mut ids, listed.items)?;
     batch_of(alloc, domain, ops, listed.after, listed.token)
 }
@@ -88,16 +87,16 @@ fn recorded_batch_in(
 fn record_in(
     alloc: Global,
     domain: &TrustDomain,
-    object: &Value<'_>,
-    members: &Members<'_>,
+    object: &Value,
+    members: &Map<String, Value>,
 ) -> Result<Record, Failure<Fault>>
     ensures { Gives recorded result
-        (record_in domain.now (view object.now) (members_view members.now.items)) }
+        (record_in domain.now (view object.now) (members_view members.now.entries)) }
 {
     let Some(inner) = value_at(object, Key::Batch) else {
         return Err(at_key(Code::Field, Key::Batch));
     };
-    let Some(inner_members) = members_of(inner) else {
+    let Some(inner_members) = inner.as_object() else {
         return Err(at_key(Code::Field, Key::Batch));
     };
     let call = number_at(object, Key::Call)?;
@@ -120,7 +119,7 @@ fn record_in(
         call,
         invoked,
         replied,
-        reply: owned(alloc, reply)?,
+        reply: reply.clone()?,
     })
 }
 
@@ -136,8 +135,7 @@ fn spelled_record(
 {
     framed(line)?;
     let text = text_in(line)?;
-    let mut scratch = Scratch::new(alloc);
-    let value = value_in(alloc, text, &mut scratch)?;
+    let value = value_in(alloc, text)?;
     let members = object_in(&value)?;
     record_in(alloc, domain, &value, members)
 }

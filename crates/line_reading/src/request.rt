@@ -4,7 +4,7 @@ ghost use Rattle.std.specs.Prelude.{◌≡◌, IfErr, IfOk, MatchResult, OnErr, 
 ghost use Rattle.std.specs.Io.BufRead.{ends_with_byte, strip_last};
 ghost use Rattle.std.specs.Str.{IsUtf8};
 ghost use Rattle.serde_json.specs.Find.{as_object};
-ghost use Rattle.line_reading.specs.Trees.{members_view, view};
+ghost use Rattle.serde_json.specs.View.{members_view, view};
 ghost use Rattle.spiffe_name.specs.Failures.{IsNoMemory};
 ghost use Rattle.line_reading.specs.Fields.{Fails};
 ghost use Rattle.line_reading.specs.FieldsPrivate.{Gives};
@@ -13,13 +13,12 @@ ghost use Rattle.line_reading.specs.Requests.{NeedsMemory, framed, object_in, re
 use crate::batch::{batch_in, listed_in};
 use crate::fault::{Code, Fault, Key};
 use crate::fields::{at_line, no_others, tries_at};
-use crate::ids::{IdStream, Ids, free_after, scratch_in};
+use crate::ids::Ids;
 use crate::refusal::LineRefusal;
-use crate::tree::{Members, members_of, value_in};
 use crate::tries::Tries;
 use entry_book::Batch;
-use json::{Scratch, Value};
 use line_devices::KEPT_BYTES;
+use serde_json::{Map, Value};
 use spiffe_name::{Failure, TrustDomain};
 use std::alloc::Global;
 
@@ -79,10 +78,25 @@ pub(super) fn text_in(line: &[u8]) -> Result<&str, Fault>
     }
 }
 
-pub(super) fn object_in<'v, 'a>(value: &'v Value<'a>) -> Result<&'v Members<'a>, Failure<Fault>>
-    ensures { Gives (λ m. members_view m.now.items) result (object_in (as_object (view value.now))) }
+/// Parses the text as a JSON value. No other function calls a parser of JSON, and a line is parsed once.
+#[tactic(auto, unfolding(crate::specs::Requests::value_in))]
+pub(super) fn value_in(alloc: Global, text: &str) -> Result<Value, Failure<Fault>>
+    ensures { Gives view result (value_in text.now) }
 {
-    match members_of(value) {
+    match Value::from_str(alloc, text) {
+        Ok(value) => Ok(value),
+        Err(error) => Err(if error.is_memory() {
+            Failure::NoMemory
+        } else {
+            Failure::Refused(at_line(Code::NotJson))
+        }),
+    }
+}
+
+pub(super) fn object_in(value: &Value) -> Result<&Map<String, Value>, Failure<Fault>>
+    ensures { Gives (λ m. members_view m.now.entries) result (object_in (as_object (view value.now))) }
+{
+    match value.as_object() {
         Some(members) => Ok(members),
         None => Err(Failure::Refused(at_line(Code::NotObject))),
     }
@@ -93,12 +107,12 @@ pub(super) fn object_in<'v, 'a>(value: &'v Value<'a>) -> Result<&'v Members<'a>,
 fn request_in(
     alloc: Global,
     domain: &TrustDomain,
-    ids: &mut IdStream,
-    object: &Value<'_>,
-    members: &Members<'_>,
+    ids: &mut Ids,
+    object: &Value,
+    members: &Map<String, Value>,
 ) -> Result<Request, Failure<Fault>>
     ensures { Gives (λ request. (request, ids.new)) result
-        (request_in domain.now ids.old (view object.now) (members_view members.now.items)) }
+        (request_in domain.now ids.old (view object.now) (members_view members.now.entries)) }
 {
     let listed = listed_in(object)?;
     let tries = tries_at(object, Key::Tries)?;
@@ -112,8 +126,7 @@ fn request_in(
 fn request_of_line(
     alloc: Global,
     domain: &TrustDomain,
-    ids: &mut IdStream,
-    scratch: &mut Option<Scratch>,
+    ids: &mut Ids,
     line: &[u8],
 ) -> Result<Request, Failure<Fault>>
     ensures spelled { Gives (λ request. (request, ids.new)) result (spelled domain.now ids.old line.now) }
@@ -122,7 +135,7 @@ fn request_of_line(
 {
     framed(line)?;
     let text = text_in(line)?;
-    let value = value_in(alloc, text, scratch_in(alloc, scratch))?;
+    let value = value_in(alloc, text)?;
     let members = object_in(&value)?;
     let mut after = ids.clone()?;
     let request = request_in(alloc, domain, &mut after, &value, members)?;
@@ -148,9 +161,7 @@ pub fn read_request(
     ensures memory { IfErr result (λ refusal. IsNoMemory refusal.failure → NeedsMemory line.now) }
     ensures domain { IfOk result (λ request. request.batch.domain ≡ domain.now) }
 {
-    let result = request_of_line(alloc, domain, &mut ids.stream, &mut ids.scratch, line);
-    free_after(line, &mut ids.scratch);
-    match result {
+    match request_of_line(alloc, domain, ids, line) {
         Ok(request) => Ok(request),
         Err(failure) => Err(LineRefusal {
             line: number,

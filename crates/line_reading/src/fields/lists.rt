@@ -1,7 +1,7 @@
 //! Lists of names, read item by item.
 
 ghost use Rattle.std.specs.Prelude.{◌≡◌, IfOk};
-ghost use Rattle.line_reading.specs.Trees.{items_view, view};
+ghost use Rattle.serde_json.specs.View.{items_view, view};
 ghost use Rattle.entry_book.specs.Rows.{domain_set};
 ghost use Rattle.line_reading.specs.Fields.{domain_in, domain_set_in, domains_in, optional_domain_at, optional_domains_at, optional_selectors_at, selector_in, selector_set_in, selectors_at, selectors_in};
 ghost use Rattle.line_reading.specs.FieldsPrivate.{Gives};
@@ -10,15 +10,14 @@ use super::names::domain_of;
 use super::texts::text_in;
 use super::{at_key, given_at, value_at};
 use crate::fault::{Code, Fault, Key};
-use crate::tree::items_of;
 use entry_book::{DomainSet, Sequence};
-use json::Value;
+use serde_json::Value;
 use spiffe_name::{Failure, Selector, SelectorSet, TrustDomain};
 use std::alloc::{AllocError, Global};
 
 /// Reads an item of the key's list as a selector.
 #[tactic(auto, unfolding(crate::specs::Fields::selector_in))]
-fn selector_in(alloc: Global, item: &Value<'_>, key: Key) -> Result<Selector, Failure<Fault>>
+fn selector_in(alloc: Global, item: &Value, key: Key) -> Result<Selector, Failure<Fault>>
     ensures { Gives (λ selector. selector) result (selector_in key (view item.now)) }
 {
     let text = text_in(item, key)?;
@@ -32,7 +31,7 @@ fn selector_in(alloc: Global, item: &Value<'_>, key: Key) -> Result<Selector, Fa
 /// Reads the items of the key's list as selectors.
 fn selectors_in(
     alloc: Global,
-    items: &[Value<'_>],
+    items: &[Value],
     key: Key,
 ) -> Result<Sequence<Selector>, Failure<Fault>>
     ensures { Gives (λ selectors. selectors) result (selectors_in key (items_view items.now)) }
@@ -48,12 +47,12 @@ fn selectors_in(
 #[tactic(auto, unfolding(crate::specs::Fields::selectors_at))]
 pub(crate) fn selectors_at(
     alloc: Global,
-    object: &Value<'_>,
+    object: &Value,
     key: Key,
 ) -> Result<SelectorSet, Failure<Fault>>
     ensures { Gives (λ set. set) result (selectors_at key (view object.now)) }
 {
-    let Some(items) = value_at(object, key).and_then(items_of) else {
+    let Some(items) = value_at(object, key).and_then(Value::as_array) else {
         return Err(at_key(Code::Field, key));
     };
     let selectors = selectors_in(alloc, items, key)?;
@@ -62,14 +61,10 @@ pub(crate) fn selectors_at(
 
 /// Reads a value, the list of the key, as a set of selectors.
 #[tactic(auto, unfolding(crate::specs::Fields::selector_set_in))]
-fn selector_set_in(
-    alloc: Global,
-    value: &Value<'_>,
-    key: Key,
-) -> Result<SelectorSet, Failure<Fault>>
+fn selector_set_in(alloc: Global, value: &Value, key: Key) -> Result<SelectorSet, Failure<Fault>>
     ensures { Gives (λ set. set) result (selector_set_in key (view value.now)) }
 {
-    let Some(items) = items_of(value) else {
+    let Some(items) = value.as_array() else {
         return Err(at_key(Code::Field, key));
     };
     let selectors = selectors_in(alloc, items, key)?;
@@ -80,7 +75,7 @@ fn selector_set_in(
 #[tactic(auto, unfolding(crate::specs::Fields::optional_selectors_at))]
 pub(crate) fn optional_selectors_at(
     alloc: Global,
-    object: &Value<'_>,
+    object: &Value,
     key: Key,
 ) -> Result<Option<SelectorSet>, Failure<Fault>>
     ensures { Gives (λ set. set) result (optional_selectors_at key (view object.now)) }
@@ -93,7 +88,7 @@ pub(crate) fn optional_selectors_at(
 
 /// Reads an item of the key's list, or the key's value, as a trust domain.
 #[tactic(auto, unfolding(crate::specs::Fields::domain_in))]
-fn domain_in(alloc: Global, item: &Value<'_>, key: Key) -> Result<TrustDomain, Failure<Fault>>
+fn domain_in(alloc: Global, item: &Value, key: Key) -> Result<TrustDomain, Failure<Fault>>
     ensures { Gives (λ domain. domain) result (domain_in key (view item.now)) }
 {
     let text = text_in(item, key)?;
@@ -104,7 +99,7 @@ fn domain_in(alloc: Global, item: &Value<'_>, key: Key) -> Result<TrustDomain, F
 #[tactic(auto, unfolding(crate::specs::Fields::optional_domain_at))]
 pub(crate) fn optional_domain_at(
     alloc: Global,
-    object: &Value<'_>,
+    object: &Value,
     key: Key,
 ) -> Result<Option<TrustDomain>, Failure<Fault>>
     ensures { Gives (λ domain. domain) result (optional_domain_at key (view object.now)) }
@@ -118,7 +113,7 @@ pub(crate) fn optional_domain_at(
 /// Reads the items of the key's list as trust domains.
 fn domains_in(
     alloc: Global,
-    items: &[Value<'_>],
+    items: &[Value],
     key: Key,
 ) -> Result<Sequence<TrustDomain>, Failure<Fault>>
     ensures { Gives (λ domains. domains) result (domains_in key (items_view items.now)) }
@@ -139,10 +134,10 @@ fn domain_set(alloc: Global, domains: Sequence<TrustDomain>) -> Result<DomainSet
 
 /// Reads a value, the list of the key, as a set of trust domains.
 #[tactic(auto, unfolding(crate::specs::Fields::domain_set_in))]
-fn domain_set_in(alloc: Global, value: &Value<'_>, key: Key) -> Result<DomainSet, Failure<Fault>>
+fn domain_set_in(alloc: Global, value: &Value, key: Key) -> Result<DomainSet, Failure<Fault>>
     ensures { Gives (λ set. set) result (domain_set_in key (view value.now)) }
 {
-    let Some(items) = items_of(value) else {
+    let Some(items) = value.as_array() else {
         return Err(at_key(Code::Field, key));
     };
     let domains = domains_in(alloc, items, key)?;
@@ -153,7 +148,7 @@ fn domain_set_in(alloc: Global, value: &Value<'_>, key: Key) -> Result<DomainSet
 #[tactic(auto, unfolding(crate::specs::Fields::optional_domains_at))]
 pub(crate) fn optional_domains_at(
     alloc: Global,
-    object: &Value<'_>,
+    object: &Value,
     key: Key,
 ) -> Result<Option<DomainSet>, Failure<Fault>>
     ensures { Gives (λ set. set) result (optional_domains_at key (view object.now)) }

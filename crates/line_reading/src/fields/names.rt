@@ -1,6 +1,6 @@
 //! SPIFFE IDs, trust domains and UUIDs.
 
-ghost use Rattle.line_reading.specs.Trees.{view};
+ghost use Rattle.serde_json.specs.View.{view};
 ghost use Rattle.line_reading.specs.Fields.{domain_at, domain_or_fault, id_at, id_in, new_uuid_at, optional_id_at, optional_uuid_at, uuid_at, uuid_in, uuid_of, uuid_or_drawn_at};
 ghost use Rattle.line_reading.specs.FieldsPrivate.{Gives};
 ghost use Rattle.uuid.specs.Text.{parsed};
@@ -8,15 +8,15 @@ ghost use Rattle.uuid.specs.Text.{parsed};
 use super::texts::{text_at, text_in};
 use super::{at_key, given_at};
 use crate::fault::{Code, Fault, Key};
-use crate::ids::{IdStream, MissingId};
-use json::Value;
+use crate::ids::{Ids, MissingId};
+use serde_json::Value;
 use spiffe_name::{Failure, SpiffeId, TrustDomain};
 use std::alloc::Global;
 use uuid::Uuid;
 
 /// Reads the SPIFFE ID at the key.
 #[tactic(auto, unfolding(crate::specs::Fields::id_at))]
-pub(crate) fn id_at(alloc: Global, object: &Value<'_>, key: Key) -> Result<SpiffeId, Failure<Fault>>
+pub(crate) fn id_at(alloc: Global, object: &Value, key: Key) -> Result<SpiffeId, Failure<Fault>>
     ensures { Gives (λ id. id) result (id_at key (view object.now)) }
 {
     let text = text_at(object, key)?;
@@ -29,7 +29,7 @@ pub(crate) fn id_at(alloc: Global, object: &Value<'_>, key: Key) -> Result<Spiff
 
 /// Reads a value as a SPIFFE ID.
 #[tactic(auto, unfolding(crate::specs::Fields::id_in))]
-fn id_in(alloc: Global, value: &Value<'_>, key: Key) -> Result<SpiffeId, Failure<Fault>>
+fn id_in(alloc: Global, value: &Value, key: Key) -> Result<SpiffeId, Failure<Fault>>
     ensures { Gives (λ id. id) result (id_in key (view value.now)) }
 {
     let text = text_in(value, key)?;
@@ -44,7 +44,7 @@ fn id_in(alloc: Global, value: &Value<'_>, key: Key) -> Result<SpiffeId, Failure
 #[tactic(auto, unfolding(crate::specs::Fields::optional_id_at))]
 pub(crate) fn optional_id_at(
     alloc: Global,
-    object: &Value<'_>,
+    object: &Value,
     key: Key,
 ) -> Result<Option<SpiffeId>, Failure<Fault>>
     ensures { Gives (λ id. id) result (optional_id_at key (view object.now)) }
@@ -70,7 +70,7 @@ pub(super) fn domain_of(alloc: Global, text: &str, key: Key) -> Result<TrustDoma
 #[tactic(auto, unfolding(crate::specs::Fields::domain_at))]
 pub(crate) fn domain_at(
     alloc: Global,
-    object: &Value<'_>,
+    object: &Value,
     key: Key,
 ) -> Result<TrustDomain, Failure<Fault>>
     ensures { Gives (λ domain. domain) result (domain_at key (view object.now)) }
@@ -91,7 +91,7 @@ fn uuid_of(text: &str, key: Key) -> Result<Uuid, Failure<Fault>>
 
 /// Reads a value as a UUID.
 #[tactic(auto, unfolding(crate::specs::Fields::uuid_in))]
-fn uuid_in(value: &Value<'_>, key: Key) -> Result<Uuid, Failure<Fault>>
+fn uuid_in(value: &Value, key: Key) -> Result<Uuid, Failure<Fault>>
     ensures { Gives (λ id. id) result (uuid_in key (view value.now)) }
 {
     let text = text_in(value, key)?;
@@ -100,7 +100,7 @@ fn uuid_in(value: &Value<'_>, key: Key) -> Result<Uuid, Failure<Fault>>
 
 /// Reads the UUID at the key.
 #[tactic(auto, unfolding(crate::specs::Fields::uuid_at))]
-pub(crate) fn uuid_at(object: &Value<'_>, key: Key) -> Result<Uuid, Failure<Fault>>
+pub(crate) fn uuid_at(object: &Value, key: Key) -> Result<Uuid, Failure<Fault>>
     ensures { Gives (λ id. id) result (uuid_at key (view object.now)) }
 {
     let text = text_at(object, key)?;
@@ -109,7 +109,7 @@ pub(crate) fn uuid_at(object: &Value<'_>, key: Key) -> Result<Uuid, Failure<Faul
 
 /// Reads the UUID at an optional key.
 #[tactic(auto, unfolding(crate::specs::Fields::optional_uuid_at))]
-pub(crate) fn optional_uuid_at(object: &Value<'_>, key: Key) -> Result<Option<Uuid>, Failure<Fault>>
+pub(crate) fn optional_uuid_at(object: &Value, key: Key) -> Result<Option<Uuid>, Failure<Fault>>
     ensures { Gives (λ id. id) result (optional_uuid_at key (view object.now)) }
 {
     let Some(value) = given_at(object, key) else {
@@ -120,11 +120,7 @@ pub(crate) fn optional_uuid_at(object: &Value<'_>, key: Key) -> Result<Option<Uu
 
 /// Reads the UUID at an optional key, or draws one.
 #[tactic(auto, unfolding(crate::specs::Fields::uuid_or_drawn_at))]
-fn uuid_or_drawn_at(
-    ids: &mut IdStream,
-    object: &Value<'_>,
-    key: Key,
-) -> Result<Uuid, Failure<Fault>>
+fn uuid_or_drawn_at(ids: &mut Ids, object: &Value, key: Key) -> Result<Uuid, Failure<Fault>>
     ensures { Gives (λ id. (id, ids.new)) result (uuid_or_drawn_at ids.old key (view object.now)) }
 {
     match given_at(object, key) {
@@ -136,8 +132,8 @@ fn uuid_or_drawn_at(
 /// Reads the UUID at the key of a new entry. A missing one is drawn or refused.
 pub(crate) fn new_uuid_at(
     missing: MissingId,
-    ids: &mut IdStream,
-    object: &Value<'_>,
+    ids: &mut Ids,
+    object: &Value,
     key: Key,
 ) -> Result<Uuid, Failure<Fault>>
     ensures { Gives (λ id. (id, ids.new)) result

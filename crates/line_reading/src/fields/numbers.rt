@@ -1,22 +1,21 @@
 //! Whole numbers.
 
-ghost use Rattle.line_reading.specs.Trees.{view};
+ghost use Rattle.serde_json.specs.View.{view};
 ghost use Rattle.line_reading.specs.Fields.{number_at, number_in, optional_number_at, tries_at};
 ghost use Rattle.line_reading.specs.FieldsPrivate.{Gives};
 
 use super::{at_key, given_at, value_at};
 use crate::fault::{Code, Fault, Key};
-use crate::tree::u64_of;
 use crate::tries::Tries;
-use json::Value;
+use serde_json::Value;
 use spiffe_name::Failure;
 
 /// Reads a value as a whole number of 64 bits.
 #[tactic(auto, unfolding(crate::specs::Fields::number_in))]
-pub(crate) fn number_in(value: &Value<'_>, key: Key) -> Result<u64, Failure<Fault>>
+pub(crate) fn number_in(value: &Value, key: Key) -> Result<u64, Failure<Fault>>
     ensures { Gives (λ n. n) result (number_in key (view value.now)) }
 {
-    match u64_of(value) {
+    match value.as_u64() {
         Some(number) => Ok(number),
         None => Err(at_key(Code::Field, key)),
     }
@@ -24,10 +23,10 @@ pub(crate) fn number_in(value: &Value<'_>, key: Key) -> Result<u64, Failure<Faul
 
 /// Reads the whole number at the key.
 #[tactic(auto, unfolding(crate::specs::Fields::number_at))]
-pub(crate) fn number_at(object: &Value<'_>, key: Key) -> Result<u64, Failure<Fault>>
+pub(crate) fn number_at(object: &Value, key: Key) -> Result<u64, Failure<Fault>>
     ensures { Gives (λ n. n) result (number_at key (view object.now)) }
 {
-    match value_at(object, key).and_then(u64_of) {
+    match value_at(object, key).and_then(Value::as_u64) {
         Some(number) => Ok(number),
         None => Err(at_key(Code::Field, key)),
     }
@@ -35,10 +34,7 @@ pub(crate) fn number_at(object: &Value<'_>, key: Key) -> Result<u64, Failure<Fau
 
 /// Reads the whole number at an optional key.
 #[tactic(auto, unfolding(crate::specs::Fields::optional_number_at))]
-pub(crate) fn optional_number_at(
-    object: &Value<'_>,
-    key: Key,
-) -> Result<Option<u64>, Failure<Fault>>
+pub(crate) fn optional_number_at(object: &Value, key: Key) -> Result<Option<u64>, Failure<Fault>>
     ensures { Gives (λ n. n) result (optional_number_at key (view object.now)) }
 {
     let Some(value) = given_at(object, key) else {
@@ -49,7 +45,7 @@ pub(crate) fn optional_number_at(
 
 /// Reads how often a batch may be tried: 1 to 16 times, and once if the key is absent or null.
 #[tactic(auto, unfolding(crate::specs::Fields::tries_at))]
-pub(crate) fn tries_at(object: &Value<'_>, key: Key) -> Result<Tries, Failure<Fault>>
+pub(crate) fn tries_at(object: &Value, key: Key) -> Result<Tries, Failure<Fault>>
     ensures { Gives (λ tries. tries) result (tries_at key (view object.now)) }
 {
     let count = optional_number_at(object, key)?.unwrap_or(1);

@@ -1,24 +1,23 @@
 //! Texts, and words of a fixed list.
 
 ghost use Rattle.std.specs.Prelude.{◌≡◌, option_map};
-ghost use Rattle.line_reading.specs.Trees.{view};
+ghost use Rattle.serde_json.specs.View.{view};
 ghost use Rattle.line_reading.specs.Fields.{match_in, match_of, mode_in, mode_of, optional_match_at, optional_mode_at, optional_text_at, text_at, text_in};
 ghost use Rattle.line_reading.specs.FieldsPrivate.{Gives};
 
 use super::{at_key, given_at, value_at};
 use crate::fault::{Code, Fault, Key};
-use crate::tree::text_of;
 use entry_book::{DropMode, MatchMode, Text};
-use json::Value;
+use serde_json::Value;
 use spiffe_name::Failure;
 use std::alloc::Global;
 
 /// Reads a value as a text.
 #[tactic(auto, unfolding(crate::specs::Fields::text_in))]
-pub(super) fn text_in<'a>(value: &Value<'a>, key: Key) -> Result<&'a str, Failure<Fault>>
+pub(super) fn text_in(value: &Value, key: Key) -> Result<&str, Failure<Fault>>
     ensures { Gives (λ s. s.now) result (text_in key (view value.now)) }
 {
-    match text_of(value) {
+    match value.as_str() {
         Some(text) => Ok(text),
         None => Err(at_key(Code::Field, key)),
     }
@@ -26,10 +25,10 @@ pub(super) fn text_in<'a>(value: &Value<'a>, key: Key) -> Result<&'a str, Failur
 
 /// Reads the text at the key.
 #[tactic(auto, unfolding(crate::specs::Fields::text_at))]
-pub(crate) fn text_at<'a>(object: &Value<'a>, key: Key) -> Result<&'a str, Failure<Fault>>
+pub(crate) fn text_at(object: &Value, key: Key) -> Result<&str, Failure<Fault>>
     ensures { Gives (λ s. s.now) result (text_at key (view object.now)) }
 {
-    match value_at(object, key).and_then(text_of) {
+    match value_at(object, key).and_then(Value::as_str) {
         Some(text) => Ok(text),
         None => Err(at_key(Code::Field, key)),
     }
@@ -39,7 +38,7 @@ pub(crate) fn text_at<'a>(object: &Value<'a>, key: Key) -> Result<&'a str, Failu
 #[tactic(auto, unfolding(crate::specs::Fields::optional_text_at))]
 pub(crate) fn optional_text_at(
     alloc: Global,
-    object: &Value<'_>,
+    object: &Value,
     key: Key,
 ) -> Result<Option<Text>, Failure<Fault>>
     ensures { Gives (λ text. text) result (optional_text_at key (view object.now)) }
@@ -69,10 +68,10 @@ fn mode_of(word: &str) -> Option<DropMode>
 
 /// Reads a value as a drop mode.
 #[tactic(auto, unfolding(crate::specs::Fields::mode_in))]
-fn mode_in(value: &Value<'_>, key: Key) -> Result<DropMode, Failure<Fault>>
+fn mode_in(value: &Value, key: Key) -> Result<DropMode, Failure<Fault>>
     ensures { Gives (λ mode. mode) result (mode_in key (view value.now)) }
 {
-    match text_of(value).and_then(mode_of) {
+    match value.as_str().and_then(mode_of) {
         Some(mode) => Ok(mode),
         None => Err(at_key(Code::Field, key)),
     }
@@ -80,10 +79,7 @@ fn mode_in(value: &Value<'_>, key: Key) -> Result<DropMode, Failure<Fault>>
 
 /// Reads the drop mode at an optional key.
 #[tactic(auto, unfolding(crate::specs::Fields::optional_mode_at))]
-pub(crate) fn optional_mode_at(
-    object: &Value<'_>,
-    key: Key,
-) -> Result<Option<DropMode>, Failure<Fault>>
+pub(crate) fn optional_mode_at(object: &Value, key: Key) -> Result<Option<DropMode>, Failure<Fault>>
     ensures { Gives (λ mode. mode) result (optional_mode_at key (view object.now)) }
 {
     let Some(value) = given_at(object, key) else {
@@ -113,10 +109,10 @@ fn match_of(word: &str) -> Option<MatchMode>
 
 /// Reads a value as a match mode.
 #[tactic(auto, unfolding(crate::specs::Fields::match_in))]
-fn match_in(value: &Value<'_>, key: Key) -> Result<MatchMode, Failure<Fault>>
+fn match_in(value: &Value, key: Key) -> Result<MatchMode, Failure<Fault>>
     ensures { Gives (λ mode. mode) result (match_in key (view value.now)) }
 {
-    match text_of(value).and_then(match_of) {
+    match value.as_str().and_then(match_of) {
         Some(mode) => Ok(mode),
         None => Err(at_key(Code::Field, key)),
     }
@@ -125,7 +121,7 @@ fn match_in(value: &Value<'_>, key: Key) -> Result<MatchMode, Failure<Fault>>
 /// Reads the match mode at an optional key.
 #[tactic(auto, unfolding(crate::specs::Fields::optional_match_at))]
 pub(crate) fn optional_match_at(
-    object: &Value<'_>,
+    object: &Value,
     key: Key,
 ) -> Result<Option<MatchMode>, Failure<Fault>>
     ensures { Gives (λ mode. mode) result (optional_match_at key (view object.now)) }

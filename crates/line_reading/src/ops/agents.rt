@@ -1,14 +1,13 @@
 //! Operations on agents.
 
-ghost use Rattle.line_reading.specs.Trees.{members_view, view};
+ghost use Rattle.serde_json.specs.View.{members_view, view};
 ghost use Rattle.line_reading.specs.FieldsPrivate.{Gives};
 ghost use Rattle.line_reading.specs.Operations.{agent_in, authorised_in, drop_agent_in, set_agent_in, show_agent_in, trust_in};
 
 use crate::fault::{Fault, Key};
 use crate::fields::{id_at, no_others, selectors_at};
-use crate::tree::Members;
 use entry_book::{Agent, Op, Shared};
-use json::Value;
+use serde_json::{Map, Value};
 use spiffe_name::{Failure, SpiffeId};
 use std::alloc::Global;
 
@@ -16,11 +15,11 @@ use std::alloc::Global;
 #[tactic(auto, unfolding(crate::specs::Operations::agent_in))]
 fn agent_in(
     alloc: Global,
-    object: &Value<'_>,
-    members: &Members<'_>,
+    object: &Value,
+    members: &Map<String, Value>,
 ) -> Result<Shared<SpiffeId>, Failure<Fault>>
     ensures { Gives (λ agent. agent) result
-        (agent_in (view object.now) (members_view members.now.items)) }
+        (agent_in (view object.now) (members_view members.now.entries)) }
 {
     let agent = id_at(alloc, object, Key::Agent)?;
     no_others(members, &[Key::Op, Key::Agent])?;
@@ -31,11 +30,11 @@ fn agent_in(
 #[tactic(auto, unfolding(crate::specs::Operations::show_agent_in))]
 pub(super) fn show_agent_in(
     alloc: Global,
-    object: &Value<'_>,
-    members: &Members<'_>,
+    object: &Value,
+    members: &Map<String, Value>,
 ) -> Result<Op, Failure<Fault>>
     ensures { Gives (λ op. op) result
-        (show_agent_in (view object.now) (members_view members.now.items)) }
+        (show_agent_in (view object.now) (members_view members.now.entries)) }
 {
     let agent = agent_in(alloc, object, members)?;
     Ok(Op::ShowAgent(agent))
@@ -45,11 +44,11 @@ pub(super) fn show_agent_in(
 #[tactic(auto, unfolding(crate::specs::Operations::authorised_in))]
 pub(super) fn authorised_in(
     alloc: Global,
-    object: &Value<'_>,
-    members: &Members<'_>,
+    object: &Value,
+    members: &Map<String, Value>,
 ) -> Result<Op, Failure<Fault>>
     ensures { Gives (λ op. op) result
-        (authorised_in (view object.now) (members_view members.now.items)) }
+        (authorised_in (view object.now) (members_view members.now.entries)) }
 {
     let agent = agent_in(alloc, object, members)?;
     Ok(Op::Authorised(agent))
@@ -59,11 +58,11 @@ pub(super) fn authorised_in(
 #[tactic(auto, unfolding(crate::specs::Operations::trust_in))]
 pub(super) fn trust_in(
     alloc: Global,
-    object: &Value<'_>,
-    members: &Members<'_>,
+    object: &Value,
+    members: &Map<String, Value>,
 ) -> Result<Op, Failure<Fault>>
     ensures { Gives (λ op. op) result
-        (trust_in (view object.now) (members_view members.now.items)) }
+        (trust_in (view object.now) (members_view members.now.entries)) }
 {
     let agent = agent_in(alloc, object, members)?;
     Ok(Op::Trust(agent))
@@ -73,11 +72,11 @@ pub(super) fn trust_in(
 #[tactic(auto, unfolding(crate::specs::Operations::set_agent_in))]
 pub(super) fn set_agent_in(
     alloc: Global,
-    object: &Value<'_>,
-    members: &Members<'_>,
+    object: &Value,
+    members: &Map<String, Value>,
 ) -> Result<Op, Failure<Fault>>
     ensures { Gives (λ op. op) result
-        (set_agent_in (view object.now) (members_view members.now.items)) }
+        (set_agent_in (view object.now) (members_view members.now.entries)) }
 {
     let agent = id_at(alloc, object, Key::Agent)?;
     let selectors = selectors_at(alloc, object, Key::Selectors)?;
@@ -92,11 +91,11 @@ pub(super) fn set_agent_in(
 #[tactic(auto, unfolding(crate::specs::Operations::drop_agent_in))]
 pub(super) fn drop_agent_in(
     alloc: Global,
-    object: &Value<'_>,
-    members: &Members<'_>,
+    object: &Value,
+    members: &Map<String, Value>,
 ) -> Result<Op, Failure<Fault>>
     ensures { Gives (λ op. op) result
-        (drop_agent_in (view object.now) (members_view members.now.items)) }
+        (drop_agent_in (view object.now) (members_view members.now.entries)) }
 {
     let agent = agent_in(alloc, object, members)?;
     Ok(Op::DropAgent(agent))

@@ -1,14 +1,13 @@
 //! Operations on bundles.
 
-ghost use Rattle.line_reading.specs.Trees.{members_view, view};
+ghost use Rattle.serde_json.specs.View.{members_view, view};
 ghost use Rattle.line_reading.specs.FieldsPrivate.{Gives};
 ghost use Rattle.line_reading.specs.Operations.{drop_bundle_in, set_bundle_in, show_bundle_in};
 
 use crate::fault::{Fault, Key};
 use crate::fields::{domain_at, no_others, optional_mode_at, text_at};
-use crate::tree::Members;
 use entry_book::{DropMode, Op, Shared, Text};
-use json::Value;
+use serde_json::{Map, Value};
 use spiffe_name::Failure;
 use std::alloc::Global;
 
@@ -16,11 +15,11 @@ use std::alloc::Global;
 #[tactic(auto, unfolding(crate::specs::Operations::show_bundle_in))]
 pub(super) fn show_bundle_in(
     alloc: Global,
-    object: &Value<'_>,
-    members: &Members<'_>,
+    object: &Value,
+    members: &Map<String, Value>,
 ) -> Result<Op, Failure<Fault>>
     ensures { Gives (λ op. op) result
-        (show_bundle_in (view object.now) (members_view members.now.items)) }
+        (show_bundle_in (view object.now) (members_view members.now.entries)) }
 {
     let domain = domain_at(alloc, object, Key::Domain)?;
     no_others(members, &[Key::Op, Key::Domain])?;
@@ -31,11 +30,11 @@ pub(super) fn show_bundle_in(
 #[tactic(auto, unfolding(crate::specs::Operations::set_bundle_in))]
 pub(super) fn set_bundle_in(
     alloc: Global,
-    object: &Value<'_>,
-    members: &Members<'_>,
+    object: &Value,
+    members: &Map<String, Value>,
 ) -> Result<Op, Failure<Fault>>
     ensures { Gives (λ op. op) result
-        (set_bundle_in (view object.now) (members_view members.now.items)) }
+        (set_bundle_in (view object.now) (members_view members.now.entries)) }
 {
     let domain = domain_at(alloc, object, Key::Domain)?;
     let text = text_at(object, Key::Text)?;
@@ -48,11 +47,11 @@ pub(super) fn set_bundle_in(
 #[tactic(auto, unfolding(crate::specs::Operations::drop_bundle_in))]
 pub(super) fn drop_bundle_in(
     alloc: Global,
-    object: &Value<'_>,
-    members: &Members<'_>,
+    object: &Value,
+    members: &Map<String, Value>,
 ) -> Result<Op, Failure<Fault>>
     ensures { Gives (λ op. op) result
-        (drop_bundle_in (view object.now) (members_view members.now.items)) }
+        (drop_bundle_in (view object.now) (members_view members.now.entries)) }
 {
     let domain = domain_at(alloc, object, Key::Domain)?;
     let mode = optional_mode_at(object, Key::Mode)?;

@@ -1,6 +1,6 @@
 //! Operations on entries.
 
-ghost use Rattle.line_reading.specs.Trees.{members_view, view};
+ghost use Rattle.serde_json.specs.View.{members_view, view};
 ghost use Rattle.line_reading.specs.FieldsPrivate.{Gives};
 ghost use Rattle.line_reading.specs.Operations.{children_in, create_in, delete_in, entry_in, prune_in, show_in, update_in};
 
@@ -9,10 +9,9 @@ use crate::fields::{
     id_at, new_uuid_at, no_others, number_at, optional_domains_at, optional_number_at,
     optional_text_at, selectors_at, uuid_at,
 };
-use crate::ids::{IdStream, MissingId};
-use crate::tree::Members;
+use crate::ids::{Ids, MissingId};
 use entry_book::{DomainSet, NewEntry, Op, Shared, Text};
-use json::Value;
+use serde_json::{Map, Value};
 use spiffe_name::Failure;
 use std::alloc::Global;
 use uuid::Uuid;
@@ -20,7 +19,7 @@ use uuid::Uuid;
 /// Reads the fields of the entry with this id. By default its hint and its set of domains are empty, and its expiry and
 /// both lifetimes are 0.
 #[tactic(auto, unfolding(crate::specs::Operations::entry_in))]
-fn entry_in(alloc: Global, id: Uuid, object: &Value<'_>) -> Result<NewEntry, Failure<Fault>>
+fn entry_in(alloc: Global, id: Uuid, object: &Value) -> Result<NewEntry, Failure<Fault>>
     ensures { Gives (λ entry. entry) result (entry_in id (view object.now)) }
 {
     let parent = id_at(alloc, object, Key::Parent)?;
@@ -49,12 +48,12 @@ fn entry_in(alloc: Global, id: Uuid, object: &Value<'_>) -> Result<NewEntry, Fai
 pub(super) fn create_in(
     alloc: Global,
     missing: MissingId,
-    ids: &mut IdStream,
-    object: &Value<'_>,
-    members: &Members<'_>,
+    ids: &mut Ids,
+    object: &Value,
+    members: &Map<String, Value>,
 ) -> Result<Op, Failure<Fault>>
     ensures { Gives (λ op. (op, ids.new)) result
-        (create_in missing ids.old (view object.now) (members_view members.now.items)) }
+        (create_in missing ids.old (view object.now) (members_view members.now.entries)) }
 {
     let id = new_uuid_at(missing, ids, object, Key::Id)?;
     let entry = entry_in(alloc, id, object)?;
@@ -80,11 +79,11 @@ pub(super) fn create_in(
 #[tactic(auto, unfolding(crate::specs::Operations::update_in))]
 pub(super) fn update_in(
     alloc: Global,
-    object: &Value<'_>,
-    members: &Members<'_>,
+    object: &Value,
+    members: &Map<String, Value>,
 ) -> Result<Op, Failure<Fault>>
     ensures { Gives (λ op. op) result
-        (update_in (view object.now) (members_view members.now.items)) }
+        (update_in (view object.now) (members_view members.now.entries)) }
 {
     let id = uuid_at(object, Key::Id)?;
     let entry = entry_in(alloc, id, object)?;
@@ -110,9 +109,9 @@ pub(super) fn update_in(
 
 /// Reads the delete of an entry, with its expected revision if given. The error is the first fault at a key.
 #[tactic(auto, unfolding(crate::specs::Operations::delete_in))]
-pub(super) fn delete_in(object: &Value<'_>, members: &Members<'_>) -> Result<Op, Failure<Fault>>
+pub(super) fn delete_in(object: &Value, members: &Map<String, Value>) -> Result<Op, Failure<Fault>>
     ensures { Gives (λ op. op) result
-        (delete_in (view object.now) (members_view members.now.items)) }
+        (delete_in (view object.now) (members_view members.now.entries)) }
 {
     let id = uuid_at(object, Key::Id)?;
     let expected = optional_number_at(object, Key::Revision)?;
@@ -122,9 +121,9 @@ pub(super) fn delete_in(object: &Value<'_>, members: &Members<'_>) -> Result<Op,
 
 /// Reads a query for an entry. The error is the first fault at a key.
 #[tactic(auto, unfolding(crate::specs::Operations::show_in))]
-pub(super) fn show_in(object: &Value<'_>, members: &Members<'_>) -> Result<Op, Failure<Fault>>
+pub(super) fn show_in(object: &Value, members: &Map<String, Value>) -> Result<Op, Failure<Fault>>
     ensures { Gives (λ op. op) result
-        (show_in (view object.now) (members_view members.now.items)) }
+        (show_in (view object.now) (members_view members.now.entries)) }
 {
     let id = uuid_at(object, Key::Id)?;
     no_others(members, &[Key::Op, Key::Id])?;
@@ -135,11 +134,11 @@ pub(super) fn show_in(object: &Value<'_>, members: &Members<'_>) -> Result<Op, F
 #[tactic(auto, unfolding(crate::specs::Operations::children_in))]
 pub(super) fn children_in(
     alloc: Global,
-    object: &Value<'_>,
-    members: &Members<'_>,
+    object: &Value,
+    members: &Map<String, Value>,
 ) -> Result<Op, Failure<Fault>>
     ensures { Gives (λ op. op) result
-        (children_in (view object.now) (members_view members.now.items)) }
+        (children_in (view object.now) (members_view members.now.entries)) }
 {
     let parent = id_at(alloc, object, Key::Parent)?;
     no_others(members, &[Key::Op, Key::Parent])?;
@@ -148,9 +147,9 @@ pub(super) fn children_in(
 
 /// Reads the prune of entries that expire before a moment. The error is the first fault at a key.
 #[tactic(auto, unfolding(crate::specs::Operations::prune_in))]
-pub(super) fn prune_in(object: &Value<'_>, members: &Members<'_>) -> Result<Op, Failure<Fault>>
+pub(super) fn prune_in(object: &Value, members: &Map<String, Value>) -> Result<Op, Failure<Fault>>
     ensures { Gives (λ op. op) result
-        (prune_in (view object.now) (members_view members.now.items)) }
+        (prune_in (view object.now) (members_view members.now.entries)) }
 {
     let moment = number_at(object, Key::Before)?;
     no_others(members, &[Key::Op, Key::Before])?;

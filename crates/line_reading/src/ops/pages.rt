@@ -1,7 +1,7 @@
 //! Pages of entries.
 
 ghost use Rattle.std.specs.Prelude.{◌≡◌, IfOk};
-ghost use Rattle.line_reading.specs.Trees.{members_view, view};
+ghost use Rattle.serde_json.specs.View.{members_view, view};
 ghost use Rattle.line_reading.specs.FieldsPrivate.{Gives};
 ghost use Rattle.line_reading.specs.Operations.{filter_in, page_in, selector_match};
 
@@ -10,9 +10,8 @@ use crate::fields::{
     at_key, no_others, number_at, optional_domain_at, optional_id_at, optional_match_at,
     optional_number_at, optional_selectors_at, optional_uuid_at,
 };
-use crate::tree::Members;
 use entry_book::{Filter, MatchMode, Op, PageQuery, SelectorMatch, Shared};
-use json::Value;
+use serde_json::{Map, Value};
 use spiffe_name::{Failure, SelectorSet, SpiffeId, TrustDomain};
 use std::alloc::{AllocError, Global};
 
@@ -60,7 +59,7 @@ fn selector_match(
 
 /// Reads a page's filter, whose conditions are optional. The error is the first fault at a key, or out of memory.
 #[tactic(auto, unfolding(crate::specs::Operations::filter_in))]
-fn filter_in(alloc: Global, object: &Value<'_>) -> Result<Filter, Failure<Fault>>
+fn filter_in(alloc: Global, object: &Value) -> Result<Filter, Failure<Fault>>
     ensures { Gives (λ filter. filter) result (filter_in (view object.now)) }
 {
     let parent = optional_id_at(alloc, object, Key::Parent)?;
@@ -81,11 +80,11 @@ fn filter_in(alloc: Global, object: &Value<'_>) -> Result<Filter, Failure<Fault>
 #[tactic(auto, unfolding(crate::specs::Operations::page_in))]
 pub(super) fn page_in(
     alloc: Global,
-    object: &Value<'_>,
-    members: &Members<'_>,
+    object: &Value,
+    members: &Map<String, Value>,
 ) -> Result<Op, Failure<Fault>>
     ensures { Gives (λ op. op) result
-        (page_in (view object.now) (members_view members.now.items)) }
+        (page_in (view object.now) (members_view members.now.entries)) }
 {
     let size = number_at(object, Key::Size)?;
     let at = optional_number_at(object, Key::At)?;

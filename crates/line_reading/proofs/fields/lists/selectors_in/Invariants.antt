@@ -1,5 +1,5 @@
 use Rattle.std.proofs.Common.{◌≡◌, drop}
-use Rattle.line_reading.specs.Trees.{items_view}
+use Rattle.serde_json.specs.View.{items_view}
 use Rattle.line_reading.specs.Fields.{selectors_in}
 use Rattle.line_reading.proofs.Front.{with_front}
 use Rattle.line_reading.proofs.fields.lists.selectors_in.Given as goal

@@ -4,7 +4,7 @@ use Rattle.uuid.specs.declared.Variant.TheVariants.{RFC4122}
 use Rattle.uuid.specs.declared.Version.TheVariants.{Random}
 use Rattle.line_reading.specs.Ids.{next_id, after_id}
 use Rattle.line_reading.proofs.Draws.{drawn-id, drawn-after}
-use Rattle.line_reading.proofs.ids.IdStream.draw.Goals as goal
+use Rattle.line_reading.proofs.ids.Ids.draw.Goals as goal
 
 pub returns-clause-id : goal.returns-clause-id
 returns-clause-id c =
