@@ -13,8 +13,8 @@ use Rattle.entry_book.specs.History.{books_after, first_books, is_committed, rep
 use Rattle.entry_book.specs.Order.{Within}
 use Rattle.entry_book.proofs.Sets.{All-more, All-within}
 use Rattle.call_machine.specs.Calls.{Call, CallStage, MachineState, waiting, running, ready, answered, committed, conflict, call_at, first_machine, answer_of}
-use Rattle.call_machine.specs.Known.{Reports, ReportsCall}
-use Rattle.call_machine.specs.Laws.{HoldReplies, IsOrder, IsStamped}
+use Rattle.call_machine.specs.Known.{Reports, ReportsCall, decided_of}
+use Rattle.call_machine.specs.Laws.{HasEventsInOrder, HoldReplies, IsOrder, IsStamped}
 use Rattle.call_events.specs.Events.{IsFor}
 use Rattle.call_machine.specs.Machine.{AreFor, Runs}
 use Rattle.call_machine.specs.Schedules.{EventAnswer, EventAt, Different, EndedBefore, GaveOut, HandedIn, Happened, Headline, IsListed, IsReplyOf, OneBatch, RunsFrom, IsListedBefore, accepted}
@@ -25,12 +25,8 @@ use Rattle.call_events.specs.declared.event.Event.TheVariants.{Invoke}
 use Rattle.call_events.specs.declared.event.Event.TheVariants as on
 use Rattle.call_answers.specs.declared.answer.CallAnswer.{CallAnswer}
 use Rattle.call_answers.specs.declared.answer.CallAnswer.TheVariants.{Replied}
-use Rattle.call_machine.proofs.Events.{first_sound}
-use Rattle.call_machine.proofs.Line.{is_begun}
 use Rattle.call_machine.proofs.Runs.{runs_extend}
-use Rattle.call_machine.proofs.Rows.{call_within, same_call}
-use Rattle.call_machine.proofs.Ties.{first_tied}
-use Rattle.call_machine.proofs.Whole.{LogInvariant, calls_are_stamped, runs_keep_invariant}
+use Rattle.call_machine.proofs.Whole.{calls_are_in_order, calls_are_stamped, found_under_number}
 use Rattle.reg_lines.specs.CallRecords.{HasRecord, HasRecordWith, Records}
 use Rattle.reg_lines.specs.RecordLines.{record_json}
 use Rattle.line_devices.specs.Runs.{IsRun, first_lines}
@@ -135,7 +131,7 @@ reported_same a b e = cc
 
 has_stamps : (log : List Happened) (calls : List Call) (n : ℕ) (r : Recorded) (of : IsRecordOf calls n r) → IsStamped log of.call → HasStamps log r
 has_stamps log calls n r of s =
-    let same : of.call.number ≡ r.call = (call_within n calls of.call of.found).1 ∙ sym of.number_is in
+    let same : of.call.number ≡ r.call = found_under_number calls n of.call of.found ∙ sym of.number_is in
     let invoked = (s.invoked of.call.invoked of.call.batch).0 (refl, refl) in
     record {
       invoked = (
@@ -208,22 +204,18 @@ in_order log calls (n ∷ ns) (r ∷ rs) a s d strict =
 
 -- ---- their ends
 
--- a call with the plain book's reply has begun
-begun_reported : (stage : CallStage) (reply : Reply) → answer_of stage ≡ Some (Replied reply) → is_begun stage ≡ true
-begun_reported waiting reply e = absurd (cc)
-begun_reported (running base made) reply e = absurd (cc)
-begun_reported (ready base) reply e = absurd (cc)
-begun_reported (conflict n) reply e = absurd (cc)
-begun_reported (answered r) reply e = refl
-begun_reported (committed r) reply e = refl
+-- a call with the plain book's reply was decided
+decided_reported : (stage : CallStage) (turn : ℕ) (reply : Reply) → answer_of stage ≡ Some (Replied reply) → decided_of stage turn ≡ Some turn
+decided_reported waiting turn reply e = absurd (cc)
+decided_reported (running base made) turn reply e = absurd (cc)
+decided_reported (ready base) turn reply e = absurd (cc)
+decided_reported (conflict n) turn reply e = absurd (cc)
+decided_reported (answered r) turn reply e = refl
+decided_reported (committed r) turn reply e = refl
 
 -- a call whose reply was returned has replied
-gave_out : (log : List Happened) (s : MachineState) → LogInvariant log s → (n : ℕ) (call : Call) → call_at n s.calls ≡ Some call → (reply : Reply) → GaveOut log n reply → (k : ℕ) × (call.replied ≡ Some k)
-gave_out log s h n call found reply out =
-    let kept = h.tied.kept out.1.0 _ out.1.2 in
-    let within = call_within n s.calls call found in
-    let same : kept.0 ≡ call = same_call s.calls kept.0 call h.sound.numbers kept.1 within.0 (kept.2 ∙ sym within.1) in
-    (out.1.0 + 1, ap (λ (c : Call). c.replied) (sym same) ∙ kept.3)
+gave_out : (log : List Happened) (n : ℕ) (call : Call) → IsStamped log call → call.number ≡ n → (reply : Reply) → GaveOut log n reply → (k : ℕ) × (call.replied ≡ Some k)
+gave_out log n call s e reply out = (out.0, (s.replied out.0).1 (Answered n (Replied reply), subst (λ m. EventAt log out.0 (on.Reply m) (Answered n (Replied reply))) (sym e) out.1))
 
 not_stamped : (replied of_call : Option ℕ) (k : ℕ) → replied ≡ None → replied ≡ of_call → of_call ≡ Some k → ⊥
 not_stamped replied of_call k none same e = cc
@@ -233,18 +225,18 @@ ended_by None invoked reply f g = f refl
 ended_by (Some k) invoked reply f g = g k refl
 
 -- the second list of books is the first one: both come from the batches of the calls
-have_ended : (log : List Happened) (s : MachineState) → LogInvariant log s → OneBatch log → ((n : ℕ) (call : Call) → call_at n s.calls ≡ Some call → IsStamped log call) → (books : List Book) (order : List ℕ) (records : List Recorded) → ((n : ℕ) → Within order n → IsListed log n) → AreRecords s.calls order records → RecordedAreLegal books records → RunsFrom log books order → AllByRecursion IsEnded records
-have_ended log s h one stamps books [] [] listed are legal runs = tt
-have_ended log s h one stamps books [] (r ∷ rs) listed are legal runs = absurd are
-have_ended log s h one stamps books (n ∷ ns) [] listed are legal runs = absurd are
-have_ended log s h one stamps books (n ∷ ns) (r ∷ rs) listed are legal runs =
+have_ended : (log : List Happened) (calls : List Call) → OneBatch log → ((n : ℕ) (call : Call) → call_at n calls ≡ Some call → IsStamped log call × HasEventsInOrder call) → (books : List Book) (order : List ℕ) (records : List Recorded) → ((n : ℕ) → Within order n → IsListed log n) → AreRecords calls order records → RecordedAreLegal books records → RunsFrom log books order → AllByRecursion IsEnded records
+have_ended log calls one holds books [] [] listed are legal runs = tt
+have_ended log calls one holds books [] (r ∷ rs) listed are legal runs = absurd are
+have_ended log calls one holds books (n ∷ ns) [] listed are legal runs = absurd are
+have_ended log calls one holds books (n ∷ ns) (r ∷ rs) listed are legal runs =
     let of = are.0 in
     let call = of.call in
-    let within = call_within n s.calls call of.found in
-    let stamp = h.sound.stamped call within.0 in
-    let invoked = ((stamps n call of.found).invoked call.invoked call.batch).0 (refl, refl) in
-    let begun = begun_reported call.stage r.reply of.holds in
-    let handed : HandedIn log n call.batch = subst (λ m. HandedIn log m call.batch) within.1 (call.invoked, invoked.0, invoked.1) in
+    let number = found_under_number calls n call of.found in
+    let hold = holds n call of.found in
+    let invoked = (hold.0.invoked call.invoked call.batch).0 (refl, refl) in
+    let decided = decided_reported call.stage call.turn r.reply of.holds in
+    let handed : HandedIn log n call.batch = subst (λ m. HandedIn log m call.batch) number (call.invoked, invoked.0, invoked.1) in
     let batch : runs.0 ≡ r.batch = one n runs.0 call.batch runs.1 handed ∙ sym of.batch_is in
     let reply : reply_to runs.0 books ≡ r.reply = ap (λ b. reply_to b books) batch ∙ sym legal.0 in
     let is_reply : IsReplyOf log n r.reply = subst (IsReplyOf log n) reply runs.2 in
@@ -252,14 +244,14 @@ have_ended log s h one stamps books (n ∷ ns) (r ∷ rs) listed are legal runs 
       ended_by r.replied r.invoked r.reply
           (λ none. ⊎_elim
           (λ c. (is_reply.committed c.0 c.1).1)
-          (λ g. let k = gave_out log s h n call of.found g.0 g.1 in absurd (not_stamped r.replied call.replied k.0 none of.replied_is k.1))
+          (λ g. let k = gave_out log n call hold.0 number g.0 g.1 in absurd (not_stamped r.replied call.replied k.0 none of.replied_is k.1))
           (listed n (inl refl)))
           (λ k e.
-          let late = (stamp.over k (sym of.replied_is ∙ e)).2 begun in
-          let early = (stamp.begun begun).0 in
+          let late = hold.1.replied call.turn k decided (sym of.replied_is ∙ e) in
+          let early = hold.1.decided call.turn decided in
           let same = of.invoked_is in
           omega arith),
-      have_ended log s h one stamps (books_after r.batch books) ns rs (λ m w. listed m (inr w)) are.1 legal.1 rest,
+      have_ended log calls one holds (books_after r.batch books) ns rs (λ m w. listed m (inr w)) are.1 legal.1 rest,
     )
 
 -- ---- the trust domain of their batches
@@ -292,15 +284,14 @@ writes_records own_domain last order runs made is headline held written =
     let calls = last.machine.calls in
     let found = records_of calls first_books order held in
     let stamps : (n : ℕ) (call : Call) → call_at n calls ≡ Some call → IsStamped log call = λ n call at. calls_are_stamped own_domain last.events last.answers last.machine n call runs at in
-    let represents : LogInvariant log last.machine = runs_keep_invariant last.events last.answers [] (first_machine own_domain) last.machine (record { sound = first_sound own_domain; tied = first_tied own_domain }) runs in
-    let stamped = have_stamps log calls (λ n call at. calls_are_stamped own_domain last.events last.answers last.machine n call runs at) order found.0 found.1 in (
+    let stamped = have_stamps log calls stamps order found.0 found.1 in (
       found.0,
       record {
         is_order = is;
         headline = headline;
         records = found.1;
         stamped = stamped;
-        ended = have_ended log last.machine represents headline.one_batch stamps first_books order found.0 (λ n w. (headline.serial.listed n).0 w) found.1 found.2 headline.legal;
+        ended = have_ended log calls headline.one_batch (λ n call at. (stamps n call at, calls_are_in_order own_domain last.events last.answers last.machine n call runs at)) first_books order found.0 (λ n w. (headline.serial.listed n).0 w) found.1 found.2 headline.legal;
         legal = found.2;
         in_order = in_order log calls order found.0 found.1 stamped headline.serial.once (λ a b v w e. headline.strict a b ((headline.serial.listed a).0 v) ((headline.serial.listed b).0 w) e);
         made_for = made_for own_domain log (all_accepted own_domain last.events last.answers made) found.0 stamped;

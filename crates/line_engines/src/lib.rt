@@ -4,7 +4,7 @@
 //! - [`plain`]: from the bytes of request lines to the bytes of reply lines, on a plain book; [`schedule`]: from event lines to
 //!   their answers and the order of the calls; [`record_schedule`]: from event lines to the records of the calls alone;
 //!   [`audit`]: from records of calls to the verdict on them.
-//! - [`RunEnd`]: the result of a run that succeeded; [`RunFault`]: why a run failed.
+//! - [`RunEnd`]: the result of a run that came to its end; [`RunFault`]: why a run failed.
 //! - [`recorded_runs_are_confirmed`]: the verdict on the records of a schedule is yes.
 //!
 //! The definitions are in `specs/`: `Driver` defines a run of any line handler, and `Answers`, `Schedules`, `Recorded` and

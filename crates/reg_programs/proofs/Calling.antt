@@ -17,7 +17,7 @@ use Rattle.reg_lines.specs.declared.printing.seats.SeatRefusal.TheVariants.{Spen
 use Rattle.line_reading.specs.declared.request.Request.{Request}
 use Rattle.line_reading.proofs.Kept.{kept_spells}
 use mathlib.Core.List.{IsPrefix}
-use Rattle.shared_registry.specs.Seated.{CaughtUp, MaySee, Seated, SawNothingNew}
+use Rattle.shared_registry.specs.Seated.{CaughtUp, MaySeeFound, Seated, SawNothingNew}
 use Rattle.commit_head.specs.declared.item.Item.{Item}
 use Rattle.line_engines.specs.Answers.{as_line}
 use Rattle.line_engines.specs.Driver.{AnswersKept}
@@ -28,7 +28,7 @@ use Rattle.reg_programs.specs.SessionsPrivate.{HasText, IsPrinted, IsToAnswer, T
 
 -- ---- a seat that has seen what it found
 
-pub entered : (domain : Bytes) (s u t : Seated) → SawNothingNew domain s u → MaySee domain u → t ≡ record u { seen = u.found } → CaughtUp domain s t
+pub entered : (domain : Bytes) (s u t : Seated) → SawNothingNew domain s u → MaySeeFound domain u → t ≡ record u { seen = u.found } → CaughtUp domain s t
 entered domain s u t is_unchanged may is =
     let after_call = is_unchanged.after_call in
     let seen : IsPrefix s.seen u.found = subst (λ (l : List Item). IsPrefix l u.found) is_unchanged.same may.seen in

@@ -11,7 +11,7 @@ use Rattle.reg_programs.specs.declared.serve_fault.ServeFault.TheVariants as ser
 use Rattle.command_line.specs.declared.fault.LineFault.{LineFault}
 use Rattle.command_line.specs.declared.fault.LineFault.TheVariants as line
 use Rattle.line_engines.specs.declared.run_end.RunEnd.{RunEnd}
-use Rattle.line_engines.specs.declared.run_end.RunEnd.TheVariants.{Denied, Done}
+use Rattle.line_engines.specs.declared.run_end.RunEnd.TheVariants.{Denied, Done, Shortened}
 use Rattle.reg_programs.specs.declared.exit_message.ExitMessage.{ExitMessage}
 use Rattle.reg_programs.specs.declared.exit_message.ExitMessage.TheVariants as exit_message
 
@@ -69,10 +69,11 @@ exit_status_of ended.Denied = 3
 exit_status_of (ended.Line fault) = status_of_line fault
 exit_status_of _ = 1
 
--- the end of a run that had its settings
+-- The end of a run that had its settings. A recorded schedule that lost lines for lack of memory ends as out of memory.
 abbrev pub ended_by_run : Result RunEnd RunFault → Ended
 ended_by_run (Ok Done) = ended.Done
 ended_by_run (Ok Denied) = ended.Denied
+ended_by_run (Ok (Shortened lost)) = ended.NoMemory
 ended_by_run (Err run.Input) = ended.Input
 ended_by_run (Err run.Output) = ended.Output
 ended_by_run (Err run.NoMemory) = ended.NoMemory

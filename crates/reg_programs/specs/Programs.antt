@@ -1,5 +1,5 @@
 -- What the programs do.
-use Rattle.std.specs.Prelude.{◌≡◌, List, ℕ, Result, Ok, Err}
+use Rattle.std.specs.Prelude.{◌≡◌, ◌==◌, List, ℕ, Result, Ok, Err, if◌then◌else◌}
 use Rattle.line_devices.specs.Stream.{InputState, OutputState}
 use Rattle.line_engines.specs.Answers.{RunsPlain}
 use Rattle.line_engines.specs.Audited.{RunsAudit}
@@ -7,20 +7,30 @@ use Rattle.line_engines.specs.Recorded.{RunsRecord}
 use Rattle.line_engines.specs.Schedules.{RunsSchedule}
 use Rattle.line_engines.specs.declared.fault.RunFault.{RunFault}
 use Rattle.line_engines.specs.declared.run_end.RunEnd.{RunEnd}
-use Rattle.line_engines.specs.declared.run_end.RunEnd.TheVariants.{Done}
+use Rattle.line_engines.specs.declared.run_end.RunEnd.TheVariants.{Done, Shortened}
 use Rattle.command_line.specs.declared.program.Program.{Program}
 use Rattle.command_line.specs.declared.program.Program.TheVariants.{Audit, Plain, Record, Schedule, Serve}
 
--- the outcome of a run that isn't an audit
-abbrev pub run_end_of_result : {T : Type 0} → Result T RunFault → Result RunEnd RunFault
+-- the outcome of a run that answers each line
+abbrev pub run_end_of_result : Result Unit RunFault → Result RunEnd RunFault
 run_end_of_result (Ok x) = Ok Done
 run_end_of_result (Err fault) = Err fault
 
--- The result of a run of this program over an input and an output. Only an audit has the outcome `Denied`.
+-- the outcome of a recorded schedule that lost this many lines for lack of memory
+abbrev pub run_end_of_lost : ℕ → RunEnd
+run_end_of_lost lost = if lost == 0 then Done else Shortened lost
+
+-- the outcome of a recorded schedule
+abbrev pub run_end_of_recording : Result ℕ RunFault → Result RunEnd RunFault
+run_end_of_recording (Ok lost) = Ok (run_end_of_lost lost)
+run_end_of_recording (Err fault) = Err fault
+
+-- The result of a run of this program over an input and an output. Over known bytes only an audit has the outcome `Denied`, and only a
+-- recorded schedule has the outcome `Shortened`, with the number of lost lines that the engine returns.
 abbrev pub RunsAs : Program → List ℕ → List ℕ → InputState → InputState → OutputState → OutputState → Result RunEnd RunFault → Type 0
 RunsAs Plain domain seed input rest output out result = (ran : Result Unit RunFault) × (result ≡ run_end_of_result ran) × RunsPlain domain seed input rest output out ran
 RunsAs Schedule domain seed input rest output out result = (ran : Result Unit RunFault) × (result ≡ run_end_of_result ran) × RunsSchedule domain seed input rest output out ran
-RunsAs Record domain seed input rest output out result = (ran : Result ℕ RunFault) × (result ≡ run_end_of_result ran) × RunsRecord domain seed input rest output out ran
+RunsAs Record domain seed input rest output out result = (ran : Result ℕ RunFault) × (result ≡ run_end_of_recording ran) × RunsRecord domain seed input rest output out ran
 RunsAs Audit domain seed input rest output out result = RunsAudit domain input rest output out result
 -- a server has no input and no output of lines
 RunsAs Serve domain seed input rest output out result = ⊥

@@ -8,7 +8,7 @@ use Rattle.commit_head.specs.Journals.{batches_of}
 use Rattle.reg_lines.specs.Refusals.{no_memory_json, refusal_json}
 use Rattle.reg_lines.specs.Replies.{answer_json, reply_json}
 use Rattle.reg_lines.specs.SeatLines.{seat_refusal_json}
-use Rattle.shared_registry.specs.Seated.{MaySee, Seated}
+use Rattle.shared_registry.specs.Seated.{MaySeeFound, Seated}
 use Rattle.line_engines.specs.Answers.{as_line}
 use Rattle.reg_programs.specs.declared.session_engine.Taken.{Taken}
 use Rattle.reg_programs.specs.declared.session_engine.Taken.TheVariants.{Answered, Query, NotAnswered, NotRead}
@@ -30,7 +30,7 @@ abbrev pub IsToAnswer : Bytes → Seated → Taken → Type 0
 IsToAnswer domain seat (Answered call answer) = ⊤
 IsToAnswer domain seat (NotAnswered r) = ⊤
 IsToAnswer domain seat (NotRead r) = ⊤
-IsToAnswer domain seat (Query line batch) = MaySee domain seat × (is_query batch.ops ≡ true) × (batch.domain ≡ domain)
+IsToAnswer domain seat (Query line batch) = MaySeeFound domain seat × (is_query batch.ops ≡ true) × (batch.domain ≡ domain)
 
 -- the reply to a query on the journal that the seat found, with the number of its call
 abbrev pub found_json : Seated → Batch → List ℕ

@@ -21,7 +21,7 @@ pub enum Ended {
     Input,
     /// A write of the output failed, or a flush.
     Output,
-    /// An allocation failed, or a worker's thread couldn't be started.
+    /// An allocation failed, or a worker's thread couldn't be started; or a recorded schedule lost lines for lack of memory.
     NoMemory,
     /// The server can't listen at its address.
     Listen,
@@ -39,6 +39,7 @@ impl Ended {
         match answered {
             Ok(Ok(RunEnd::Done)) => Ended::Done,
             Ok(Ok(RunEnd::Denied)) => Ended::Denied,
+            Ok(Ok(RunEnd::Shortened(_))) => Ended::NoMemory,
             Ok(Err(RunFault::Input)) => Ended::Input,
             Ok(Err(RunFault::Output)) => Ended::Output,
             Ok(Err(RunFault::NoMemory)) => Ended::NoMemory,

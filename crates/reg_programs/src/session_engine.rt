@@ -5,7 +5,7 @@ ghost use Rattle.entry_book.specs.Batches.{is_query};
 ghost use Rattle.reg_lines.specs.Refusals.{no_memory_json, refusal_json};
 ghost use Rattle.line_devices.specs.Stream.{Puts};
 ghost use Rattle.line_engines.specs.Answers.{as_line};
-ghost use Rattle.shared_registry.specs.Seated.{MaySee, Seated};
+ghost use Rattle.shared_registry.specs.Seated.{MaySeeFound, Seated};
 ghost use Rattle.reg_programs.specs.Sessions.{AnswersCall, Grew, RunsSession, Session, SessionsGrow, no_answer_json, submit_json};
 ghost use Rattle.reg_programs.specs.SessionsPrivate.{HasText, IsPrinted, IsToAnswer, TakesRequestLine, found_json};
 
@@ -155,7 +155,7 @@ fn print_found<J: RegistryId, K: Sink>(
     batch: &Batch,
     output: &mut Output<K>,
 ) -> bool
-    requires found { MaySee J.domain seat.now }
+    requires found { MaySeeFound J.domain seat.now }
     requires query { is_query batch.now.ops ≡ true }
     requires domain { batch.now.domain ≡ J.domain }
     ensures { MatchBool result (Puts output.old output.new (as_line (found_json seat.now batch.now))) (output.new ≡ output.old) }

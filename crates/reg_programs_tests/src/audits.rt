@@ -26,7 +26,7 @@ fn is_audited(
 }
 
 /// Asserts that the verdict on these lines is this no.
-fn is_denied(rt: &impl Abort, alloc: Global, lines: &[u8], verdict: &str) -> Result<(), Fail> {
+pub fn is_denied(rt: &impl Abort, alloc: Global, lines: &[u8], verdict: &str) -> Result<(), Fail> {
     let expected = format!(in alloc; "{verdict}\n")?;
     is_audited(rt, alloc, lines, RunEnd::Denied, expected.as_str())
 }

@@ -207,6 +207,7 @@ fn end(word: &str) -> Result<Ended, Fail> {
     match word {
         "done" => Ok(Ended::of(Ok(Ok(RunEnd::Done)))),
         "denied" => Ok(Ended::of(Ok(Ok(RunEnd::Denied)))),
+        "shortened" => Ok(Ended::of(Ok(Ok(RunEnd::Shortened(1))))),
         "input" => Ok(Ended::of(Ok(Err(RunFault::Input)))),
         "output" => Ok(Ended::of(Ok(Err(RunFault::Output)))),
         "memory" => Ok(Ended::of(Ok(Err(RunFault::NoMemory)))),
@@ -246,6 +247,7 @@ fn are_ends(rt: &impl Abort, alloc: Global, table: &str) -> Result<(), Fail> {
 const ENDS: &str = "
 done => 0 \n
 denied => 3 \n
+shortened => 1 regd: out of memory$
 input => 1 regd: input failed$
 output => 1 regd: output failed$
 memory => 1 regd: out of memory$

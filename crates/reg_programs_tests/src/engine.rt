@@ -180,7 +180,7 @@ fn run_program(
 
 /// The replies of the program of a command line to these bytes, after asserting that they are compact, and the outcome of the
 /// run.
-fn answers_of_words(
+pub fn answers_of_words(
     rt: &impl Abort,
     alloc: Global,
     line: &str,

@@ -1,6 +1,6 @@
 //! Pages of entries, with their filters, among queries and among changes, of the last book and of earlier ones.
 
-use crate::engine::{answers, are_answered};
+use crate::engine::{answers, are_answered, are_answered_by};
 use crate::limits::changes;
 use crate::wanted::is_text;
 use std::alloc::Global;
@@ -87,6 +87,53 @@ const FILTERS: &str = r#"
 #[test]
 fn filters_of_pages(rt: HostRuntime) -> Result<(), Fail> {
     are_answered(&rt, rt.alloc(), FILTERS)
+}
+
+/// Pages by identity, and by two selectors in each mode (exact, any, superset, subset), in one call of a schedule.
+const FILTERS_OF_A_CALL: &str = r#"
+{"event":"invoke","call":1,"batch":{"ops":[{"op":"create","id":"00000000-0000-0000-0000-000000000001","parent":"spiffe://ex.org/spire/agent/n1","identity":"spiffe://ex.org/web","selectors":["u:1"]},{"op":"create","id":"00000000-0000-0000-0000-000000000002","parent":"spiffe://ex.org/spire/agent/n1","identity":"spiffe://ex.org/api","selectors":["u:1","u:2"]},{"op":"create","id":"00000000-0000-0000-0000-000000000003","parent":"spiffe://ex.org/spire/agent/n1","identity":"spiffe://ex.org/api","selectors":["u:2","u:3"]}]}}
+{"call":1,"state":"new"}
+{"event":"begin","call":1}
+{"call":1,"place":0,"state":"running"}
+{"event":"step","call":1}
+{"call":1,"read":"entry 00000000-0000-0000-0000-000000000001","state":"running"}
+{"event":"step","call":1}
+{"call":1,"read":"group spiffe://ex.org/spire/agent/n1 spiffe://ex.org/web","state":"running"}
+{"event":"step","call":1}
+{"call":1,"read":"entry 00000000-0000-0000-0000-000000000002","state":"running"}
+{"event":"step","call":1}
+{"call":1,"read":"group spiffe://ex.org/spire/agent/n1 spiffe://ex.org/api","state":"running"}
+{"event":"step","call":1}
+{"call":1,"read":"entry 00000000-0000-0000-0000-000000000003","state":"running"}
+{"event":"step","call":1}
+{"call":1,"read":"group spiffe://ex.org/spire/agent/n1 spiffe://ex.org/api","state":"ready"}
+{"event":"commit","call":1}
+{"call":1,"commit":"committed","place":1}
+{"event":"reply","call":1}
+{"call":1,"place":1,"replies":[{"entry":{"domains":[],"expiry":0,"hint":"","id":"00000000-0000-0000-0000-000000000001","identity":"spiffe://ex.org/web","parent":"spiffe://ex.org/spire/agent/n1","revision":0,"selectors":["u:1"]}},{"entry":{"domains":[],"expiry":0,"hint":"","id":"00000000-0000-0000-0000-000000000002","identity":"spiffe://ex.org/api","parent":"spiffe://ex.org/spire/agent/n1","revision":0,"selectors":["u:1","u:2"]}},{"entry":{"domains":[],"expiry":0,"hint":"","id":"00000000-0000-0000-0000-000000000003","identity":"spiffe://ex.org/api","parent":"spiffe://ex.org/spire/agent/n1","revision":0,"selectors":["u:2","u:3"]}}],"result":"committed"}
+{"event":"invoke","call":2,"batch":{"ops":[{"op":"page","size":9,"identity":"spiffe://ex.org/api"},{"op":"page","size":9,"selectors":["u:1","u:2"],"match":"exact"},{"op":"page","size":9,"selectors":["u:1","u:2"],"match":"any"},{"op":"page","size":9,"selectors":["u:1","u:2"],"match":"superset"},{"op":"page","size":9,"selectors":["u:1","u:2"],"match":"subset"}]}}
+{"call":2,"state":"new"}
+{"event":"begin","call":2}
+{"call":2,"place":1,"state":"running"}
+{"event":"step","call":2}
+{"call":2,"read":"all","state":"running"}
+{"event":"step","call":2}
+{"call":2,"read":"all","state":"running"}
+{"event":"step","call":2}
+{"call":2,"read":"all","state":"running"}
+{"event":"step","call":2}
+{"call":2,"read":"all","state":"running"}
+{"event":"step","call":2}
+{"call":2,"read":"all","state":"settled"}
+{"event":"reply","call":2}
+{"call":2,"place":1,"replies":[{"entries":[{"domains":[],"expiry":0,"hint":"","id":"00000000-0000-0000-0000-000000000002","identity":"spiffe://ex.org/api","parent":"spiffe://ex.org/spire/agent/n1","revision":0,"selectors":["u:1","u:2"]},{"domains":[],"expiry":0,"hint":"","id":"00000000-0000-0000-0000-000000000003","identity":"spiffe://ex.org/api","parent":"spiffe://ex.org/spire/agent/n1","revision":0,"selectors":["u:2","u:3"]}],"next":null},{"entries":[{"domains":[],"expiry":0,"hint":"","id":"00000000-0000-0000-0000-000000000002","identity":"spiffe://ex.org/api","parent":"spiffe://ex.org/spire/agent/n1","revision":0,"selectors":["u:1","u:2"]}],"next":null},{"entries":[{"domains":[],"expiry":0,"hint":"","id":"00000000-0000-0000-0000-000000000001","identity":"spiffe://ex.org/web","parent":"spiffe://ex.org/spire/agent/n1","revision":0,"selectors":["u:1"]},{"domains":[],"expiry":0,"hint":"","id":"00000000-0000-0000-0000-000000000002","identity":"spiffe://ex.org/api","parent":"spiffe://ex.org/spire/agent/n1","revision":0,"selectors":["u:1","u:2"]},{"domains":[],"expiry":0,"hint":"","id":"00000000-0000-0000-0000-000000000003","identity":"spiffe://ex.org/api","parent":"spiffe://ex.org/spire/agent/n1","revision":0,"selectors":["u:2","u:3"]}],"next":null},{"entries":[{"domains":[],"expiry":0,"hint":"","id":"00000000-0000-0000-0000-000000000002","identity":"spiffe://ex.org/api","parent":"spiffe://ex.org/spire/agent/n1","revision":0,"selectors":["u:1","u:2"]}],"next":null},{"entries":[{"domains":[],"expiry":0,"hint":"","id":"00000000-0000-0000-0000-000000000001","identity":"spiffe://ex.org/web","parent":"spiffe://ex.org/spire/agent/n1","revision":0,"selectors":["u:1"]},{"domains":[],"expiry":0,"hint":"","id":"00000000-0000-0000-0000-000000000002","identity":"spiffe://ex.org/api","parent":"spiffe://ex.org/spire/agent/n1","revision":0,"selectors":["u:1","u:2"]}],"next":null}],"result":"answered"}
+{"order":[1,2]}
+"#;
+
+#[test]
+fn filters_of_pages_in_a_schedule(rt: HostRuntime) -> Result<(), Fail> {
+    let line = "regd|schedule|--domain|ex.org";
+    are_answered_by(&rt, rt.alloc(), line, FILTERS_OF_A_CALL)
 }
 
 /// A page among the changes of a batch sees the effects of the earlier ones.

@@ -37,7 +37,7 @@ const PHANTOM_EVENTS: &str =
 {"call":3,"event":"reply"}
 "#;
 
-const PHANTOM_RECORDS: &str =
+pub const PHANTOM_RECORDS: &str =
     r#"{"batch":{"after":0,"ops":[{"domains":[],"expiry":0,"hint":"","id":"00000000-0000-0000-0000-000000000001","identity":"spiffe://ex.org/web","op":"create","parent":"spiffe://ex.org/spire/agent/n1","selectors":["u:1"]}]},"call":1,"invoked":1,"replied":15,"reply":{"call":1,"place":1,"replies":[{"entry":{"domains":[],"expiry":0,"hint":"","id":"00000000-0000-0000-0000-000000000001","identity":"spiffe://ex.org/web","parent":"spiffe://ex.org/spire/agent/n1","revision":0,"selectors":["u:1"]}}],"result":"committed"}}
 {"batch":{"after":0,"ops":[{"domains":[],"expiry":0,"hint":"","id":"00000000-0000-0000-0000-000000000002","identity":"spiffe://ex.org/web","op":"create","parent":"spiffe://ex.org/spire/agent/n1","selectors":["u:1"]}]},"call":3,"invoked":11,"replied":17,"reply":{"call":3,"code":"O2","detail":"00000000-0000-0000-0000-000000000001","op":0,"place":1,"result":"refused"}}
 "#;
@@ -70,7 +70,7 @@ const WRITE_SKEW_EVENTS: &str =
 {"call":2,"event":"reply"}
 "#;
 
-const WRITE_SKEW_RECORDS: &str =
+pub const WRITE_SKEW_RECORDS: &str =
     r#"{"batch":{"after":0,"ops":[{"domain":"b.org","op":"set_bundle","text":"{}"}]},"call":1,"invoked":1,"replied":5,"reply":{"call":1,"place":1,"replies":[{"bundle":{"domain":"b.org","sequence":0,"text":"{}"}}],"result":"committed"}}
 {"batch":{"after":0,"ops":[{"domain":"b.org","mode":"restrict","op":"drop_bundle"}]},"call":3,"invoked":7,"replied":17,"reply":{"call":3,"place":2,"replies":[{"deleted":[],"dissociated":[]}],"result":"committed"}}
 "#;
@@ -99,7 +99,7 @@ const EARLY_QUESTION_EVENTS: &str =
 {"call":1,"event":"reply"}
 "#;
 
-const EARLY_QUESTION_RECORDS: &str =
+pub const EARLY_QUESTION_RECORDS: &str =
     r#"{"batch":{"after":0,"ops":[{"id":"00000000-0000-0000-0000-000000000001","op":"show"}]},"call":1,"invoked":1,"replied":10,"reply":{"call":1,"place":0,"replies":[{"entry":null}],"result":"answered"}}
 {"batch":{"after":0,"ops":[{"domains":[],"expiry":0,"hint":"","id":"00000000-0000-0000-0000-000000000001","identity":"spiffe://ex.org/web","op":"create","parent":"spiffe://ex.org/spire/agent/n1","selectors":["u:1"]}]},"call":2,"invoked":3,"replied":8,"reply":{"call":2,"place":1,"replies":[{"entry":{"domains":[],"expiry":0,"hint":"","id":"00000000-0000-0000-0000-000000000001","identity":"spiffe://ex.org/web","parent":"spiffe://ex.org/spire/agent/n1","revision":0,"selectors":["u:1"]}}],"result":"committed"}}
 "#;
@@ -128,7 +128,7 @@ const UNREPLIED_EVENTS: &str =
 {"call":2,"event":"commit"}
 "#;
 
-const UNREPLIED_RECORDS: &str =
+pub const UNREPLIED_RECORDS: &str =
     r#"{"batch":{"after":0,"ops":[{"domains":[],"expiry":0,"hint":"","id":"00000000-0000-0000-0000-000000000001","identity":"spiffe://ex.org/web","op":"create","parent":"spiffe://ex.org/p1","selectors":["u:1"]}]},"call":1,"invoked":1,"replied":null,"reply":{"call":1,"place":1,"replies":[{"entry":{"domains":[],"expiry":0,"hint":"","id":"00000000-0000-0000-0000-000000000001","identity":"spiffe://ex.org/web","parent":"spiffe://ex.org/p1","revision":0,"selectors":["u:1"]}}],"result":"committed"}}
 {"batch":{"after":0,"ops":[{"domains":[],"expiry":0,"hint":"","id":"00000000-0000-0000-0000-000000000002","identity":"spiffe://ex.org/web","op":"create","parent":"spiffe://ex.org/p2","selectors":["u:1"]}]},"call":2,"invoked":2,"replied":null,"reply":{"call":2,"place":2,"replies":[{"entry":{"domains":[],"expiry":0,"hint":"","id":"00000000-0000-0000-0000-000000000002","identity":"spiffe://ex.org/web","parent":"spiffe://ex.org/p2","revision":0,"selectors":["u:1"]}}],"result":"committed"}}
 "#;
@@ -157,7 +157,7 @@ const REPEAT_EVENTS: &str =
 {"event":"reply","call":2}
 "#;
 
-const REPEAT_RECORDS: &str =
+pub const REPEAT_RECORDS: &str =
     r#"{"batch":{"after":0,"ops":[{"agent":"spiffe://ex.org/spire/agent/n1","op":"set_agent","selectors":["x:1"]}],"token":"00000000-0000-0000-0000-000000000009"},"call":1,"invoked":1,"replied":6,"reply":{"call":1,"place":1,"replies":[{"agent":{"id":"spiffe://ex.org/spire/agent/n1","selectors":["x:1"]}}],"result":"committed"}}
 {"batch":{"after":0,"ops":[{"agent":"spiffe://ex.org/spire/agent/n1","op":"set_agent","selectors":["x:1"]}],"token":"00000000-0000-0000-0000-000000000009"},"call":2,"invoked":7,"replied":10,"reply":{"call":2,"place":1,"replies":[{"agent":{"id":"spiffe://ex.org/spire/agent/n1","selectors":["x:1"]}}],"result":"repeated"}}
 "#;
@@ -168,7 +168,7 @@ fn a_repeat_is_recorded_as_repeated(rt: HostRuntime) -> Result<(), Fail> {
 }
 
 /// The records of the calls whose events were possible, among others that weren't.
-const IN_TURN_RECORDS: &str =
+pub const IN_TURN_RECORDS: &str =
     r#"{"batch":{"after":0,"ops":[{"agent":"spiffe://ex.org/spire/agent/n1","op":"set_agent","selectors":["x:1"]}]},"call":7,"invoked":1,"replied":null,"reply":{"call":7,"place":1,"replies":[{"agent":{"id":"spiffe://ex.org/spire/agent/n1","selectors":["x:1"]}}],"result":"committed"}}
 {"batch":{"after":9,"ops":[{"agent":"spiffe://ex.org/spire/agent/n1","op":"show_agent"}]},"call":8,"invoked":5,"replied":7,"reply":{"call":8,"code":"W1","place":1,"result":"refused"}}
 "#;

@@ -47,16 +47,17 @@ def audits(runs, records, verdict):
 
 
 def recordings(runs, events):
-    """Returns how many recorded runs ended out of memory, how many were audited with a yes, and what was wrong."""
-    ended, confirmed, wrong = 0, 0, []
+    """Returns how many recorded runs ended out of memory, how many wrote all records, and what was wrong."""
+    whole = runs.record(events)
+    ended, complete, wrong = 0, 0, []
     for number, result in runs.each(lambda fail: runs.record(events, fail)):
-        if result == OUT_OF_MEMORY:
+        if result == whole:
+            complete += 1
+        elif result._replace(output=b"") == OUT_OF_MEMORY and runs.audit(result.output).status == YES:
             ended += 1
-        elif result.status == 0 and not result.errors and runs.audit(result.output).status == YES:
-            confirmed += 1
         else:
             wrong.append(f"recorded run, allocation {number}: {result}")
-    return ended, confirmed, wrong
+    return ended, complete, wrong
 
 
 def check(folder, file, domain):
@@ -68,8 +69,8 @@ def check(folder, file, domain):
     parts = [audits(runs, records, YES), audits(runs, with_a_fault(records), NO), recordings(runs, events)]
     wrong = [line for part in parts for line in part[2]]
     print("".join(f"{line}\n" for line in wrong), end="")
-    (yes_ended, yes, _), (no_ended, no, _), (run_ended, confirmed, _) = parts
-    total = yes_ended + yes + no_ended + no + run_ended + confirmed + len(wrong)
+    (yes_ended, yes, _), (no_ended, no, _), (run_ended, complete, _) = parts
+    total = yes_ended + yes + no_ended + no + run_ended + complete + len(wrong)
     print(f"{total} allocations failed in turn: {yes_ended + no_ended} audits out of memory, {yes} yes and {no} no as expected; "
-          f"{run_ended} recorded runs out of memory, {confirmed} audited with a yes; {len(wrong)} wrong")
+          f"{run_ended} recorded runs out of memory, {complete} with all records; {len(wrong)} wrong")
     return 1 if wrong or total == 0 else 0

@@ -11,6 +11,6 @@ returns-in-Record g c =
     let seeded = subst (λ seed. RunsRecord c.into_domain-domain.result seed c.args.input.now rest c.args.output.now out ran) c.seed-seed.ensures c.record_schedule.ensures in
     let runs = subst (λ domain. RunsRecord domain c.args.settings.seed c.args.input.now rest c.args.output.now out ran) c.into_domain-domain.ensures seeded in
     subst
-    (λ program. RunsAs program c.args.settings.domain c.args.settings.seed c.args.input.now rest c.args.output.now out c.done-in-Record.result)
+    (λ program. RunsAs program c.args.settings.domain c.args.settings.seed c.args.input.now rest c.args.output.now out c.recorded.result)
     (sym c.in-Record.is ∙ c.program-program.ensures)
-    (ran, c.done-in-Record.ensures, runs)
+    (ran, c.recorded.ensures, runs)
