@@ -117,7 +117,7 @@ def _results(played, folder):
     top, bin_folder = folder / "top", folder / "bin"
     for made in (top, bin_folder):
         made.mkdir()
-        (made / "regd").symlink_to(program())
+        (made / "regd").symlink_to(program(unverified=True))
     for linked in ROOT.iterdir():
         if linked.name not in ("regd", "out") and not linked.name.startswith("."):
             (top / linked.name).symlink_to(linked)

@@ -26,7 +26,7 @@ from typing import NamedTuple
 
 from gatewaytools import tools
 from regdtools import guides
-from regdtools.program import BUILT, ROOT, is_built
+from regdtools.program import BUILT, ROOT, is_current
 
 DEPLOY, DOCS, EXAMPLES = ROOT / "deploy", ROOT / "docs", ROOT / "examples"
 UNITS = (".service", ".timer")
@@ -77,7 +77,7 @@ def built_gateway():
 
 def items(prefix):
     """Returns the files of an installation at a prefix. The program is the proved one, and nothing here builds it."""
-    if not is_built():
+    if not is_current(BUILT):
         raise Missing("regd is not proved and built from the sources as they are: run scripts/prove first")
     found = [Item("bin/regd", BUILT.read_bytes(), True), Item("bin/regd-gateway", built_gateway(), True)]
     for path in regular(DEPLOY):

@@ -14,7 +14,7 @@ import sys
 import time
 
 from regdtools import crates, results
-from regdtools.program import BUILT, CRATES, ROOT, sources_of
+from regdtools.program import BUILT, CRATES, ROOT, UNVERIFIED, mark_current, move_program, remove_program, sources_of
 
 PROGRAM = "regd"
 # what `rt ci` runs the program on, and what it compares
@@ -273,14 +273,15 @@ def prove(processors, writes):
     os.sched_setaffinity(0, sorted(os.sched_getaffinity(0))[: max(1, processors)])
     folder = folder_in_cache("regd-prove")
     with locked(folder):
-        begin = time.time_ns()
+        begin, new = time.time_ns(), BUILT.with_suffix(".new")
+        BUILT.parent.mkdir(exist_ok=True)
+        mark_current(new)
         report = Report(proofs_of_program(), len(os.sched_getaffinity(0)))
         report.say(f"{len(report.proofs)} crates on {report.processors} processors")
         Prover(report.proofs, folder, report).run()
-        BUILT.parent.mkdir(exist_ok=True)
-        shutil.copy2(folder / PROGRAM / "crates" / PROGRAM / "out" / PROGRAM, BUILT)
-        # as old as the sources that were proved: what changed since is newer
-        os.utime(BUILT, ns=(begin, begin))
+        shutil.copy2(folder / PROGRAM / "crates" / PROGRAM / "out" / PROGRAM, new)
+        move_program(new, BUILT, begin)
+        remove_program(UNVERIFIED)
     print(f"{report.seconds() / 60:.1f} min in all")
     if writes:
         rows = [[it.name, f"{it.ended - it.ready:.0f}", it.lines] for it in report.proofs.values()]
