@@ -3,13 +3,12 @@
 
 import contextlib
 import fcntl
-import hashlib
 import pathlib
 import shutil
 import subprocess
 
 from regdtools import crates, proving
-from regdtools.program import CRATES, ROOT, sources_of
+from regdtools.program import CRATES, ROOT
 
 
 class Failed(Exception):
@@ -44,20 +43,10 @@ def command(name, libraries, jobs=1):
     return [str(toolchain() / "bin/rattle"), "check", "--crate-name", name, root, *words]
 
 
-def checksum(names):
-    """Returns a checksum of the sources of these crates, of what crates.txt and HANDLES say, and of the toolchain."""
-    files = [toolchain() / "KIT-ID", ROOT / "HANDLES", *(path for name in names for path in sources_of(CRATES / name))]
-    digest = hashlib.sha256(repr([(name, crates.listed()[name]) for name in names]).encode())
-    for path in files:
-        text = path.read_bytes()
-        digest.update(f"{path} {len(text)}\n".encode() + text)
-    return digest.hexdigest()
-
-
 def prove_below(name, libraries):
     """Copies the crates below this one to `libraries` and has `rt ci` prove them there, unless that was done with the same sources before."""
     names, stamp = crates.below([name]), libraries / "proved"
-    now = checksum(names)
+    now = crates.checksum(names, (toolchain() / "KIT-ID").read_text())
     if stamp.exists() and stamp.read_text() == now:
         return
     prove(names, libraries)

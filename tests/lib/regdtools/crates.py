@@ -1,6 +1,8 @@
 """The crates of the repository and their mutants."""
 
-from regdtools.program import CRATES, ROOT
+import hashlib
+
+from regdtools.program import CRATES, ROOT, sources_of
 
 
 def listed(root=ROOT):
@@ -22,3 +24,14 @@ def mutants_of(crate, word=""):
     """Returns the files of the crate's mutants whose names contain the word: those of must-fail/, then those of edits/."""
     folders = [CRATES / crate / part for part in ("must-fail", "edits")]
     return [file for folder in folders for file in sorted(folder.glob("*.edit")) if word in file.stem]
+
+
+def checksum(names, toolchain, root=ROOT):
+    """Returns a checksum of what decides the proofs of these crates of a checkout: their sources, what crates.txt and HANDLES say, and a text
+    that identifies the toolchain."""
+    libraries = listed(root)
+    digest = hashlib.sha256(repr([toolchain, *((name, libraries[name]) for name in names)]).encode())
+    for path in [root / "HANDLES", *(path for name in names for path in sources_of(root / "crates" / name))]:
+        text = path.read_bytes()
+        digest.update(f"{path.relative_to(root)} {len(text)}\n".encode() + text)
+    return digest.hexdigest()
