@@ -272,6 +272,7 @@ def prove(processors, writes):
 
 
 def build(folder, writes):
+    """Proves the crates and builds the program in an empty folder, and moves the program into the checkout."""
     begin, new = time.time_ns(), BUILT.with_suffix(".new")
     BUILT.parent.mkdir(exist_ok=True)
     mark_current(new)
