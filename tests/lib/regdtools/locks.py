@@ -28,7 +28,7 @@ class Lock:
     def release(self):
         """Releases the lock, if this process has it."""
         if self.file is not None:
-            self.path.unlink()
+            self.path.unlink(missing_ok=True)
             self.file.close()
             self.file = None
 
