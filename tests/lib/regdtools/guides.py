@@ -52,7 +52,8 @@ class Result:
 
 def pages():
     """Returns all pages: those at the root and those in docs/."""
-    names = [ROOT / "README.md", ROOT / "CONTRIBUTING.md", ROOT / "CHANGELOG.md", *sorted((ROOT / "docs").glob("*.md"))]
+    top = ("README.md", "CONTRIBUTING.md", "CHANGELOG.md", "SECURITY.md")
+    names = [*(ROOT / name for name in top), *sorted((ROOT / "docs").glob("*.md"))]
     return [page for page in names if page.exists()]
 
 

@@ -88,9 +88,10 @@ def items(prefix):
             found.append(Item("lib/sysusers.d/regd.conf", text, False))
         else:
             found.append(Item(f"share/regd/deploy/{path.name}", text, os.access(path, os.X_OK)))
-    for path in sorted({*guides.pages(), *regular(DOCS)}):
-        found.append(Item(f"share/doc/regd/{path.relative_to(ROOT)}", path.read_bytes(), False))
-    return found + [Item(f"share/doc/regd/examples/{path.name}", path.read_bytes(), os.access(path, os.X_OK)) for path in regular(EXAMPLES)]
+    examples = [path for folder in (EXAMPLES, *(it for it in sorted(EXAMPLES.iterdir()) if it.is_dir())) for path in regular(folder)]
+    for path in [*sorted({*guides.pages(), ROOT / "LICENSE", *regular(DOCS)}), *examples]:
+        found.append(Item(f"share/doc/regd/{path.relative_to(ROOT)}", path.read_bytes(), os.access(path, os.X_OK)))
+    return found
 
 
 def checked_prefix(word):
