@@ -4,6 +4,7 @@ The program is the one that the variable REGD names, otherwise the one that scri
 that scripts/build-unverified compiled without proofs will do.
 """
 
+import functools
 import os
 import pathlib
 import subprocess
@@ -51,6 +52,7 @@ def remove_program(path):
     mark_of(path).unlink(missing_ok=True)
 
 
+@functools.cache
 def program(*, unverified=False):
     """Returns the path of the program. Ends the script with status 2 if there is none.
 
