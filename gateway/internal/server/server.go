@@ -34,6 +34,7 @@ type Limits struct {
 
 	LineBytes         int   // of a line, without its line feed
 	Lines             int   // of a connection that are under way
+	Listings          int   // in a query: operations whose replies grow with the book
 	LongLines         int   // of over 8 KiB, of all connections
 	Changes           int   // that wait to be appended
 	ReplyBytes        int64 // of replies that are not yet sent
@@ -45,7 +46,7 @@ type Limits struct {
 var UsualLimits = Limits{
 	Answer: 20 * time.Second, After: 2 * time.Second, Handshake: 10 * time.Second, Idle: 15 * time.Minute, Line: 30 * time.Second,
 	Write: 20 * time.Second, Stop: 25 * time.Second, Votes: 5 * time.Second, Members: 10 * time.Second, Status: 10 * time.Second,
-	LineBytes: wire.MaxLine, Lines: 256, LongLines: 64, Changes: 4096, ReplyBytes: 512 << 20, Connections: 10000, CallerConnections: 100,
+	LineBytes: wire.MaxLine, Lines: 256, Listings: 16, LongLines: 64, Changes: 4096, ReplyBytes: 512 << 20, Connections: 10000, CallerConnections: 100,
 }
 
 // IsValid returns true if all limits are above 0, and lines are not longer than regd accepts them.
@@ -115,6 +116,7 @@ func New(log *etcd.Log, options Options) *Gateway {
 		g.turns = append(g.turns, make(chan struct{}, mostTurns))
 	}
 	g.options.Replica.ReplyBytes = int(options.Limits.ReplyBytes) / 2 / len(g.turns) // those that are read take no more room than those that are not yet sent
+	g.options.Replica.OnLate = g.late.Inc
 	g.skips.Store(&etcd.Skips{})
 	g.headTime.Store(time.Now().Unix())
 	return g

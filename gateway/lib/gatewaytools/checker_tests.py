@@ -109,6 +109,8 @@ class Rules(unittest.TestCase):
             (b'{"ops":[' + b",".join([query] * 5 + [prune]) + b"]}", "G2"),
             (b'{"ops":[' + b",".join([query] * 4 + [prune]) + b"]}", None),
             (b'{"ops":[' + b",".join([query] * 9) + b"]}", None),
+            (b'{"ops":[' + b",".join([b'{"op":"trust"}'] * 16) + b"]}", None),
+            (b'{"ops":[' + b",".join([b'{"op":"page"}'] * 17), "G2"),
             (b'{"ops":[{"op":"create"}]}' + b" " * (rules.MOST_BYTES - 60), "G3"),
             (b'{"ops":[{"op":"create"}]}' + b" " * rules.MOST_BYTES, None),
             (b'{"ops":[', None),
