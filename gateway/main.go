@@ -107,6 +107,8 @@ func addLimits(flags *flag.FlagSet, l *server.Limits) {
 	flags.Int64Var(&l.ReplyBytes, "limit-reply-bytes", l.ReplyBytes, "bytes of all replies that are not yet sent")
 	flags.IntVar(&l.Connections, "limit-connections", l.Connections, "connections")
 	flags.IntVar(&l.CallerConnections, "limit-caller-connections", l.CallerConnections, "connections of one caller with a certificate")
+	flags.IntVar(&l.Handshakes, "limit-handshakes", l.Handshakes, "TLS handshakes that are under way")
+	flags.IntVar(&l.AddressHandshakes, "limit-address-handshakes", l.AddressHandshakes, "TLS handshakes of one address that are under way")
 }
 
 // isLoopback returns true if no other machine can connect to the address.

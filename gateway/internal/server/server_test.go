@@ -37,6 +37,7 @@ type site struct {
 	log   *etcd.Log
 	// of the gateways that start from now on
 	limits    Limits
+	address   string        // of the last one that secured started
 	hang      time.Duration // of regd, or 0 for the usual one
 	callers   *Certificates
 	operators []string

@@ -133,7 +133,7 @@ func (g *Gateway) serveMetrics(w http.ResponseWriter, _ *http.Request) {
 	p.Gauge(name+"connections", "Open connections of callers.", float64(g.sessions.Load()))
 	p.Counter(name+"connections_total", "Connections of callers.", &g.accepted)
 	p.Vector(name+"connections_ended_total", "Connections that the gateway ended, by reason.", "reason", &g.ended,
-		"answer", "caller", "connections", "handshake", "idle", "left", "line", "write")
+		"answer", "caller", "connections", "handshake", "handshakes", "idle", "left", "line", "panic", "write")
 	p.Histogram(name+"change_duration_seconds", "Times from a line that may be a change to its answer.", &g.changed)
 	p.Histogram(name+"query_duration_seconds", "Times from any other line to its answer.", &g.queries)
 	p.Vector(name+"refusals_total", "Answers with a code, by code.", "code", &g.refusals,
