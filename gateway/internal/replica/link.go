@@ -27,7 +27,7 @@ type link struct {
 	pending   []byte               // lines that are not yet written
 	isWriting bool                 // a caller of submit writes
 	waiting   []func(reply []byte) // one for each line whose reply hasn't come
-	late      int                  // how many of them, the first ones, nobody waits for any more
+	late      int                  // how many of them, the first ones, have no caller that waits
 	isDown    bool
 }
 

@@ -431,7 +431,7 @@ func TestOrder(t *testing.T) {
 	}
 }
 
-// TestShiftedReplies lets regd drop, double and swap a reply. The replica ends at the next reply, and nobody gets the reply to another line.
+// TestShiftedReplies lets regd drop, double and swap a reply. The replica ends at the next reply, and no line gets the reply to another one.
 func TestShiftedReplies(t *testing.T) {
 	for _, hint := range []string{"DROP", "TWICE", "SWAP"} {
 		for _, isChange := range []bool{false, true} {
@@ -451,7 +451,7 @@ func TestShiftedReplies(t *testing.T) {
 				}
 			}
 			ends(t, r)
-			r.Close() // waits until all are told
+			r.Close() // waits for the last reply
 			close(got)
 			call := 2 // the first one was that of the start
 			for reply := range got {
@@ -467,7 +467,7 @@ func TestShiftedReplies(t *testing.T) {
 // TestLateQuery lets a query take longer than a reply may. It is refused, and the replica goes on. A query behind it is given back, and others go to
 // another worker, also that again. When no worker is left, a query is refused; and a worker whose reply has come is asked again.
 func TestLateQuery(t *testing.T) {
-	const hang = 300 * time.Millisecond
+	const hang = time.Second
 	var late atomic.Int64
 	r, _ := startWith(t, Options{Hang: hang, OnLate: func() { late.Add(1) }})
 	slow := []byte(`{"ops":[{"op":"show","hint":"HALT"}]}`)

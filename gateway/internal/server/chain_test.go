@@ -18,7 +18,7 @@ import (
 	"regd/gateway/internal/server/chaintest"
 )
 
-// parsed returns a chain as crypto/tls hands it on, or false if that refuses it.
+// parsed returns a chain as crypto/tls passes it, or false if that refuses it.
 func parsed(raw [][]byte) (chain []*x509.Certificate, ok bool) {
 	for _, der := range raw {
 		one, err := x509.ParseCertificate(der)

@@ -373,7 +373,7 @@ func (s *session) note(q *request, reply []byte) {
 	}
 }
 
-// await returns the answer to a line, or nil. A query is asked again if regd ended before it came to it, and if the reply is too old.
+// await returns the answer to a line, or nil. A query is asked again if regd ended before it ran it, and if the reply is too old.
 func (s *session) await(ctx context.Context, q *request) []byte {
 	if len(q.reply) == 0 && !s.flush() {
 		return nil

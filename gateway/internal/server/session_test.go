@@ -249,7 +249,7 @@ func TestFatalQuery(t *testing.T) {
 func TestSlowQuery(t *testing.T) {
 	t.Parallel()
 	s := newSite(t)
-	s.hang = 300 * time.Millisecond
+	s.hang = 2 * time.Second
 	g, address, _ := s.gateway("a")
 	slow, in := s.dial(address)
 	fmt.Fprintln(slow, `{"ops":[{"op":"show","hint":"HALT"}]}`)

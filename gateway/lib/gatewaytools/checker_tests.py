@@ -1,4 +1,5 @@
 """Tests of the checker itself: planted faults make it fail. And of the tables of docs/GATEWAY.md. They need no program."""
+import datetime
 import pathlib
 import re
 import subprocess
@@ -100,6 +101,15 @@ class StaleReads(unittest.TestCase):
     def test_repeated_answers_do_not_count(self):
         events = [{"from": 1, "to": 2, "place": 7, "reply": 'x"repeated"}'}, {"from": 3, "to": 4, "place": 6, "read": True}]
         self.assertEqual(auditing.stale_reads(events), 0)
+
+
+class Go(unittest.TestCase):
+    def test_warning(self):
+        for version, today, oldest in (("go1.19.8", (2025, 2, 1), 23), ("go1.23.4", (2025, 2, 1), None), ("go1.23.4", (2025, 8, 1), 24),
+                                       ("go1.24", (2026, 1, 31), None), ("go version go1.25.1 linux/amd64", (2026, 8, 1), 26), ("devel", (2026, 8, 1), 26)):
+            warning = tools.go_warning(version, datetime.date(*today))
+            self.assertEqual(warning is None, oldest is None, version)
+            self.assertIn(f"fixes go1.{oldest} and later" if oldest else "", warning or "")
 
 
 class Rules(unittest.TestCase):

@@ -2,7 +2,7 @@
 //
 // It knows prune, which commits and reports its number, show, after, and token, which it ignores. Some hints in a line make it misbehave: L5, L6,
 // L7, L8 and O8 are replied as codes, KILL ends the process, HANG makes it answer nothing more on this connection, and SLOW makes it take a tenth of a
-// second. With WAIT a line takes a second, and with HALT three seconds, in which the other connections are answered. LARGE makes a reply of 100 kB. With LATE a change is seen by
+// second. With WAIT a line takes a second, and with HALT four seconds, in which the other connections are answered. LARGE makes a reply of 100 kB. With LATE a change is seen by
 // the other connections after two seconds. With DROP there is no reply, with TWICE it comes twice, and with SWAP after that to the next line, as if regd
 // were wrong. For the domain shared.org the connections number their calls together, and for hung.org it never listens.
 package regdtest
@@ -112,7 +112,7 @@ func (b *book) reply(text []byte, isWriter bool) (reply string, isCall bool) {
 	if bytes.Contains(text, []byte("HANG")) {
 		select {}
 	}
-	for word, long := range map[string]time.Duration{"WAIT": time.Second, "HALT": 3 * time.Second} {
+	for word, long := range map[string]time.Duration{"WAIT": time.Second, "HALT": 4 * time.Second} {
 		if bytes.Contains(text, []byte(word)) {
 			time.Sleep(long)
 		}

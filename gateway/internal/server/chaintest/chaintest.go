@@ -40,7 +40,7 @@ func New(seed int64) *Maker {
 // Key returns the private key of all certificates whose key is no odd one.
 func (m *Maker) Key() *ecdsa.PrivateKey { return m.key }
 
-// certificate returns a certificate of a subject and an issuer, with a public key, and so many bytes of no meaning.
+// certificate returns a certificate of a subject and an issuer, with a public key, and an extension of this size.
 func (m *Maker) certificate(subject, issuer string, public any, bytes int) []byte {
 	m.serial++
 	id := &url.URL{Scheme: "spiffe", Host: "ex.org", Path: "/operator"}
@@ -67,7 +67,7 @@ func (m *Maker) UnknownKey() []byte {
 	return bytes.Replace(m.usual(), known, unknown, 1)
 }
 
-// HugeKey returns a certificate with an RSA key of so many bits.
+// HugeKey returns a certificate with an RSA key of this size.
 func (m *Maker) HugeKey(bits int) []byte {
 	modulus := new(big.Int).Lsh(big.NewInt(1), uint(bits-1))
 	modulus.Add(modulus, new(big.Int).Rand(m.random, modulus))
