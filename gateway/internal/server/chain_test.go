@@ -2,9 +2,11 @@ package server
 
 import (
 	"bytes"
+	"context"
 	"crypto/rsa"
 	"crypto/tls"
 	"crypto/x509"
+	"crypto/x509/pkix"
 	"errors"
 	"fmt"
 	"io"
@@ -71,6 +73,93 @@ func TestCheckChain(t *testing.T) {
 	}
 	if checkChain([]*x509.Certificate{leaf}, pool, "", x509.ExtKeyUsageCodeSigning) == nil {
 		t.Error("another usage was accepted")
+	}
+}
+
+// TestIntermediate checks a leaf whose issuer is in its chain, and that no leaf is accepted by an authority that is only in its chain.
+func TestIntermediate(t *testing.T) {
+	a := newAuthority(t)
+	between := &authority{t: t, folder: t.TempDir(), serial: 7, long: time.Hour}
+	template := &x509.Certificate{SerialNumber: big.NewInt(6), Subject: pkix.Name{CommonName: "between"}, IsCA: true, BasicConstraintsValid: true,
+		KeyUsage: x509.KeyUsageCertSign, NotBefore: time.Now().Add(-time.Hour), NotAfter: time.Now().Add(time.Hour)}
+	between.cert, between.key = a.sign("between", template, a)
+	leaf, pool := between.leaf("agent", n1), x509.NewCertPool()
+	pool.AddCert(a.cert)
+	check := func(chain ...*x509.Certificate) error { return checkChain(chain, pool, "", x509.ExtKeyUsageClientAuth) }
+	if err := check(leaf, between.cert); err != nil {
+		t.Error(err)
+	}
+	other := newAuthority(t)
+	if check(leaf) == nil || check(other.leaf("agent", n1), other.cert) == nil {
+		t.Error("a leaf without its authority was accepted")
+	}
+}
+
+// TestNoCertificate checks that a caller without a certificate is refused for that reason.
+func TestNoCertificate(t *testing.T) {
+	a := newAuthority(t)
+	a.leaf("server")
+	server := a.load("server")
+	config := &tls.Config{InsecureSkipVerify: true}
+	_, _, err := handshake(t, server, (&tls.Dialer{Config: config}).DialContext)
+	if err == nil || !strings.Contains(err.Error(), "didn't provide a certificate") {
+		t.Errorf("got %v", err)
+	}
+}
+
+// TestDial checks that a client accepts only a server of its authorities with the name that it has dialled.
+func TestDial(t *testing.T) {
+	a, other := newAuthority(t), newAuthority(t)
+	a.leaf("server")
+	a.leaf("client")
+	other.leaf("server")
+	for name, c := range map[string]struct {
+		server *Certificates
+		host   string
+		want   bool
+	}{
+		"its server": {a.load("server"), "127.0.0.1", true}, "another name": {a.load("server"), "localhost", false},
+		"another authority": {other.load("server"), "127.0.0.1", false},
+	} {
+		on, err := tls.Listen("tcp", "127.0.0.1:0", &tls.Config{Certificates: c.server.current().Certificates})
+		if err != nil {
+			t.Fatal(err)
+		}
+		go func() {
+			conn, err := on.Accept()
+			if err == nil {
+				conn.(*tls.Conn).Handshake() // whose error is that of the client
+				conn.Close()
+			}
+		}()
+		_, port, _ := net.SplitHostPort(on.Addr().String())
+		conn, err := a.load("client").Dial(context.Background(), "tcp", net.JoinHostPort(c.host, port))
+		if (err == nil) != c.want {
+			t.Errorf("%s: got %v", name, err)
+		}
+		if err == nil {
+			conn.Close()
+		}
+		on.Close()
+	}
+}
+
+// TestTurnInTime checks that a handshake which finds no turn ends with its time.
+func TestTurnInTime(t *testing.T) {
+	conn := &said{&written{}, strings.NewReader("x")}
+	p := &paced{Conn: conn, turns: make(chan struct{}), end: time.Now().Add(10 * time.Millisecond)}
+	ended := make(chan error, 1)
+	go func() {
+		_, err := p.Read(make([]byte, 1))
+		ended <- err
+	}()
+	select {
+	case err := <-ended:
+		if !errors.Is(err, os.ErrDeadlineExceeded) {
+			t.Errorf("got %v", err)
+		}
+	case <-time.After(10 * time.Second):
+		t.Error("it waits")
 	}
 }
 
