@@ -514,7 +514,8 @@ func TestStartWithoutEtcd(t *testing.T) {
 	}
 }
 
-// awayRegd returns a program that is a regd in miniature until the file that is named after it exists, and from then on never listens.
+// awayRegd returns a program that is a regd in miniature until the file that is named after it exists, and from then on
+// never listens.
 func (s site) awayRegd() (program, away string) {
 	program = filepath.Join(s.t.TempDir(), "regd")
 	away = program + ".away"
@@ -531,7 +532,7 @@ func (s site) processorTime(process int) time.Duration {
 	if err != nil {
 		s.t.Fatal(err)
 	}
-	fields := strings.Fields(string(text[bytes.LastIndexByte(text, ')'):])) // of which the first one is the third of the file
+	fields := strings.Fields(string(text[bytes.LastIndexByte(text, ')'):])) // the first one is the third of the file
 	var user, kernel int64
 	fmt.Sscan(fields[11], &user)
 	fmt.Sscan(fields[12], &kernel)
@@ -560,8 +561,8 @@ func (s site) waits(what string, condition func() bool) {
 	}
 }
 
-// TestWaitingCallers lets 2,000 callers wait for a gateway without a replica: they cost less than a tenth of a processor until their time is over. The
-// connections of those that reset them are not kept.
+// TestWaitingCallers lets 2,000 callers wait for a gateway without a replica: they cost less than a tenth of a
+// processor until their time is over. The connections of those that reset them are not kept.
 func TestWaitingCallers(t *testing.T) {
 	const callers, limit = 2000, 10 * time.Second
 	s := newSite(t)
@@ -588,9 +589,9 @@ func TestWaitingCallers(t *testing.T) {
 		return all
 	}
 	stays := connect(callers)
-	s.waits("not all callers are there", func() bool { count, _ := s.sessions(state); return count == callers })
+	s.waits("callers are missing", func() bool { count, _ := s.sessions(state); return count == callers })
 	left := connect(50)
-	s.waits("not all callers are there", func() bool { count, _ := s.sessions(state); return count == callers+len(left) })
+	s.waits("callers are missing", func() bool { count, _ := s.sessions(state); return count == callers+len(left) })
 	begin, before := time.Now(), s.processorTime(gateway.Process.Pid)
 	for _, conn := range left {
 		conn.(*net.TCPConn).SetLinger(0)

@@ -406,7 +406,8 @@ func report(all []seen, took float64) {
 			t.longest = s.longest
 		}
 	}
-	out := map[string]any{"seconds": took, "unconnected": t.unconnected, "reason": t.reason, "lost": t.lost, "resent": t.resent, "repeated": t.repeated, "refused": t.refused, "busy": t.busy, "back": t.back, "longest_s": t.longest}
+	out := map[string]any{"seconds": took, "unconnected": t.unconnected, "reason": t.reason, "lost": t.lost, "resent": t.resent, "repeated": t.repeated, "refused": t.refused, "back": t.back, "longest_s": t.longest}
+	out["busy"] = t.busy
 	for name, times := range map[string][]float64{"reads": t.reads, "changes": t.writes} {
 		out[name], out[name+"_per_s"] = len(times), float64(len(times))/took
 		if sort.Float64s(times); len(times) > 0 {

@@ -20,8 +20,8 @@ type Options struct {
 	Program string
 	Domain  string
 	Workers int // one executes the changes, the others answer queries
-	// for regd to listen and for the next reply that it owes, after which the replica ends or the query is refused; 0 for
-	// 10 seconds
+	// for regd to listen and for the next reply that it owes, after which the replica ends or the query is refused; 0
+	// for 10 seconds
 	Hang   time.Duration
 	Tokens int // how many are retained, by all gateways; 0 for 65,536
 	// the most bytes of the reply to a query; 0 for any number

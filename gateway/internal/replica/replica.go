@@ -93,8 +93,8 @@ func (r *Replica) Query(number int, line []byte, done func(reply []byte)) {
 	done(wire.Refusal(wire.Busy))
 }
 
-// probe notes that a worker owes a late reply to a query, and asks the worker for changes for one. If regd hangs, that is
-// late too, and the replica ends.
+// probe notes that a worker owes a late reply to a query, and asks the worker for changes for one. If regd hangs, that
+// is late too, and the replica ends.
 func (r *Replica) probe() {
 	logline.Error("a reply to a query is late", "limit", r.options.Hang)
 	if r.options.OnLate != nil {

@@ -369,7 +369,8 @@ func TestReplyCutOff(t *testing.T) {
 	var got []string
 	note := func(reply []byte) { got = append(got, string(reply)) }
 	waiting := []func([]byte){note, note}
-	if err := (&link{conn: inner, hang: time.Minute, most: 100, waiting: waiting}).read(); err == nil || len(got) != 2 || got[0] != first || got[1] != "" {
+	err := (&link{conn: inner, hang: time.Minute, most: 100, waiting: waiting}).read()
+	if err == nil || len(got) != 2 || got[0] != first || got[1] != "" {
 		t.Errorf("got %q, %v", got, err)
 	}
 	if waiting[0] != nil {
@@ -386,7 +387,8 @@ func TestReplyToNothing(t *testing.T) {
 	}
 }
 
-// TestOrder checks that a reply has the number of the next call or of its line, and what may follow one for which regd had no memory.
+// TestOrder checks that a reply has the number of the next call or of its line, and what may follow one for which regd
+// had no memory.
 func TestOrder(t *testing.T) {
 	call := func(number int) string {
 		return fmt.Sprintf(`{"call":%d,"place":1,"replies":[],"result":"answered"}`, number)
@@ -431,7 +433,8 @@ func TestOrder(t *testing.T) {
 	}
 }
 
-// TestShiftedReplies lets regd drop, double and swap a reply. The replica ends at the next reply, and no line gets the reply to another one.
+// TestShiftedReplies lets regd drop, double and swap a reply. The replica ends at the next reply, and no line gets the
+// reply to another one.
 func TestShiftedReplies(t *testing.T) {
 	for _, hint := range []string{"DROP", "TWICE", "SWAP"} {
 		for _, isChange := range []bool{false, true} {
@@ -464,8 +467,9 @@ func TestShiftedReplies(t *testing.T) {
 	}
 }
 
-// TestLateQuery lets a query take longer than a reply may. It is refused, and the replica goes on. A query behind it is given back, and others go to
-// another worker, also that again. When no worker is left, a query is refused; and a worker whose reply has come is asked again.
+// TestLateQuery lets a query take longer than a reply may. It is refused, and the replica goes on. A query behind it is
+// given back, and others go to another worker, also that again. When no worker is left, a query is refused; and a
+// worker whose reply has come is asked again.
 func TestLateQuery(t *testing.T) {
 	const hang = time.Second
 	var late atomic.Int64
@@ -513,7 +517,7 @@ func TestEnd(t *testing.T) {
 	if reply := <-got; !strings.Contains(string(reply), `"answered"`) {
 		t.Errorf("got %s", reply)
 	}
-	for _, line := range []string{`{"ops":[{"op":"show","hint":"KILL"}]}`, show} { // of which the first one may be the reason
+	for _, line := range []string{`{"ops":[{"op":"show","hint":"KILL"}]}`, show} { // the first one may be the reason
 		r.Query(1, []byte(line), func(reply []byte) { got <- reply })
 	}
 	for _, want := range []string{string(wire.Refusal(wire.Busy)), ""} {
@@ -530,8 +534,8 @@ func TestEnd(t *testing.T) {
 	}
 }
 
-// TestHang checks that a replica ends if regd owes the reply to a change for too long, and neither if regd is slow nor if nothing is asked. It also ends
-// if a query finds that regd hangs.
+// TestHang checks that a replica ends if regd owes the reply to a change for too long, and neither if regd is slow nor
+// if nothing is asked. It also ends if a query finds that regd hangs.
 func TestHang(t *testing.T) {
 	const hang = 800 * time.Millisecond
 	r, _ := startWith(t, Options{Hang: hang})
@@ -543,7 +547,8 @@ func TestHang(t *testing.T) {
 	if got := apply(t, r, 2, prune); got[0] != committed(11) {
 		t.Fatalf("got %q", got)
 	}
-	r.Apply(3, "e", [][]byte{[]byte(`{"ops":[{"op":"prune","hint":"HANG"}]}`)}, nil, func(int, []byte) { t.Error("answered") })
+	hung := [][]byte{[]byte(`{"ops":[{"op":"prune","hint":"HANG"}]}`)}
+	r.Apply(3, "e", hung, nil, func(int, []byte) { t.Error("answered") })
 	ends(t, r)
 	other, _ := startWith(t, Options{Hang: hang})
 	got := make(chan []byte, 1)

@@ -33,7 +33,8 @@ func (b *board) read() (*replica.Replica, replica.State) {
 	return b.replica, b.state
 }
 
-// look returns whether the replica is ready and has executed an entry and a commit, and what is closed at the next change.
+// look returns whether the replica is ready and has executed an entry and a commit, and what is closed at the next
+// change.
 func (b *board) look(entry, place uint64) (isThere bool, changed chan struct{}) {
 	b.mu.Lock()
 	defer b.mu.Unlock()

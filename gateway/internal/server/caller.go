@@ -49,8 +49,8 @@ func (c *crowd) leave(id string) {
 	}
 }
 
-// A paced connection has a turn while its handshake is computed, but not while it waits for the caller. So those of many
-// callers don't hold up the lines of others.
+// A paced connection has a turn while its handshake is computed, but not while it waits for the caller. So those of
+// many callers don't hold up the lines of others.
 type paced struct {
 	net.Conn
 	turns   chan struct{} // nil after the handshake

@@ -17,8 +17,8 @@ const (
 	mostRSABits    = 8192
 )
 
-// checkChain returns an error unless one of the authorities vouches for a peer's leaf, the first certificate of its chain,
-// with this usage and this name, or with any name if it is "".
+// checkChain returns an error unless one of the authorities vouches for a peer's leaf, the first certificate of its
+// chain, with this usage and this name, or with any name if it is "".
 //
 // It takes the place of the check that crypto/tls makes: that of an older Go panics at a key of an unknown type, and
 // computes for seconds with a huge one.

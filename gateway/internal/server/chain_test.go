@@ -53,7 +53,7 @@ func TestCheckChain(t *testing.T) {
 		{"the longest", []*x509.Certificate{leaf, a.cert, a.cert, a.cert, a.cert}, ""},
 		{"a longer one", []*x509.Certificate{leaf, a.cert, a.cert, a.cert, a.cert, a.cert}, "6 certificates"},
 		{"none", nil, "0 certificates"},
-		{"an unknown key", []*x509.Certificate{leaf, unknown[0]}, "certificate 2 of the chain: a public key of an unknown type"},
+		{"an unknown key", []*x509.Certificate{leaf, unknown[0]}, "certificate 2 of the chain: a public key of"},
 		{"an unknown leaf", []*x509.Certificate{unknown[0]}, "certificate 1 of the chain"},
 		{"another unknown key", []*x509.Certificate{leaf, dsa}, "unknown type (DSA)"},
 		{"a huge key", []*x509.Certificate{leaf, huge[0]}, "8193 bits"},
@@ -76,12 +76,14 @@ func TestCheckChain(t *testing.T) {
 	}
 }
 
-// TestIntermediate checks a leaf whose issuer is in its chain, and that no leaf is accepted by an authority that is only in its chain.
+// TestIntermediate checks a leaf whose issuer is in its chain, and that no leaf is accepted by an authority that is
+// only in its chain.
 func TestIntermediate(t *testing.T) {
 	a := newAuthority(t)
 	between := &authority{t: t, folder: t.TempDir(), serial: 7, long: time.Hour}
-	template := &x509.Certificate{SerialNumber: big.NewInt(6), Subject: pkix.Name{CommonName: "between"}, IsCA: true, BasicConstraintsValid: true,
-		KeyUsage: x509.KeyUsageCertSign, NotBefore: time.Now().Add(-time.Hour), NotAfter: time.Now().Add(time.Hour)}
+	template := &x509.Certificate{SerialNumber: big.NewInt(6), Subject: pkix.Name{CommonName: "between"}, IsCA: true,
+		BasicConstraintsValid: true, KeyUsage: x509.KeyUsageCertSign,
+		NotBefore: time.Now().Add(-time.Hour), NotAfter: time.Now().Add(time.Hour)}
 	between.cert, between.key = a.sign("between", template, a)
 	leaf, pool := between.leaf("agent", n1), x509.NewCertPool()
 	pool.AddCert(a.cert)
@@ -196,8 +198,8 @@ func TestAuthorityKeys(t *testing.T) {
 	}
 }
 
-// TestStrangers sends chains that no honest caller has, and parts of handshakes, to a gateway. It refuses each, and goes on; with an older Go, and
-// without a check before that of crypto/x509, the process ends.
+// TestStrangers sends chains that no honest caller has, and parts of handshakes, to a gateway. It refuses each, and
+// goes on; with an older Go, and without a check before that of crypto/x509, the process ends.
 func TestStrangers(t *testing.T) {
 	s := newSite(t)
 	g, dial := s.secured(n2)
@@ -229,8 +231,8 @@ func TestStrangers(t *testing.T) {
 	}
 }
 
-// TestPanic lets handshakes panic while they have a turn, and sessions that have a turn and a slot: each ends its connection alone, and gives back what
-// it has.
+// TestPanic lets handshakes panic while they have a turn, and sessions that have a turn and a slot: each ends its
+// connection alone, and gives back what it has.
 func TestPanic(t *testing.T) {
 	s := newSite(t)
 	s.callers = &Certificates{} // which have no configuration
@@ -274,7 +276,8 @@ func (b *broken) SetReadDeadline(time.Time) error  { return nil }
 func (b *broken) SetWriteDeadline(time.Time) error { return nil }
 func (b *broken) RemoteAddr() net.Addr             { return &net.TCPAddr{} }
 
-// FuzzChain checks that no chain makes the check of a caller panic, and that none is accepted that its authorities have not signed.
+// FuzzChain checks that no chain makes the check of a caller panic, and that none is accepted that its authorities have
+// not signed.
 func FuzzChain(f *testing.F) {
 	m := chaintest.New(3)
 	for number := 0; number < 10; number++ {
@@ -296,15 +299,16 @@ func FuzzChain(f *testing.F) {
 	})
 }
 
-// FuzzHandshake checks that no first bytes of a caller make a handshake panic, and that none ends one without a certificate.
+// FuzzHandshake checks that no first bytes of a caller make a handshake panic, and that none ends one without a
+// certificate.
 func FuzzHandshake(f *testing.F) {
 	m := chaintest.New(5)
 	for number := 0; number < 10; number++ {
 		f.Add(m.Hello(number))
 	}
 	pair := tls.Certificate{Certificate: [][]byte{m.UnknownKey()}, PrivateKey: m.Key()}
-	config := &tls.Config{Certificates: []tls.Certificate{pair}, ClientAuth: tls.RequireAnyClientCert, MinVersion: tls.VersionTLS13,
-		SessionTicketsDisabled: true}
+	config := &tls.Config{Certificates: []tls.Certificate{pair}, ClientAuth: tls.RequireAnyClientCert,
+		MinVersion: tls.VersionTLS13, SessionTicketsDisabled: true}
 	f.Fuzz(func(t *testing.T, text []byte) {
 		conn := &written{}
 		if err := tls.Server(&said{conn, bytes.NewReader(text)}, config).Handshake(); err == nil {

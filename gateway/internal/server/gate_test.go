@@ -106,8 +106,8 @@ func TestOriginOf(t *testing.T) {
 	}
 }
 
-// TestHandshakePlaces lets strangers take all places for handshakes of their address. A caller waits until the time of one is over, connections of
-// callers are not counted, and one that finds no place to wait is closed.
+// TestHandshakePlaces lets strangers take all places for handshakes of their address. A caller waits until the time of
+// one is over, connections of callers are not counted, and one that finds no place to wait is closed.
 func TestHandshakePlaces(t *testing.T) {
 	t.Parallel()
 	s := newSite(t)

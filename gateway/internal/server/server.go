@@ -47,10 +47,11 @@ type Limits struct {
 
 // UsualLimits are the defaults of the program.
 var UsualLimits = Limits{
-	Answer: 20 * time.Second, After: 2 * time.Second, Handshake: 3 * time.Second, Idle: 15 * time.Minute, Line: 30 * time.Second,
-	Write: 20 * time.Second, Stop: 25 * time.Second, Votes: 5 * time.Second, Members: 10 * time.Second, Status: 10 * time.Second,
-	LineBytes: wire.MaxLine, Lines: 256, Listings: 16, LongLines: 64, Changes: 4096, ReplyBytes: 512 << 20, Connections: 10000, CallerConnections: 100,
-	Handshakes: 256, AddressHandshakes: 128,
+	Answer: 20 * time.Second, After: 2 * time.Second, Handshake: 3 * time.Second, Idle: 15 * time.Minute,
+	Line: 30 * time.Second, Write: 20 * time.Second, Stop: 25 * time.Second,
+	Votes: 5 * time.Second, Members: 10 * time.Second, Status: 10 * time.Second,
+	LineBytes: wire.MaxLine, Lines: 256, Listings: 16, LongLines: 64, Changes: 4096, ReplyBytes: 512 << 20,
+	Connections: 10000, CallerConnections: 100, Handshakes: 256, AddressHandshakes: 128,
 }
 
 // IsValid returns true if all limits are above 0, and lines are not longer than regd accepts them.
@@ -231,7 +232,8 @@ func (g *Gateway) admit(ctx context.Context, s *session) {
 		return
 	}
 	g.ended.Inc("caller")
-	g.callerCrowded.Error("too many connections of a caller", "limit", g.options.Limits.CallerConnections, "caller", s.agent)
+	g.callerCrowded.Error("too many connections of a caller", "limit", g.options.Limits.CallerConnections,
+		"caller", s.agent)
 	s.add(s.request(nil)).answer(wire.Refusal(wire.TooMany))
 	s.writeAnswers(ctx, 0)
 }
@@ -242,8 +244,8 @@ func (g *Gateway) shakeHands(ctx context.Context, conn net.Conn) *tls.Conn {
 	leave := g.gate.enter(ctx, originOf(conn), limits.Answer)
 	if leave == nil {
 		g.ended.Inc("handshakes")
-		g.manyHandshakes.Error("too many handshakes", "limit", limits.Handshakes, "of_address", limits.AddressHandshakes,
-			"address", conn.RemoteAddr())
+		g.manyHandshakes.Error("too many handshakes", "limit", limits.Handshakes,
+			"of_address", limits.AddressHandshakes, "address", conn.RemoteAddr())
 		return nil
 	}
 	defer leave()

@@ -86,8 +86,8 @@ func (s *session) serve(ctx context.Context) {
 	s.writeAnswers(ctx, 0)
 }
 
-// sort returns what regd gets for a line, and whether it goes through the log, or the code with which it is refused. A line that was not kept has a code
-// already.
+// sort returns what regd gets for a line, and whether it goes through the log, or the code with which it is refused. A
+// line that was not kept has a code already.
 func (s *session) sort(line []byte, code string) (sent []byte, isChange bool, refusal string) {
 	switch {
 	case code == wire.Busy && !s.isOperator: // an agent has no need of a long line
@@ -373,7 +373,8 @@ func (s *session) note(q *request, reply []byte) {
 	}
 }
 
-// await returns the answer to a line, or nil. A query is asked again if regd ended before it ran it, and if the reply is too old.
+// await returns the answer to a line, or nil. A query is asked again if regd ended before it ran it, and if the reply
+// is too old.
 func (s *session) await(ctx context.Context, q *request) []byte {
 	if len(q.reply) == 0 && !s.flush() {
 		return nil

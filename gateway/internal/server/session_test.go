@@ -205,8 +205,8 @@ func TestFreshAnswersDoNotWait(t *testing.T) {
 	s.store.Refuse(0)
 }
 
-// TestQueriesOutliveRegd kills regd while it owes replies to queries: the one that it may have been killed by is refused, and the others are asked again
-// when there is another replica.
+// TestQueriesOutliveRegd kills regd while it owes replies to queries: the one that it may have been killed by is
+// refused, and the others are asked again when there is another replica.
 func TestQueriesOutliveRegd(t *testing.T) {
 	t.Parallel()
 	s := newSite(t)
@@ -233,7 +233,8 @@ func TestQueriesOutliveRegd(t *testing.T) {
 	}
 }
 
-// TestFatalQuery sends a query that ends each regd which gets it. It is refused, one replica has ended, and other callers are served.
+// TestFatalQuery sends a query that ends each regd which gets it. It is refused, one replica has ended, and other
+// callers are served.
 func TestFatalQuery(t *testing.T) {
 	t.Parallel()
 	s := newSite(t)
@@ -245,7 +246,8 @@ func TestFatalQuery(t *testing.T) {
 	}
 }
 
-// TestSlowQuery sends a query whose reply is late: it is refused, no replica ends, and other callers are served meanwhile by the other worker.
+// TestSlowQuery sends a query whose reply is late: it is refused, no replica ends, and other callers are served
+// meanwhile by the other worker.
 func TestSlowQuery(t *testing.T) {
 	t.Parallel()
 	s := newSite(t)
@@ -261,13 +263,14 @@ func TestSlowQuery(t *testing.T) {
 		t.Errorf("got %s, %v", got, err)
 	}
 	all := samples(t, g)
-	if all["regd_gateway_replicas_ended_total"] != 0 || all["regd_gateway_late_replies_total"] == 0 {
-		t.Errorf("%v replicas have ended, and %v replies were late", all["regd_gateway_replicas_ended_total"], all["regd_gateway_late_replies_total"])
+	ended, late := all["regd_gateway_replicas_ended_total"], all["regd_gateway_late_replies_total"]
+	if ended != 0 || late == 0 {
+		t.Errorf("%v replicas have ended, and %v replies were late", ended, late)
 	}
 }
 
-// TestListings checks how many operations with large replies a query may have. A line of an agent and one that goes through the log have limits of
-// their own.
+// TestListings checks how many operations with large replies a query may have. A line of an agent and one that goes
+// through the log have limits of their own.
 func TestListings(t *testing.T) {
 	s := newSite(t)
 	s.limits.Listings = 3
@@ -276,7 +279,8 @@ func TestListings(t *testing.T) {
 		line := func(count int) string {
 			return `{"ops":[{"op":"show"}` + strings.Repeat(`,{"op":"`+name+`"}`, count) + `]}`
 		}
-		s.expect(name, s.call(address, line(3), line(4), line(3)), answered(1, 0), refusal(wire.TooManyQueries, 2), answered(2, 0))
+		got := s.call(address, line(3), line(4), line(3))
+		s.expect(name, got, answered(1, 0), refusal(wire.TooManyQueries, 2), answered(2, 0))
 	}
 	s.expect("others", s.call(address, `{"ops":[`+strings.Repeat(show[8:len(show)-2]+",", 63)+show[8:]), answered(1, 0))
 }
@@ -288,8 +292,8 @@ func withoutReplica(g *Gateway) *replica.Replica {
 	return r
 }
 
-// TestWaitsWithoutReplica checks that queries wait for a replica until their time is over, and no longer, that those which wait are answered when there is
-// one, and that none is kept whose caller has left.
+// TestWaitsWithoutReplica checks that queries wait for a replica until their time is over, and no longer, that those
+// which wait are answered when there is one, and that none is kept whose caller has left.
 func TestWaitsWithoutReplica(t *testing.T) {
 	t.Parallel()
 	s := newSite(t)
@@ -311,7 +315,7 @@ func TestWaitsWithoutReplica(t *testing.T) {
 		}
 	}
 	begin := time.Now()
-	within(t, "sessions of callers that have left stay", func() bool { return g.sessions.Load() == int64(len(readers)) })
+	within(t, "callers that have left stay", func() bool { return g.sessions.Load() == int64(len(readers)) })
 	if took := time.Since(begin); took > s.limits.Answer*2/3 || endedFor(t, g, "left") != float64(len(readers)) {
 		t.Errorf("%v have left after %v", endedFor(t, g, "left"), took)
 	}

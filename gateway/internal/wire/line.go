@@ -71,8 +71,8 @@ func MayChange(line []byte) bool {
 // listings has the names of the operations whose replies grow with the book, as they appear in a line without escapes.
 var listings = [][]byte{[]byte(`"page"`), []byte(`"children"`), []byte(`"authorised"`), []byte(`"trust"`)}
 
-// Listings returns the most listings that a reader of JSON can find in a line for which MayChange is false. A name that is the value of another key
-// counts too.
+// Listings returns the most listings that a reader of JSON can find in a line for which MayChange is false. A name that
+// is the value of another key counts too.
 func Listings(line []byte) (count int) {
 	for _, name := range listings {
 		count += bytes.Count(line, name)

@@ -1,10 +1,12 @@
 // Package regdtest has a regd in miniature for unit tests. A test binary calls Main first in TestMain, and names itself as the program.
 //
-// It knows prune, which commits and reports its number, show, after, and token, which it ignores. Some hints in a line make it misbehave: L5, L6,
-// L7, L8 and O8 are replied as codes, KILL ends the process, HANG makes it answer nothing more on this connection, and SLOW makes it take a tenth of a
-// second. With WAIT a line takes a second, and with HALT four seconds, in which the other connections are answered. LARGE makes a reply of 100 kB. With LATE a change is seen by
-// the other connections after two seconds. With DROP there is no reply, with TWICE it comes twice, and with SWAP after that to the next line, as if regd
-// were wrong. For the domain shared.org the connections number their calls together, and for hung.org it never listens.
+// It knows prune, which commits and reports its number, show, after, and token, which it ignores. Some hints in a line
+// make it misbehave: L5, L6, L7, L8 and O8 are replied as codes, KILL ends the process, HANG makes it answer nothing
+// more on this connection, and SLOW makes it take a tenth of a second. With WAIT a line takes a second, and with HALT
+// four seconds, in which the other connections are answered. LARGE makes a reply of 100 kB. With LATE a change is seen
+// by the other connections after two seconds. With DROP there is no reply, with TWICE it comes twice, and with SWAP
+// after that to the next line, as if regd were wrong. For the domain shared.org the connections number their calls
+// together, and for hung.org it never listens.
 package regdtest
 
 import (
@@ -80,7 +82,8 @@ func (b *book) serve(conn net.Conn, isWriter bool) {
 	}
 }
 
-// send sends a reply, and the one that was kept back, unless the line says otherwise. It returns a reply that is to be sent after the next one.
+// send sends a reply, and the one that was kept back, unless the line says otherwise. It returns a reply that is to be
+// sent after the next one.
 func send(conn net.Conn, text []byte, reply, kept string) string {
 	switch {
 	case bytes.Contains(text, []byte("DROP")):

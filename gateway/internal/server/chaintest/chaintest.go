@@ -50,14 +50,20 @@ func (m *Maker) certificate(subject, issuer string, public any, bytes int) []byt
 	if bytes > 0 {
 		made.ExtraExtensions = []pkix.Extension{{Id: []int{1, 2, 3, 4}, Value: make([]byte, bytes)}}
 	}
-	der, err := x509.CreateCertificate(crypto.Reader, made, &x509.Certificate{Subject: pkix.Name{CommonName: issuer}}, public, m.key)
+	signer := &x509.Certificate{Subject: pkix.Name{CommonName: issuer}}
+	der, err := x509.CreateCertificate(crypto.Reader, made, signer, public, m.key)
 	if err != nil {
 		panic(err)
 	}
 	return der
 }
 
-func (m *Maker) usual() []byte { return m.certificate("nobody", "nobody", &m.key.PublicKey, 0) }
+// signed returns a certificate with the usual key.
+func (m *Maker) signed(subject, issuer string, bytes int) []byte {
+	return m.certificate(subject, issuer, &m.key.PublicKey, bytes)
+}
+
+func (m *Maker) usual() []byte { return m.signed("nobody", "nobody", 0) }
 
 // UnknownKey returns a certificate whose public key is of a type that crypto/x509 doesn't know.
 func (m *Maker) UnknownKey() []byte {
@@ -74,10 +80,12 @@ func (m *Maker) HugeKey(bits int) []byte {
 	return m.certificate("nobody", "nobody", &rsa.PublicKey{N: modulus.SetBit(modulus, 0, 1), E: 1<<31 - 1}, 0)
 }
 
-// Write writes cert.pem, key.pem and ca.pem into a folder: a certificate of the operator for 127.0.0.1 that vouches for itself.
+// Write writes cert.pem, key.pem and ca.pem into a folder: a certificate of the operator for 127.0.0.1 that vouches for
+// itself.
 func (m *Maker) Write(folder string) error {
 	id := &url.URL{Scheme: "spiffe", Host: "ex.org", Path: "/operator"}
-	made := &x509.Certificate{SerialNumber: big.NewInt(1), URIs: []*url.URL{id}, IPAddresses: []net.IP{net.IPv4(127, 0, 0, 1)},
+	made := &x509.Certificate{SerialNumber: big.NewInt(1), URIs: []*url.URL{id},
+		IPAddresses: []net.IP{net.IPv4(127, 0, 0, 1)},
 		NotBefore: time.Now().Add(-time.Hour), NotAfter: time.Now().Add(time.Hour)}
 	der, err := x509.CreateCertificate(crypto.Reader, made, made, &m.key.PublicKey, m.key)
 	if err != nil {
@@ -114,10 +122,9 @@ func (m *Maker) Chain(number int) (kind string, chain [][]byte) {
 		}
 		return "a long chain", chain
 	case 5:
-		return "a large chain", [][]byte{m.usual(), m.certificate("nobody", "nobody", &m.key.PublicKey, 17_000+m.random.Intn(30_000))}
+		return "a large chain", [][]byte{m.usual(), m.signed("nobody", "nobody", 17_000+m.random.Intn(30_000))}
 	case 6:
-		return "a circle", [][]byte{m.usual(), m.certificate("a", "b", &m.key.PublicKey, 0), m.certificate("b", "a", &m.key.PublicKey, 0),
-			m.certificate("b", "nobody", &m.key.PublicKey, 0)}
+		return "a circle", [][]byte{m.usual(), m.signed("a", "b", 0), m.signed("b", "a", 0), m.signed("b", "nobody", 0)}
 	case 7:
 		return "damaged bytes", [][]byte{m.usual(), m.Damage(m.usual())}
 	case 8:
