@@ -86,7 +86,7 @@ func (m *Maker) Write(folder string) error {
 	id := &url.URL{Scheme: "spiffe", Host: "ex.org", Path: "/operator"}
 	made := &x509.Certificate{SerialNumber: big.NewInt(1), URIs: []*url.URL{id},
 		IPAddresses: []net.IP{net.IPv4(127, 0, 0, 1)},
-		NotBefore: time.Now().Add(-time.Hour), NotAfter: time.Now().Add(time.Hour)}
+		NotBefore:   time.Now().Add(-time.Hour), NotAfter: time.Now().Add(time.Hour)}
 	der, err := x509.CreateCertificate(crypto.Reader, made, made, &m.key.PublicKey, m.key)
 	if err != nil {
 		return err
