@@ -26,8 +26,10 @@ func TestGate(t *testing.T) {
 		t.Error("an address has all its places, and one more")
 	}
 	third := enter("b")
-	if g.enter(ctx, "c", 10*time.Millisecond) != nil {
-		t.Error("all places are taken, and one more")
+	for _, from := range []string{"b", "c"} {
+		if g.enter(ctx, from, 10*time.Millisecond) != nil {
+			t.Error("all places are taken, and one more")
+		}
 	}
 	waits := make(chan func())
 	go func() { waits <- g.enter(ctx, "a", time.Minute) }()
@@ -52,9 +54,14 @@ func TestGate(t *testing.T) {
 	if <-waits != nil {
 		t.Error("it entered after the end")
 	}
-	for _, leave := range []func(){first, second, third} {
-		leave()
+	first()
+	second()
+	fourth := g.enter(context.Background(), "b", 10*time.Millisecond)
+	if fourth == nil {
+		t.Fatal("b has lost a place")
 	}
+	fourth()
+	third()
 	if g.count() != 0 || len(g.addresses) != 0 || len(g.places) != 0 {
 		t.Errorf("%d connections of %d addresses are left", g.count(), len(g.addresses))
 	}
