@@ -244,15 +244,10 @@ func TestPanic(t *testing.T) {
 		}
 	}
 	within(t, "a turn is taken", func() bool { return len(g.handshakes)+len(g.gate.places) == 0 })
-	g.options.Callers = nil
-	ended := make(chan struct{})
-	go func() {
-		defer close(ended)
-		g.receive(s.ctx, &broken{}, false)
-	}()
-	<-ended
-	if got := endedFor(t, g, "panic"); got != float64(count+1) || g.sessions.Load() != 0 || g.active.Load() != 0 {
-		t.Errorf("%v panics, %d sessions, %d of them active", got, g.sessions.Load(), g.active.Load())
+	plain := New(s.log, Options{Limits: s.limits})
+	plain.receive(s.ctx, &broken{}, false)
+	if got := endedFor(t, plain, "panic"); got != 1 || plain.sessions.Load() != 0 || plain.active.Load() != 0 {
+		t.Errorf("%v panics, %d sessions, %d of them active", got, plain.sessions.Load(), plain.active.Load())
 	}
 }
 

@@ -240,6 +240,7 @@ func TestFatalQuery(t *testing.T) {
 	s := newSite(t)
 	g, address, _ := s.gateway("a")
 	s.expect("a query that ends regd", s.call(address, `{"ops":[{"op":"show","hint":"KILL"}]}`), refusal(wire.Busy, 1))
+	within(t, "the replica stays", func() bool { return samples(t, g)["regd_gateway_replicas_ended_total"] > 0 })
 	s.expect("another one", s.call(address, show), answered(1, 0))
 	if ended := samples(t, g)["regd_gateway_replicas_ended_total"]; ended != 1 {
 		t.Errorf("%v replicas have ended", ended)

@@ -125,7 +125,7 @@ FEATURES = [
     ("invalid files don't count", CERTIFICATES, '\t\t\tc.fails.Error("certificates not loaded", "certificate", c.files.Certificate, "error", err)\n', "\t\t\treturn &tls.Config{}\n", "TestReload"),
     ("a server uses the files of the moment", CERTIFICATES, "\t\tconfig := c.current().Clone()\n\t\tconfig.Verify", "\t\tconfig := c.config.Clone()\n\t\tconfig.Verify", "TestReload"),
     ("a client does", CERTIFICATES, "\tconfig := c.current().Clone()\n\tconfig.Min", "\tconfig := c.config.Clone()\n\tconfig.Min", "TestReload"),
-    ("a client checks its server", CERTIFICATES, "return checkChain(state.PeerCertificates, config.RootCAs, host, x509.ExtKeyUsageServerAuth)", "return nil", "TestDial"),
+    ("a client checks its server", CERTIFICATES, "return checkChain(state.PeerCertificates, config.RootCAs, host, x509.ExtKeyUsageServerAuth)", "_ = host\n\t\treturn nil", "TestDial"),
     ("the expiry is that of the files of the moment", CERTIFICATES, "return c.current().Certificates[0]", "return c.config.Certificates[0]", "TestReloadAuthorities"),
     ("a file without an authority is refused", CHAIN, "if count == 0 {", "if count < 0 {", "TestFiles"),
     ("no folder names no files", CERTIFICATES, 'if folder == "" {', "if false {", "TestFiles"),
