@@ -244,7 +244,8 @@ func TestPanic(t *testing.T) {
 		}
 	}
 	within(t, "a turn is taken", func() bool { return len(g.handshakes)+len(g.gate.places) == 0 })
-	plain := New(s.log, Options{Limits: s.limits})
+	s.callers = nil
+	plain, _, _ := s.gateway("b")
 	plain.receive(s.ctx, &broken{}, false)
 	if got := endedFor(t, plain, "panic"); got != 1 || plain.sessions.Load() != 0 || plain.active.Load() != 0 {
 		t.Errorf("%v panics, %d sessions, %d of them active", got, plain.sessions.Load(), plain.active.Load())
