@@ -101,11 +101,16 @@ func addLimits(flags *flag.FlagSet, l *server.Limits) {
 	flags.DurationVar(&l.Stop, "limit-stop", l.Stop, "the time for lines that are under way after SIGTERM")
 	flags.IntVar(&l.LineBytes, "limit-line-bytes", l.LineBytes, "bytes of a line")
 	flags.IntVar(&l.Lines, "limit-lines", l.Lines, "lines of a connection that are under way")
+	flags.IntVar(&l.Listings, "limit-listings", l.Listings,
+		"operations page, children, authorised and trust in a query")
 	flags.IntVar(&l.LongLines, "limit-long-lines", l.LongLines, "lines of over 8 KiB, of all connections, that are under way")
 	flags.IntVar(&l.Changes, "limit-changes", l.Changes, "changes that wait to be appended")
 	flags.Int64Var(&l.ReplyBytes, "limit-reply-bytes", l.ReplyBytes, "bytes of all replies that are not yet sent")
 	flags.IntVar(&l.Connections, "limit-connections", l.Connections, "connections")
 	flags.IntVar(&l.CallerConnections, "limit-caller-connections", l.CallerConnections, "connections of one caller with a certificate")
+	flags.IntVar(&l.Handshakes, "limit-handshakes", l.Handshakes, "TLS handshakes that are under way")
+	flags.IntVar(&l.AddressHandshakes, "limit-address-handshakes", l.AddressHandshakes,
+		"TLS handshakes of one address that are under way")
 }
 
 // isLoopback returns true if no other machine can connect to the address.

@@ -98,10 +98,13 @@ func TestLimits(t *testing.T) {
 		"-limit-stop=3s":              func(l *server.Limits) { l.Stop = 3 * time.Second },
 		"-limit-line-bytes=7":         func(l *server.Limits) { l.LineBytes = 7 },
 		"-limit-lines=7":              func(l *server.Limits) { l.Lines = 7 },
+		"-limit-listings=7":           func(l *server.Limits) { l.Listings = 7 },
 		"-limit-long-lines=7":         func(l *server.Limits) { l.LongLines = 7 },
 		"-limit-changes=7":            func(l *server.Limits) { l.Changes = 7 },
 		"-limit-reply-bytes=7":        func(l *server.Limits) { l.ReplyBytes = 7 },
 		"-limit-connections=7":        func(l *server.Limits) { l.Connections = 7 },
+		"-limit-handshakes=7":         func(l *server.Limits) { l.Handshakes = 7 },
+		"-limit-address-handshakes=7": func(l *server.Limits) { l.AddressHandshakes = 7 },
 		"-limit-caller-connections=7": func(l *server.Limits) { l.CallerConnections = 7 },
 	} {
 		want := server.UsualLimits
@@ -509,6 +512,103 @@ func TestStartWithoutEtcd(t *testing.T) {
 			t.Errorf("%s: %d times in %s", event, count, logged.String())
 		}
 	}
+}
+
+// awayRegd returns a program that is a regd in miniature until the file that is named after it exists, and from then on
+// never listens.
+func (s site) awayRegd() (program, away string) {
+	program = filepath.Join(s.t.TempDir(), "regd")
+	away = program + ".away"
+	text := fmt.Sprintf("#!/bin/sh\n[ -e %s ] && exec sleep 30\nexec %s \"$@\"\n", away, os.Args[0])
+	if err := os.WriteFile(program, []byte(text), 0o700); err != nil {
+		s.t.Fatal(err)
+	}
+	return program, away
+}
+
+// processorTime returns how long a process has had a processor.
+func (s site) processorTime(process int) time.Duration {
+	text, err := os.ReadFile(fmt.Sprintf("/proc/%d/stat", process))
+	if err != nil {
+		s.t.Fatal(err)
+	}
+	fields := strings.Fields(string(text[bytes.LastIndexByte(text, ')'):])) // the first one is the third of the file
+	var user, kernel int64
+	fmt.Sscan(fields[11], &user)
+	fmt.Sscan(fields[12], &kernel)
+	return time.Duration(user+kernel) * time.Second / 100
+}
+
+// sessions returns how many connections the status shows, and whether the gateway is ready.
+func (s site) sessions(state string) (count int, isReady bool) {
+	var values struct {
+		Sessions int
+		Ready    bool
+	}
+	if err := json.Unmarshal([]byte(s.get("http://"+state+"/status")), &values); err != nil {
+		s.t.Fatal(err)
+	}
+	return values.Sessions, values.Ready
+}
+
+// waits waits until a condition holds.
+func (s site) waits(what string, condition func() bool) {
+	s.t.Helper()
+	for begin := time.Now(); !condition(); time.Sleep(10 * time.Millisecond) {
+		if time.Since(begin) > 20*time.Second {
+			s.t.Fatal(what)
+		}
+	}
+}
+
+// TestWaitingCallers lets 2,000 callers wait for a gateway without a replica: they cost less than a tenth of a
+// processor until their time is over. The connections of those that reset them are not kept.
+func TestWaitingCallers(t *testing.T) {
+	const callers, limit = 2000, 10 * time.Second
+	s := newSite(t)
+	program, away := s.awayRegd()
+	state := s.freeAddress()
+	gateway, address := s.start("-regd", program, "-status", state, "-limit-answer", limit.String())
+	if err := os.WriteFile(away, nil, 0o600); err != nil {
+		t.Fatal(err)
+	}
+	var values struct{ Regd int }
+	json.Unmarshal([]byte(s.get("http://"+state+"/status")), &values)
+	syscall.Kill(values.Regd, syscall.SIGKILL)
+	s.waits("the replica stays", func() bool { _, isReady := s.sessions(state); return !isReady })
+	connect := func(count int) (all []net.Conn) {
+		for i := 0; i < count; i++ {
+			conn, err := net.Dial("tcp", address)
+			if err != nil {
+				t.Fatal(err)
+			}
+			t.Cleanup(func() { conn.Close() })
+			fmt.Fprintln(conn, show)
+			all = append(all, conn)
+		}
+		return all
+	}
+	stays := connect(callers)
+	s.waits("callers are missing", func() bool { count, _ := s.sessions(state); return count == callers })
+	left := connect(50)
+	s.waits("callers are missing", func() bool { count, _ := s.sessions(state); return count == callers+len(left) })
+	begin, before := time.Now(), s.processorTime(gateway.Process.Pid)
+	for _, conn := range left {
+		conn.(*net.TCPConn).SetLinger(0)
+		conn.Close()
+	}
+	s.waits("callers that have left stay", func() bool { count, _ := s.sessions(state); return count <= callers })
+	stays[0].SetDeadline(time.Now().Add(3 * limit))
+	if count, err := stays[0].Read(make([]byte, 1)); err != io.EOF {
+		t.Errorf("got %d bytes, %v", count, err)
+	}
+	took, cost := time.Since(begin), s.processorTime(gateway.Process.Pid)-before
+	if took < time.Second || cost > took/10 { // a slow machine needs some of the time to connect
+		t.Errorf("%d callers cost %v in %v", callers, cost, took)
+	}
+	t.Logf("%d callers cost %v in %v", callers, cost, took)
+	gateway.Process.Signal(syscall.SIGTERM) // which also ends what it has started
+	s.expect("the status after a signal", fmt.Sprint(s.status(gateway)), "0")
 }
 
 // TestExits checks the exit statuses of a gateway that can't begin, and of one that is outvoted.

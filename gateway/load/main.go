@@ -70,6 +70,7 @@ type seen struct {
 	resent        int       // lines
 	repeated      int       // answers
 	refused       int       // changes
+	busy          int       // queries that were refused
 	back          int       // places that went back on a connection
 	longest       float64
 }
@@ -363,6 +364,10 @@ func (c *caller) take(line string, reply []byte, isRead bool, copies int, from, 
 		Result string
 	}
 	json.Unmarshal(reply, &answer)
+	if isRead && answer.Result != "answered" { // a busy gateway: it is no answer from a book
+		c.seen.busy++
+		return
+	}
 	isRepeated := answer.Result == "repeated"
 	if !isRepeated && answer.Place < c.place {
 		c.seen.back++
@@ -393,6 +398,7 @@ func report(all []seen, took float64) {
 	for _, s := range all {
 		t.reads, t.writes = append(t.reads, s.reads...), append(t.writes, s.writes...)
 		t.lost, t.resent, t.repeated, t.refused, t.back = t.lost+s.lost, t.resent+s.resent, t.repeated+s.repeated, t.refused+s.refused, t.back+s.back
+		t.busy += s.busy
 		if t.unconnected += s.unconnected; s.reason != "" {
 			t.reason = s.reason
 		}
@@ -401,6 +407,7 @@ func report(all []seen, took float64) {
 		}
 	}
 	out := map[string]any{"seconds": took, "unconnected": t.unconnected, "reason": t.reason, "lost": t.lost, "resent": t.resent, "repeated": t.repeated, "refused": t.refused, "back": t.back, "longest_s": t.longest}
+	out["busy"] = t.busy
 	for name, times := range map[string][]float64{"reads": t.reads, "changes": t.writes} {
 		out[name], out[name+"_per_s"] = len(times), float64(len(times))/took
 		if sort.Float64s(times); len(times) > 0 {

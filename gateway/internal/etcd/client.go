@@ -111,9 +111,12 @@ func (l *Log) answers(path string) {
 
 // Pause waits for some time, or until the context ends.
 func Pause(ctx context.Context, long time.Duration) {
-	late, cancel := context.WithTimeout(ctx, long)
-	defer cancel()
-	<-late.Done()
+	late := time.NewTimer(long) // a context would make all that pause wait for one lock
+	defer late.Stop()
+	select {
+	case <-late.C:
+	case <-ctx.Done():
+	}
 }
 
 func (l *Log) find(ctx context.Context, size int, request object) ([]pair, error) {

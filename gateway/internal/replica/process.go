@@ -19,11 +19,14 @@ import (
 type Options struct {
 	Program string
 	Domain  string
-	Workers int           // one executes the changes, the others answer queries
-	Hang    time.Duration // for regd to listen, and for the next reply that it owes, after which the replica ends; 0 for 10 seconds
-	Tokens  int           // how many are retained, by all gateways; 0 for 65,536
+	Workers int // one executes the changes, the others answer queries
+	// for regd to listen and for the next reply that it owes, after which the replica ends or the query is refused; 0
+	// for 10 seconds
+	Hang   time.Duration
+	Tokens int // how many are retained, by all gateways; 0 for 65,536
 	// the most bytes of the reply to a query; 0 for any number
 	ReplyBytes int
+	OnLate     func() // called when a reply to a query is late, and each time Hang later; nil for no call
 }
 
 // firstLine makes regd's first reply on a connection, which shows that the connection is alone on its worker.
@@ -76,10 +79,14 @@ func (r *Replica) connect(out io.Reader) error {
 		if err != nil {
 			return err
 		}
-		r.links = append(r.links, &link{conn: conn, hang: r.options.Hang, most: 1 << 62})
-		if i > 0 && r.options.ReplyBytes > 0 { // what a change has brought about can't be refused
-			r.links[i].most = r.options.ReplyBytes
+		l := &link{conn: conn, hang: r.options.Hang, most: 1 << 62}
+		if i > 0 { // what a change has brought about can't be refused
+			l.onLate = r.probe
+			if r.options.ReplyBytes > 0 {
+				l.most = r.options.ReplyBytes
+			}
 		}
+		r.links = append(r.links, l)
 	}
 	r.reading.Add(len(r.links))
 	for i, l := range r.links {

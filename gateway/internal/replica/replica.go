@@ -2,7 +2,8 @@
 //
 // The book is a function of the log alone: the same lines go over the same connection in the same order, and nothing in them is drawn by
 // regd. Running out of memory is the one thing that does not depend on the lines, so a regd that reports it has left the other replicas. Such
-// a replica ends, and another one is made from the log. So does a replica whose regd owes a reply for too long.
+// a replica ends, and another one is made from the log. So does a replica whose regd owes the
+// reply to a change for too long, or gives a reply that doesn't belong to its line.
 package replica
 
 import (
@@ -76,10 +77,30 @@ func (r *Replica) Tokens() []*Kept {
 	return append([]*Kept{}, r.retained...)
 }
 
-// Query sends a line to one of the workers for queries; equal numbers give the same worker. It calls done with the reply, or with nil if
-// regd ended first; done must not wait.
+// Query sends a line to one of the workers for queries; equal numbers give the same worker unless that owes a late
+// reply. It calls done with the reply, or with nil if the query may be asked again because regd ended; done must not
+// wait. The query is refused with G5 if regd ended while it answered this one, if the reply is late, or if all workers
+// owe late replies.
 func (r *Replica) Query(number int, line []byte, done func(reply []byte)) {
-	r.links[1+number%(len(r.links)-1)].submit(line, done)
+	workers := r.links[1:]
+	for i := range workers {
+		l := workers[(number+i)%len(workers)]
+		if !l.isLate() {
+			l.submit(line, done)
+			return
+		}
+	}
+	done(wire.Refusal(wire.Busy))
+}
+
+// probe notes that a worker owes a late reply to a query, and asks the worker for changes for one. If regd hangs, that
+// is late too, and the replica ends.
+func (r *Replica) probe() {
+	logline.Error("a reply to a query is late", "limit", r.options.Hang)
+	if r.options.OnLate != nil {
+		r.options.OnLate()
+	}
+	r.links[0].submit([]byte(firstLine), func([]byte) {})
 }
 
 // Ask sends a query to regd and waits for the reply. It returns nil if regd has ended.
@@ -182,8 +203,7 @@ func (r *Replica) again(kept *Kept, tokened wire.Tokened) []byte {
 func (r *Replica) isLost(reply []byte) bool {
 	r.mu.Lock()
 	defer r.mu.Unlock()
-	switch wire.Code(reply) {
-	case "L6", "L7", "L8": // the codes that do not depend on the lines alone
+	if wire.IsShortage(wire.Code(reply)) {
 		if !r.hasLeft {
 			logline.Error("regd left the log", "reply", string(reply), "entry", r.state.Entry+1)
 			go r.Close()

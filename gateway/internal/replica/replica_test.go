@@ -7,6 +7,7 @@ import (
 	"os"
 	"strings"
 	"sync"
+	"sync/atomic"
 	"syscall"
 	"testing"
 	"time"
@@ -43,7 +44,7 @@ func startWith(t *testing.T, options Options) (*Replica, func() []State) {
 	}
 }
 
-const prune = `{"ops":[{"op":"prune","before":0}]}`
+const prune, show = `{"ops":[{"op":"prune","before":0}]}`, `{"ops":[{"op":"show"}]}`
 
 func tokened(number int, before int) string {
 	return fmt.Sprintf(`{"ops":[{"op":"prune","before":%d}],"token":"00000000-0000-0000-0000-%012d"}`, before, number)
@@ -63,6 +64,10 @@ func apply(t *testing.T, r *Replica, entry uint64, lines ...string) []string {
 
 func committed(place int) string {
 	return fmt.Sprintf(`"place":%d,"replies":[{"pruned":["%d"]}],"result":"committed"}`, place, place)
+}
+
+func answered(call int) string {
+	return fmt.Sprintf(`{"call":%d,"place":0,"replies":[],"result":"answered"}`, call)
 }
 
 func repeated(place int) string {
@@ -358,11 +363,14 @@ func TestReplyBound(t *testing.T) {
 // TestReplyCutOff checks that a reply without its end is none, and that what waited for one can be freed.
 func TestReplyCutOff(t *testing.T) {
 	inner, outer := net.Pipe()
-	go func() { outer.Write([]byte("{}\n{")); outer.Close() }()
+	first := string(wire.Refused("W1", 0))
+	first = strings.Replace(first, "0", "1", 1)
+	go func() { outer.Write([]byte(first + "\n{")); outer.Close() }()
 	var got []string
 	note := func(reply []byte) { got = append(got, string(reply)) }
 	waiting := []func([]byte){note, note}
-	if err := (&link{conn: inner, hang: time.Minute, most: 100, waiting: waiting}).read(); err == nil || len(got) != 2 || got[0] != "{}" || got[1] != "" {
+	err := (&link{conn: inner, hang: time.Minute, most: 100, waiting: waiting}).read()
+	if err == nil || len(got) != 2 || got[0] != first || got[1] != "" {
 		t.Errorf("got %q, %v", got, err)
 	}
 	if waiting[0] != nil {
@@ -373,9 +381,132 @@ func TestReplyCutOff(t *testing.T) {
 // TestReplyToNothing checks that a reply to no line ends a connection.
 func TestReplyToNothing(t *testing.T) {
 	inner, outer := net.Pipe()
-	go outer.Write([]byte("{}\n"))
-	if err := (&link{conn: inner}).read(); err != net.ErrClosed {
+	go outer.Write([]byte(`{"code":"L2","line":1}` + "\n"))
+	if err := (&link{conn: inner, most: 100}).read(); err != net.ErrClosed {
 		t.Errorf("got %v", err)
+	}
+}
+
+// TestOrder checks that a reply has the number of the next call or of its line, and what may follow one for which regd
+// had no memory.
+func TestOrder(t *testing.T) {
+	call := func(number int) string {
+		return fmt.Sprintf(`{"call":%d,"place":1,"replies":[],"result":"answered"}`, number)
+	}
+	line := func(code string, number int) string { return fmt.Sprintf(`{"code":"%s","line":%d}`, code, number) }
+	for _, c := range []struct {
+		name    string
+		replies []string // "" for one that was too long to be kept
+		isWrong bool     // the last one
+	}{
+		{"calls", []string{call(1), call(2), call(3)}, false},
+		{"a refused line", []string{call(1), line("L2", 2), call(2), line("U1", 4)}, false},
+		{"a missing call", []string{call(1), call(3)}, true},
+		{"a call that comes again", []string{call(1), call(2), call(2)}, true},
+		{"the first call", []string{call(2)}, true},
+		{"an earlier line", []string{call(1), line("L2", 1)}, true},
+		{"a later line", []string{call(1), line("L2", 3)}, true},
+		{"no number", []string{"{}"}, true},
+		{"no JSON", []string{"x"}, true},
+		{"a long reply", []string{call(1), "", call(3), line("L2", 4)}, false},
+		{"a long reply that counts", []string{call(1), "", call(2)}, true},
+		{"a line without memory that took no call", []string{call(1), line("L6", 2), call(2), call(3)}, false},
+		{"one that took a call", []string{call(1), line("L6", 2), call(3), call(4)}, false},
+		{"one that took two", []string{call(1), line("L6", 2), call(4)}, true},
+		{"three of them", []string{line("L6", 1), line("L7", 2), line("L8", 3), call(4), call(5)}, false},
+		{"after one of them nothing is unsure", []string{line("L6", 1), call(1), call(3)}, true},
+		{"no call is taken again after one", []string{call(1), line("L6", 2), call(1)}, true},
+		{"a refused line takes no call", []string{line("L5", 1), call(2)}, true},
+	} {
+		var o order
+		for i, reply := range c.replies {
+			var err error
+			if reply == "" {
+				o.skip()
+			} else {
+				err = o.check([]byte(reply))
+			}
+			if (err != nil) != (c.isWrong && i == len(c.replies)-1) {
+				t.Errorf("%s: reply %d: got %v", c.name, i+1, err)
+			}
+		}
+	}
+}
+
+// TestShiftedReplies lets regd drop, double and swap a reply. The replica ends at the next reply, and no line gets the
+// reply to another one.
+func TestShiftedReplies(t *testing.T) {
+	for _, hint := range []string{"DROP", "TWICE", "SWAP"} {
+		for _, isChange := range []bool{false, true} {
+			r, _ := start(t)
+			wrong := `{"ops":[{"op":"show","hint":"` + hint + `"}]}`
+			lines := []string{wrong, show, show}
+			got := make(chan string, len(lines))
+			if isChange {
+				var all [][]byte
+				for _, line := range lines {
+					all = append(all, []byte(line))
+				}
+				r.Apply(1, "e", all, nil, func(_ int, reply []byte) { got <- string(reply) })
+			} else {
+				for _, line := range lines {
+					r.Query(0, []byte(line), func(reply []byte) { got <- string(reply) })
+				}
+			}
+			ends(t, r)
+			r.Close() // waits for the last reply
+			close(got)
+			call := 2 // the first one was that of the start
+			for reply := range got {
+				if strings.Contains(reply, `"call":`) && (hint == "DROP" || reply != answered(call)) {
+					t.Errorf("%s: got %s", hint, reply)
+				}
+				call++
+			}
+		}
+	}
+}
+
+// TestLateQuery lets a query take longer than a reply may. It is refused, and the replica goes on. A query behind it is
+// given back, and others go to another worker, also that again. When no worker is left, a query is refused; and a
+// worker whose reply has come is asked again.
+func TestLateQuery(t *testing.T) {
+	const hang = time.Second
+	var late atomic.Int64
+	r, _ := startWith(t, Options{Hang: hang, OnLate: func() { late.Add(1) }})
+	slow := []byte(`{"ops":[{"op":"show","hint":"HALT"}]}`)
+	ask := func(number int, line string) chan string {
+		got := make(chan string, 1)
+		r.Query(number, []byte(line), func(reply []byte) { got <- string(reply) })
+		return got
+	}
+	front, behind := ask(0, string(slow)), ask(0, show)
+	if got := <-front; got != string(wire.Refusal(wire.Busy)) {
+		t.Errorf("the late query: got %s", got)
+	}
+	if got := <-behind; got != "" {
+		t.Errorf("the one behind it: got %s", got)
+	}
+	if got := <-ask(0, show); got != answered(2) { // by the other worker
+		t.Errorf("another one: got %s", got)
+	}
+	if got := <-ask(1, string(slow)); got != string(wire.Refusal(wire.Busy)) {
+		t.Errorf("another late query: got %s", got)
+	}
+	for number := 0; number < 2; number++ {
+		if got := <-ask(number, show); got != string(wire.Refusal(wire.Busy)) {
+			t.Errorf("while no worker is left: got %s", got)
+		}
+	}
+	if got := apply(t, r, 1, prune); got[0] != committed(1) {
+		t.Errorf("a change: got %q", got)
+	}
+	waits(t, "late replies do not come", func() bool { return !r.links[1].isLate() && !r.links[2].isLate() })
+	if got := <-ask(0, show); !strings.HasPrefix(got, `{"call":4,`) { // after the late one and that behind it
+		t.Errorf("afterwards: got %s", got)
+	}
+	if r.Context().Err() != nil || late.Load() < 2 {
+		t.Errorf("%v, %d late replies", r.Context().Err(), late.Load())
 	}
 }
 
@@ -386,9 +517,13 @@ func TestEnd(t *testing.T) {
 	if reply := <-got; !strings.Contains(string(reply), `"answered"`) {
 		t.Errorf("got %s", reply)
 	}
-	r.Query(1, []byte(`{"ops":[{"op":"show","hint":"KILL"}]}`), func(reply []byte) { got <- reply })
-	if reply := <-got; reply != nil {
-		t.Errorf("got %s", reply)
+	for _, line := range []string{`{"ops":[{"op":"show","hint":"KILL"}]}`, show} { // the first one may be the reason
+		r.Query(1, []byte(line), func(reply []byte) { got <- reply })
+	}
+	for _, want := range []string{string(wire.Refusal(wire.Busy)), ""} {
+		if reply := <-got; string(reply) != want {
+			t.Errorf("got %s, want %s", reply, want)
+		}
 	}
 	<-r.Context().Done()
 	r.Close() // waits until all connections are closed
@@ -399,7 +534,8 @@ func TestEnd(t *testing.T) {
 	}
 }
 
-// TestHang checks that a replica ends if regd owes a reply for too long, and neither if regd is slow nor if nothing is asked.
+// TestHang checks that a replica ends if regd owes the reply to a change for too long, and neither if regd is slow nor
+// if nothing is asked. It also ends if a query finds that regd hangs.
 func TestHang(t *testing.T) {
 	const hang = 800 * time.Millisecond
 	r, _ := startWith(t, Options{Hang: hang})
@@ -411,17 +547,21 @@ func TestHang(t *testing.T) {
 	if got := apply(t, r, 2, prune); got[0] != committed(11) {
 		t.Fatalf("got %q", got)
 	}
+	hung := [][]byte{[]byte(`{"ops":[{"op":"prune","hint":"HANG"}]}`)}
+	r.Apply(3, "e", hung, nil, func(int, []byte) { t.Error("answered") })
+	ends(t, r)
+	other, _ := startWith(t, Options{Hang: hang})
 	got := make(chan []byte, 1)
-	r.Query(0, []byte(`{"ops":[{"op":"show","hint":"HANG"}]}`), func(reply []byte) { got <- reply })
-	select {
-	case reply := <-got:
-		if reply != nil {
-			t.Errorf("got %s", reply)
-		}
-		ends(t, r)
-	case <-time.After(10 * time.Second):
-		t.Error("the replica goes on")
+	syscall.Kill(other.Pid(), syscall.SIGSTOP)
+	waits(t, "regd doesn't stop", func() bool {
+		state, _ := os.ReadFile(fmt.Sprintf("/proc/%d/stat", other.Pid()))
+		return strings.Contains(string(state), ") T ")
+	})
+	other.Query(0, []byte(show), func(reply []byte) { got <- reply })
+	if reply := <-got; string(reply) != string(wire.Refusal(wire.Busy)) {
+		t.Errorf("got %s", reply)
 	}
+	ends(t, other)
 }
 
 // TestHungStart checks that a regd that never listens is ended.

@@ -33,12 +33,18 @@ func (b *board) read() (*replica.Replica, replica.State) {
 	return b.replica, b.state
 }
 
+// look returns whether the replica is ready and has executed an entry and a commit, and what is closed at the next
+// change.
+func (b *board) look(entry, place uint64) (isThere bool, changed chan struct{}) {
+	b.mu.Lock()
+	defer b.mu.Unlock()
+	return b.replica != nil && b.state.Entry >= entry && b.state.Place >= place, b.changed
+}
+
 // wait waits until the replica is ready and has executed an entry and a commit. It returns false if the context ends first.
 func (b *board) wait(ctx context.Context, entry, place uint64) bool {
 	for {
-		b.mu.Lock()
-		isThere, changed := b.replica != nil && b.state.Entry >= entry && b.state.Place >= place, b.changed
-		b.mu.Unlock()
+		isThere, changed := b.look(entry, place)
 		if isThere {
 			return true
 		}

@@ -1,10 +1,12 @@
 package server
 
 import (
+	"context"
 	"crypto/tls"
 	"crypto/x509"
 	"io"
 	"net"
+	"os"
 	"strings"
 	"sync"
 	"syscall"
@@ -47,21 +49,27 @@ func (c *crowd) leave(id string) {
 	}
 }
 
-// A paced connection has a turn while its handshake is computed, but not while it waits for the caller. So those of many callers don't hold up the
-// lines of others.
+// A paced connection has a turn while its handshake is computed, but not while it waits for the caller. So those of
+// many callers don't hold up the lines of others.
 type paced struct {
 	net.Conn
 	turns   chan struct{} // nil after the handshake
+	end     time.Time     // of the time for the handshake
 	hasTurn bool
 }
 
 func (p *paced) Read(to []byte) (int, error) {
 	p.free()
 	count, err := p.Conn.Read(to)
-	if p.turns != nil {
-		p.turns <- struct{}{}
-		p.hasTurn = true
+	if p.turns == nil {
+		return count, err
 	}
+	late := time.NewTimer(time.Until(p.end))
+	defer late.Stop()
+	if !takePlace(context.Background(), p.turns, late) {
+		return 0, os.ErrDeadlineExceeded
+	}
+	p.hasTurn = true
 	return count, err
 }
 

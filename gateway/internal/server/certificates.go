@@ -25,7 +25,7 @@ func FilesIn(folder string) Files {
 	return Files{filepath.Join(folder, "cert.pem"), filepath.Join(folder, "key.pem"), filepath.Join(folder, "ca.pem")}
 }
 
-// load reads the files. A peer has to show a certificate of the authorities at each handshake, and to speak TLS 1.3.
+// load reads the files. A caller has to show a certificate at each handshake, and to speak TLS 1.3.
 func (f Files) load() (*tls.Config, error) {
 	pair, err := tls.LoadX509KeyPair(f.Certificate, f.Key)
 	if err != nil {
@@ -38,12 +38,12 @@ func (f Files) load() (*tls.Config, error) {
 	if err != nil {
 		return nil, err
 	}
-	pool := x509.NewCertPool()
-	if !pool.AppendCertsFromPEM(text) {
-		return nil, fmt.Errorf("%s has no certificate", f.Authorities)
+	pool, err := poolOf(text)
+	if err != nil {
+		return nil, fmt.Errorf("%s: %w", f.Authorities, err)
 	}
 	return &tls.Config{Certificates: []tls.Certificate{pair}, ClientCAs: pool, RootCAs: pool, SessionTicketsDisabled: true,
-		ClientAuth: tls.RequireAndVerifyClientCert, MinVersion: tls.VersionTLS13}, nil
+		ClientAuth: tls.RequireAnyClientCert, MinVersion: tls.VersionTLS13}, nil
 }
 
 // stamp changes when one of the files does.
@@ -92,15 +92,29 @@ func (c *Certificates) current() *tls.Config {
 	return c.config
 }
 
-// Server returns a configuration for a server.
+// Server returns a configuration for a server. A caller has to show a certificate of the authorities.
 func (c *Certificates) Server() *tls.Config {
-	return &tls.Config{GetConfigForClient: func(*tls.ClientHelloInfo) (*tls.Config, error) { return c.current(), nil }}
+	return &tls.Config{GetConfigForClient: func(*tls.ClientHelloInfo) (*tls.Config, error) {
+		config := c.current().Clone()
+		config.VerifyConnection = func(state tls.ConnectionState) error {
+			return checkChain(state.PeerCertificates, config.ClientCAs, "", x509.ExtKeyUsageClientAuth)
+		}
+		return config, nil
+	}}
 }
 
 // Dial opens a connection as a client, which also accepts TLS 1.2.
 func (c *Certificates) Dial(ctx context.Context, network, address string) (net.Conn, error) {
+	host, _, err := net.SplitHostPort(address)
+	if err != nil {
+		return nil, err
+	}
 	config := c.current().Clone()
 	config.MinVersion = tls.VersionTLS12
+	config.InsecureSkipVerify = true // VerifyConnection makes the check
+	config.VerifyConnection = func(state tls.ConnectionState) error {
+		return checkChain(state.PeerCertificates, config.RootCAs, host, x509.ExtKeyUsageServerAuth)
+	}
 	return (&tls.Dialer{Config: config}).DialContext(ctx, network, address)
 }
 

@@ -39,6 +39,10 @@ func newAuthorityIn(t *testing.T, folder string) *authority {
 	return a
 }
 
+func pemOf(der []byte) []byte {
+	return pem.EncodeToMemory(&pem.Block{Type: "CERTIFICATE", Bytes: der})
+}
+
 func (a *authority) sign(name string, template *x509.Certificate, of *authority) (*x509.Certificate, *ecdsa.PrivateKey) {
 	key, err := ecdsa.GenerateKey(elliptic.P256(), rand.Reader)
 	if err != nil {

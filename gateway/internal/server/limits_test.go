@@ -90,6 +90,7 @@ func (s *site) secured(operators ...string) (*Gateway, func(uris ...string) (net
 	a.leaf("server")
 	s.callers, s.operators = a.load("server"), operators
 	g, address, _ := s.gateway("secured")
+	s.address = address
 	return g, func(uris ...string) (net.Conn, *bufio.Reader) {
 		a.leaf("caller", uris...)
 		conn, err := a.load("caller").Dial(s.ctx, "tcp", address)
@@ -152,7 +153,7 @@ func TestHandshakeTurns(t *testing.T) {
 			<-again
 		}
 	}()
-	within(t, "no connection", func() bool { return g.sessions.Load() == 1 })
+	within(t, "no connection", func() bool { return len(g.gate.places) == 1 })
 	select {
 	case err := <-served:
 		t.Errorf("without a turn: %v", err)

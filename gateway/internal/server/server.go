@@ -9,6 +9,7 @@ import (
 	"net"
 	"reflect"
 	"runtime"
+	"runtime/debug"
 	"sync"
 	"sync/atomic"
 	"time"
@@ -34,18 +35,23 @@ type Limits struct {
 
 	LineBytes         int   // of a line, without its line feed
 	Lines             int   // of a connection that are under way
+	Listings          int   // in a query: operations whose replies grow with the book
 	LongLines         int   // of over 8 KiB, of all connections
 	Changes           int   // that wait to be appended
 	ReplyBytes        int64 // of replies that are not yet sent
 	Connections       int
 	CallerConnections int // of one caller with a certificate
+	Handshakes        int // under way
+	AddressHandshakes int // of one address
 }
 
 // UsualLimits are the defaults of the program.
 var UsualLimits = Limits{
-	Answer: 20 * time.Second, After: 2 * time.Second, Handshake: 10 * time.Second, Idle: 15 * time.Minute, Line: 30 * time.Second,
-	Write: 20 * time.Second, Stop: 25 * time.Second, Votes: 5 * time.Second, Members: 10 * time.Second, Status: 10 * time.Second,
-	LineBytes: wire.MaxLine, Lines: 256, LongLines: 64, Changes: 4096, ReplyBytes: 512 << 20, Connections: 10000, CallerConnections: 100,
+	Answer: 20 * time.Second, After: 2 * time.Second, Handshake: 3 * time.Second, Idle: 15 * time.Minute,
+	Line: 30 * time.Second, Write: 20 * time.Second, Stop: 25 * time.Second,
+	Votes: 5 * time.Second, Members: 10 * time.Second, Status: 10 * time.Second,
+	LineBytes: wire.MaxLine, Lines: 256, Listings: 16, LongLines: 64, Changes: 4096, ReplyBytes: 512 << 20,
+	Connections: 10000, CallerConnections: 100, Handshakes: 256, AddressHandshakes: 128,
 }
 
 // IsValid returns true if all limits are above 0, and lines are not longer than regd accepts them.
@@ -81,6 +87,7 @@ type Gateway struct {
 	long       chan struct{}   // one for each long line that is under way
 	turns      []chan struct{} // for each worker of regd, of callers that send many queries together
 	flooding   atomic.Int64    // callers that send many queries together
+	gate       *gate           // for connections before their handshake
 	handshakes chan struct{}   // one for each that is computed
 	held       atomic.Int64    // bytes of replies that are not yet sent
 	active     atomic.Int64    // connections with lines that are under way
@@ -100,7 +107,9 @@ type Gateway struct {
 	failure    atomic.Pointer[failure]
 	stats
 
-	acceptFails, crowded, callerCrowded, changesWait, longWait, noRoom logline.Rare
+	acceptFails, crowded, callerCrowded, changesWait, longWait, noRoom, manyHandshakes, panics logline.Rare
+
+	failedHandshakes logline.Few
 }
 
 // New returns a gateway of a log.
@@ -108,6 +117,7 @@ func New(log *etcd.Log, options Options) *Gateway {
 	g := &Gateway{
 		log: log, options: options, run: wire.NewID(), board: board{changed: make(chan struct{})},
 		changes: make(chan *request, options.Limits.Changes), long: make(chan struct{}, options.Limits.LongLines),
+		gate:       newGate(options.Limits.Handshakes, options.Limits.AddressHandshakes),
 		handshakes: make(chan struct{}, runtime.GOMAXPROCS(0)),
 		stop:       make(chan struct{}), crowd: crowd{counts: map[string]int{}}, marks: make(chan replica.State, votesLeft),
 	}
@@ -115,6 +125,7 @@ func New(log *etcd.Log, options Options) *Gateway {
 		g.turns = append(g.turns, make(chan struct{}, mostTurns))
 	}
 	g.options.Replica.ReplyBytes = int(options.Limits.ReplyBytes) / 2 / len(g.turns) // those that are read take no more room than those that are not yet sent
+	g.options.Replica.OnLate = g.late.Inc
 	g.skips.Store(&etcd.Skips{})
 	g.headTime.Store(time.Now().Unix())
 	return g
@@ -181,41 +192,84 @@ func (g *Gateway) Serve(ctx context.Context, on net.Listener, isFresh bool) erro
 	}
 }
 
-// receive serves one connection.
+// receive serves one connection. A panic in it ends no other one.
 func (g *Gateway) receive(ctx context.Context, conn net.Conn, isFresh bool) {
-	defer func() { conn.Close() }()
+	defer func() { conn.Close() }() // whose error says nothing: the connection is of no more use
+	defer g.survive(conn)
+	s := &session{Gateway: g, conn: conn, isOperator: true, isFresh: isFresh}
+	if g.options.Callers != nil {
+		secure := g.shakeHands(ctx, conn)
+		if secure == nil {
+			return
+		}
+		s.conn = secure
+		// the handshake requires a certificate
+		s.agent, s.isOperator = callerOf(secure.ConnectionState().PeerCertificates[0], g.options.Operators)
+	}
 	defer g.sessions.Add(-1)
 	if g.sessions.Add(1) > int64(g.options.Limits.Connections) {
 		g.ended.Inc("connections")
 		g.crowded.Error("too many connections", "limit", g.options.Limits.Connections)
 		return
 	}
-	s := &session{Gateway: g, conn: conn, isOperator: true, isFresh: isFresh, number: int(g.accepted.Add(1))}
-	isAdmitted := true
-	if g.options.Callers != nil {
-		turned := &paced{Conn: conn, turns: g.handshakes}
-		secure := tls.Server(turned, g.options.Callers.Server())
-		conn.SetDeadline(time.Now().Add(g.options.Limits.Handshake)) // a session sets it again before it reads and writes
-		err := secure.HandshakeContext(ctx)
-		if turned.done(); err != nil {
-			g.ended.Inc("handshake")
-			return
-		}
-		conn, s.conn = secure, secure
-		s.agent, s.isOperator = callerOf(secure.ConnectionState().PeerCertificates[0], g.options.Operators) // the handshake requires one
-		defer g.crowd.leave(s.agent)
-		isAdmitted = g.crowd.enter(s.agent, g.options.Limits.CallerConnections)
-	}
-	s.in = bufio.NewReaderSize(conn, readBuffer)
-	if isAdmitted {
-		s.serve(ctx)
-	} else {
-		g.ended.Inc("caller")
-		g.callerCrowded.Error("too many connections of a caller", "limit", g.options.Limits.CallerConnections, "caller", s.agent)
-		s.add(s.request(nil)).answer(wire.Refusal(wire.TooMany))
-		s.writeAnswers(ctx, 0)
-	}
+	s.number = int(g.accepted.Add(1))
+	s.in = bufio.NewReaderSize(s.conn, readBuffer)
+	g.admit(ctx, s)
 	if !s.isBroken {
-		part(conn)
+		part(s.conn)
 	}
+}
+
+// admit serves a caller, or refuses it if it has too many connections.
+func (g *Gateway) admit(ctx context.Context, s *session) {
+	if g.options.Callers == nil {
+		s.serve(ctx)
+		return
+	}
+	defer g.crowd.leave(s.agent)
+	if g.crowd.enter(s.agent, g.options.Limits.CallerConnections) {
+		s.serve(ctx)
+		return
+	}
+	g.ended.Inc("caller")
+	g.callerCrowded.Error("too many connections of a caller", "limit", g.options.Limits.CallerConnections,
+		"caller", s.agent)
+	s.add(s.request(nil)).answer(wire.Refusal(wire.TooMany))
+	s.writeAnswers(ctx, 0)
+}
+
+// shakeHands makes the handshake of a connection when there is a place for it. It returns nil if it fails.
+func (g *Gateway) shakeHands(ctx context.Context, conn net.Conn) *tls.Conn {
+	limits := g.options.Limits
+	leave := g.gate.enter(ctx, originOf(conn), limits.Answer)
+	if leave == nil {
+		g.ended.Inc("handshakes")
+		g.manyHandshakes.Error("too many handshakes", "limit", limits.Handshakes,
+			"of_address", limits.AddressHandshakes, "address", conn.RemoteAddr())
+		return nil
+	}
+	defer leave()
+	turned := &paced{Conn: conn, turns: g.handshakes, end: time.Now().Add(limits.Handshake)}
+	defer turned.done()
+	secure := tls.Server(turned, g.options.Callers.Server())
+	err := conn.SetDeadline(turned.end) // a session sets it again before it reads and writes
+	if err == nil {
+		err = secure.HandshakeContext(ctx)
+	}
+	if err != nil {
+		g.ended.Inc("handshake")
+		g.failedHandshakes.Error("handshake failed", "address", conn.RemoteAddr(), "error", err)
+		return nil
+	}
+	return secure
+}
+
+// survive is deferred by what serves a caller. It ends a panic, which a caller may have caused by what it has sent.
+func (g *Gateway) survive(conn net.Conn) {
+	reason := recover()
+	if reason == nil {
+		return
+	}
+	g.ended.Inc("panic")
+	g.panics.Error("panic", "address", conn.RemoteAddr(), "reason", reason, "stack", string(debug.Stack()))
 }

@@ -37,6 +37,8 @@ type site struct {
 	log   *etcd.Log
 	// of the gateways that start from now on
 	limits    Limits
+	address   string        // of the last one that secured started
+	hang      time.Duration // of regd, or 0 for the usual one
 	callers   *Certificates
 	operators []string
 }
@@ -56,7 +58,7 @@ func newSite(t *testing.T) *site {
 // gateway starts a gateway, and returns it with the addresses of its two ports.
 func (s *site) gateway(name string) (*Gateway, string, string) {
 	g := New(s.log, Options{Name: name, Program: "p", Replies: "p", Limits: s.limits, Callers: s.callers, Operators: s.operators,
-		Replica: replica.Options{Program: os.Args[0], Domain: "ex.org", Workers: 3}})
+		Replica: replica.Options{Program: os.Args[0], Domain: "ex.org", Workers: 3, Hang: s.hang}})
 	ctx, stop := context.WithCancel(s.ctx)
 	var addresses []string
 	ready, ended := make(chan struct{}), make(chan error, 1)

@@ -69,17 +69,7 @@ func (s *session) serve(ctx context.Context) {
 			s.noteLate(err, "line")
 			return
 		}
-		isChange := false
-		switch {
-		case code == wire.Busy && !s.isOperator: // an agent has no need of a long line
-			code = wire.NotAllowed
-		case code != "":
-		case !s.isOperator:
-			line, code = wire.ForAgent(s.agent, line)
-		case wire.MayChange(line):
-			isChange = true
-			line, code = wire.ForLog(line)
-		}
+		line, isChange, code := s.sort(line, code)
 		if code != "" {
 			s.add(s.request(nil)).answer(wire.Refusal(code))
 			s.freeTurn()
@@ -94,6 +84,26 @@ func (s *session) serve(ctx context.Context) {
 		}
 	}
 	s.writeAnswers(ctx, 0)
+}
+
+// sort returns what regd gets for a line, and whether it goes through the log, or the code with which it is refused. A
+// line that was not kept has a code already.
+func (s *session) sort(line []byte, code string) (sent []byte, isChange bool, refusal string) {
+	switch {
+	case code == wire.Busy && !s.isOperator: // an agent has no need of a long line
+		return nil, false, wire.NotAllowed
+	case code != "":
+		return nil, false, code
+	case !s.isOperator:
+		sent, refusal = wire.ForAgent(s.agent, line)
+		return sent, false, refusal
+	case wire.MayChange(line):
+		sent, refusal = wire.ForLog(line)
+		return sent, true, refusal
+	case wire.Listings(line) > s.options.Limits.Listings:
+		return nil, false, wire.TooManyQueries
+	}
+	return line, false, ""
 }
 
 // isFull returns true if no further line may be under way before some are answered. Connections with lines under way have equal shares, so that one
@@ -272,8 +282,15 @@ func (s *session) query(ctx context.Context, line []byte) bool {
 	if s.isFresh { // these are asked one at a time, and need no turn
 		late, cancel := context.WithTimeout(ctx, s.options.Limits.Answer)
 		defer cancel()
+		w := s.waits(s.options.Limits.Answer)
+		defer w.timer.Stop()
 		_, before := s.board.read()
-		if head, err := s.freshHead(late); err != nil || head < before.Entry || !s.board.wait(late, head, 0) { // less after a restore
+		head, err := s.freshHead(late)
+		if err != nil || head < before.Entry { // less after a restore
+			return false
+		}
+		if !s.waitForBoard(ctx, &w, head, 0) {
+			w.noteEnd()
 			return false
 		}
 	} else if !s.takeTurn(ctx) {
@@ -284,10 +301,13 @@ func (s *session) query(ctx context.Context, line []byte) bool {
 		if !s.writeAnswers(ctx, 0) {
 			return false
 		}
-		s.freeTurn()
-		late, cancel := context.WithTimeout(ctx, s.options.Limits.After)
-		defer cancel()
-		s.board.wait(late, 0, after) // if it is still too early, regd says W1
+		w := s.waits(s.options.Limits.After)
+		defer w.timer.Stop()
+		isThere := s.waitForBoard(ctx, &w, 0, after)
+		if !isThere && w.reason != isOver { // if it is still too early, regd says W1
+			w.noteEnd()
+			return false
+		}
 	}
 	s.progress = time.Now() // the time for the answer doesn't begin before
 	s.ask(s.add(q))
@@ -353,7 +373,8 @@ func (s *session) note(q *request, reply []byte) {
 	}
 }
 
-// await returns the answer to a line, or nil. It asks a query again if regd ended, and if the reply is too old.
+// await returns the answer to a line, or nil. A query is asked again if regd ended before it ran it, and if the reply
+// is too old.
 func (s *session) await(ctx context.Context, q *request) []byte {
 	if len(q.reply) == 0 && !s.flush() {
 		return nil
@@ -362,28 +383,44 @@ func (s *session) await(ctx context.Context, q *request) []byte {
 	if s.progress.After(begin) {
 		begin = s.progress
 	}
-	late := time.NewTimer(time.Until(begin.Add(s.options.Limits.Answer))) // a context for each line would make all connections wait for one lock
-	defer late.Stop()
+	w := s.waits(time.Until(begin.Add(s.options.Limits.Answer)))
+	defer w.timer.Stop()
+	defer w.noteEnd()
 	for {
-		var reply []byte
-		select {
-		case reply = <-q.reply: // also if it is late
-		default:
-			select {
-			case reply = <-q.reply:
-			case <-late.C:
-				s.ended.Inc("answer")
-				return nil
-			case <-ctx.Done():
-				return nil
-			}
-		}
-		if s.isChanging || reply != nil && !s.isOld(q, reply) {
+		reply, isThere := s.receive(ctx, q, &w)
+		if !isThere || s.isChanging || reply != nil && !s.isOld(q, reply) {
 			return reply
 		}
 		s.held.Add(-int64(len(reply)))
-		etcd.Pause(ctx, retryTime)
+		if !s.waitForBoard(ctx, &w, 0, 0) {
+			return nil
+		}
+		etcd.Pause(ctx, retryTime) // also if there is a replica, which may just be ending
+		if ctx.Err() != nil {
+			return nil
+		}
 		s.ask(q)
+	}
+}
+
+// receive waits for the reply to a line. It returns false if the wait ends first.
+func (s *session) receive(ctx context.Context, q *request, w *wait) (reply []byte, isThere bool) {
+	select {
+	case reply = <-q.reply: // also if it is late
+		return reply, true
+	default:
+	}
+	for {
+		select {
+		case reply = <-q.reply:
+			return reply, true
+		case <-w.timer.C:
+			if !w.goesOn() {
+				return nil, false
+			}
+		case <-ctx.Done():
+			return nil, false
+		}
 	}
 }
 

@@ -1,6 +1,7 @@
 package server
 
 import (
+	"bufio"
 	"context"
 	"encoding/json"
 	"errors"
@@ -204,7 +205,8 @@ func TestFreshAnswersDoNotWait(t *testing.T) {
 	s.store.Refuse(0)
 }
 
-// TestQueriesOutliveRegd kills regd while it owes replies to queries: they are asked again when there is another replica.
+// TestQueriesOutliveRegd kills regd while it owes replies to queries: the one that it may have been killed by is
+// refused, and the others are asked again when there is another replica.
 func TestQueriesOutliveRegd(t *testing.T) {
 	t.Parallel()
 	s := newSite(t)
@@ -212,14 +214,146 @@ func TestQueriesOutliveRegd(t *testing.T) {
 	conn, in := s.dial(address)
 	const count = 15
 	fmt.Fprint(conn, strings.Repeat(`{"ops":[{"op":"show","hint":"SLOW"}]}`+"\n", count))
-	for call := 1; call <= count; call++ {
-		if got, err := in.ReadString('\n'); got != answered(call, 0)+"\n" {
+	refused := 0
+	for line := 1; line <= count; line++ {
+		got, err := in.ReadString('\n')
+		if got == refusal(wire.Busy, line)+"\n" {
+			refused++
+		} else if got != answered(line-refused, 0)+"\n" {
 			t.Fatalf("got %s, %v", got, err)
 		}
-		if call == 1 {
+		if line == 1 {
 			r, _ := g.board.read()
 			process, _ := os.FindProcess(r.Pid())
 			process.Kill()
+		}
+	}
+	if refused != 1 {
+		t.Errorf("%d queries were refused", refused)
+	}
+}
+
+// TestFatalQuery sends a query that ends each regd which gets it. It is refused, one replica has ended, and other
+// callers are served.
+func TestFatalQuery(t *testing.T) {
+	t.Parallel()
+	s := newSite(t)
+	g, address, _ := s.gateway("a")
+	s.expect("a query that ends regd", s.call(address, `{"ops":[{"op":"show","hint":"KILL"}]}`), refusal(wire.Busy, 1))
+	within(t, "the replica stays", func() bool { return samples(t, g)["regd_gateway_replicas_ended_total"] > 0 })
+	s.expect("another one", s.call(address, show), answered(1, 0))
+	if ended := samples(t, g)["regd_gateway_replicas_ended_total"]; ended != 1 {
+		t.Errorf("%v replicas have ended", ended)
+	}
+}
+
+// TestSlowQuery sends a query whose reply is late: it is refused, no replica ends, and other callers are served
+// meanwhile by the other worker.
+func TestSlowQuery(t *testing.T) {
+	t.Parallel()
+	s := newSite(t)
+	s.hang = 2 * time.Second
+	g, address, _ := s.gateway("a")
+	slow, in := s.dial(address)
+	fmt.Fprintln(slow, `{"ops":[{"op":"show","hint":"HALT"}]}`)
+	within(t, "no query", func() bool { return g.active.Load() == 1 })
+	for i := 0; i < 4; i++ { // on connections of both workers
+		s.expect("another caller", s.call(address, show), answered(1, 0))
+	}
+	if got, err := in.ReadString('\n'); got != refusal(wire.Busy, 1)+"\n" {
+		t.Errorf("got %s, %v", got, err)
+	}
+	all := samples(t, g)
+	ended, late := all["regd_gateway_replicas_ended_total"], all["regd_gateway_late_replies_total"]
+	if ended != 0 || late == 0 {
+		t.Errorf("%v replicas have ended, and %v replies were late", ended, late)
+	}
+}
+
+// TestListings checks how many operations with large replies a query may have. A line of an agent and one that goes
+// through the log have limits of their own.
+func TestListings(t *testing.T) {
+	s := newSite(t)
+	s.limits.Listings = 3
+	_, address, _ := s.gateway("a")
+	for _, name := range []string{"page", "children", "authorised", "trust"} {
+		line := func(count int) string {
+			return `{"ops":[{"op":"show"}` + strings.Repeat(`,{"op":"`+name+`"}`, count) + `]}`
+		}
+		got := s.call(address, line(3), line(4), line(3))
+		s.expect(name, got, answered(1, 0), refusal(wire.TooManyQueries, 2), answered(2, 0))
+	}
+	s.expect("others", s.call(address, `{"ops":[`+strings.Repeat(show[8:len(show)-2]+",", 63)+show[8:]), answered(1, 0))
+}
+
+// withoutReplica takes the replica from the board, so that queries wait.
+func withoutReplica(g *Gateway) *replica.Replica {
+	r, _ := g.board.read()
+	g.board.update(func() { g.board.replica, g.board.state = nil, replica.State{} })
+	return r
+}
+
+// TestWaitsWithoutReplica checks that queries wait for a replica until their time is over, and no longer, that those
+// which wait are answered when there is one, and that none is kept whose caller has left.
+func TestWaitsWithoutReplica(t *testing.T) {
+	t.Parallel()
+	s := newSite(t)
+	s.limits.Answer, s.limits.After = 3*time.Second, 10*time.Second
+	g, address, fresh := s.gateway("a")
+	r := withoutReplica(g)
+	const early = `{"ops":[{"op":"show"}],"after":9}`
+	var readers []*bufio.Reader
+	for _, line := range []string{show, early} {
+		for _, port := range []string{address, fresh} {
+			left, _ := s.dial(port)
+			fmt.Fprintln(left, line)
+			stays, in := s.dial(port)
+			fmt.Fprintln(stays, line)
+			readers = append(readers, in)
+			within(t, "no line is read", func() bool { return g.accepted.Load() == uint64(2*len(readers)) })
+			left.(*net.TCPConn).SetLinger(0)
+			left.Close()
+		}
+	}
+	begin := time.Now()
+	within(t, "callers that have left stay", func() bool { return g.sessions.Load() == int64(len(readers)) })
+	if took := time.Since(begin); took > s.limits.Answer*2/3 || endedFor(t, g, "left") != float64(len(readers)) {
+		t.Errorf("%v have left after %v", endedFor(t, g, "left"), took)
+	}
+	if got := ends(t, readers[0]); got != "" {
+		t.Errorf("got %s", got)
+	}
+	if took := time.Since(begin); took < s.limits.Answer/2 || took > 3*s.limits.Answer {
+		t.Errorf("the time for an answer was over after %v", took)
+	}
+	waits, in := s.dial(address)
+	fmt.Fprintln(waits, show)
+	within(t, "no line is read", func() bool { return g.accepted.Load() == uint64(2*len(readers)+1) })
+	g.board.update(func() { g.board.replica = r })
+	if got, err := in.ReadString('\n'); got != answered(1, 0)+"\n" {
+		t.Errorf("with a replica: got %s, %v", got, err)
+	}
+}
+
+// TestTurnsWithoutReplica checks that a caller which waits for a replica has no turn.
+func TestTurnsWithoutReplica(t *testing.T) {
+	s := newSite(t)
+	g, address, _ := s.gateway("a")
+	r := withoutReplica(g)
+	var readers []*bufio.Reader
+	for i := 0; i < 3*mostTurns*len(g.turns); i++ {
+		conn, in := s.dial(address)
+		fmt.Fprint(conn, strings.Repeat(show+"\n", 2*fewLines))
+		readers = append(readers, in)
+	}
+	within(t, "not all callers wait", func() bool { return g.active.Load() == int64(len(readers)) })
+	within(t, "a turn is taken", func() bool { return len(g.turns[0])+len(g.turns[1]) == 0 })
+	g.board.update(func() { g.board.replica = r })
+	for _, in := range readers {
+		for call := 1; call <= 2*fewLines; call++ {
+			if got, err := in.ReadString('\n'); got != answered(call, 0)+"\n" {
+				t.Fatalf("got %s, %v", got, err)
+			}
 		}
 	}
 }

@@ -26,6 +26,7 @@ type stats struct {
 	ended            metrics.Vector    // connections that this gateway ended, by reason
 	dropped          metrics.Counter   // changes of callers that had left
 	replicasEnded    metrics.Counter
+	late             metrics.Counter // replies to queries
 }
 
 // ServeStatus answers requests for the state over HTTP.
@@ -132,11 +133,11 @@ func (g *Gateway) serveMetrics(w http.ResponseWriter, _ *http.Request) {
 	p.Gauge(name+"connections", "Open connections of callers.", float64(g.sessions.Load()))
 	p.Counter(name+"connections_total", "Connections of callers.", &g.accepted)
 	p.Vector(name+"connections_ended_total", "Connections that the gateway ended, by reason.", "reason", &g.ended,
-		"answer", "caller", "connections", "handshake", "idle", "line", "write")
+		"answer", "caller", "connections", "handshake", "handshakes", "idle", "left", "line", "panic", "write")
 	p.Histogram(name+"change_duration_seconds", "Times from a line that may be a change to its answer.", &g.changed)
 	p.Histogram(name+"query_duration_seconds", "Times from any other line to its answer.", &g.queries)
 	p.Vector(name+"refusals_total", "Answers with a code, by code.", "code", &g.refusals,
-		wire.NotAllowed, wire.TooMixed, wire.NoRoom, wire.TooMany, wire.Busy, wire.TooLong, wire.Skipped)
+		wire.NotAllowed, wire.TooManyQueries, wire.NoRoom, wire.TooMany, wire.Busy, wire.TooLong, wire.Skipped)
 	p.Histogram(name+"append_duration_seconds", "Times in which etcd accepted an entry of this gateway.", &g.appends)
 	p.Gauge(name+"reply_bytes", "Bytes of replies that are not yet sent.", float64(g.held.Load()))
 	p.Gauge(name+"changes_waiting", "Changes that wait to be appended.", float64(len(g.changes)))
@@ -147,6 +148,7 @@ func (g *Gateway) serveMetrics(w http.ResponseWriter, _ *http.Request) {
 	p.Gauge(name+"commit_number", "The commit number of the book.", float64(state.Place))
 	p.Histogram(name+"replay_duration_seconds", "Times from the start of a replica until it was ready.", &g.replays)
 	p.Counter(name+"replicas_ended_total", "Replicas that ended and were replaced.", &g.replicasEnded)
+	p.Counter(name+"late_replies_total", "Replies to queries that regd owed for too long.", &g.late)
 	failing := 0.0
 	if f := g.failing(state.Entry); f != nil {
 		failing = float64(f.Line.Entry)

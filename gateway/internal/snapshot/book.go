@@ -10,6 +10,7 @@ import (
 	"strings"
 
 	"regd/gateway/internal/replica"
+	"regd/gateway/internal/wire"
 )
 
 // limits of a line of a snapshot
@@ -65,8 +66,8 @@ func show(r *replica.Replica, query string) (shown reply, err error) {
 	in := json.NewDecoder(bytes.NewReader(r.Ask([]byte(fmt.Sprintf(`{"ops":[%s],"after":%d}`, query, r.State().Place)))))
 	in.UseNumber()
 	err = in.Decode(&answer)
-	if err == nil && (strings.HasPrefix(answer.Code, "L") || answer.Code == "W1") {
-		err = errors.New(answer.Code) // such as L6: out of memory
+	if err == nil && (strings.HasPrefix(answer.Code, "L") || answer.Code == "W1" || answer.Code == wire.Busy) {
+		err = errors.New(answer.Code) // such as L6: out of memory; or G5: late
 	}
 	if err != nil {
 		return shown, fmt.Errorf("answer to %s: %w", query, err)

@@ -16,13 +16,13 @@ const (
 
 // The codes of the gateway's own. A refused line has no effect and reaches neither the log nor regd.
 const (
-	NotAllowed = "G1" // the caller may not send this line
-	TooMixed   = "G2" // a line for the log with more than MaxQueries queries
-	NoRoom     = "G3" // the line is too long for what the gateway adds to it
-	TooMany    = "G4" // the caller has too many connections
-	Busy       = "G5" // too many lines wait, or replies take too much room
-	TooLong    = "G6" // the line is longer than this gateway accepts
-	Skipped    = "G7" // an operator has skipped the line
+	NotAllowed     = "G1" // the caller may not send this line
+	TooManyQueries = "G2" // a line for the log with more than MaxQueries queries, or a query with too many listings
+	NoRoom         = "G3" // the line is too long for what the gateway adds to it
+	TooMany        = "G4" // the caller has too many connections
+	Busy           = "G5" // too many lines wait, replies take too much room, or a query takes too long
+	TooLong        = "G6" // the line is longer than this gateway accepts
+	Skipped        = "G7" // an operator has skipped the line
 )
 
 // changes has the names of regd's operations, and whether they change the book.
@@ -104,7 +104,7 @@ func ForLog(line []byte) (made []byte, code string) {
 	case !ok:
 		return line, ""
 	case b.queries > MaxQueries:
-		return nil, TooMixed
+		return nil, TooManyQueries
 	case room > 0 && len(line)+room > MaxLine:
 		return nil, NoRoom
 	}

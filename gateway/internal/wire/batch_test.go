@@ -61,12 +61,12 @@ func TestTooMixed(t *testing.T) {
 		queries, changes int
 		want             bool
 	}{{MaxQueries, 1, false}, {MaxQueries + 1, 1, true}, {MaxQueries, 0, false}, {MaxQueries + 1, 0, true}, {64, 0, true}, {63, 1, true}, {0, 64, false}} {
-		if _, code := ForLog(batch(c.queries, c.changes, "children")); (code == TooMixed) != c.want {
+		if _, code := ForLog(batch(c.queries, c.changes, "children")); (code == TooManyQueries) != c.want {
 			t.Errorf("%d queries, %d changes: got %s", c.queries, c.changes, code)
 		}
 	}
 	for name, isChange := range changes {
-		if _, code := ForLog(batch(MaxQueries+1, 1, name)); (code == TooMixed) == isChange {
+		if _, code := ForLog(batch(MaxQueries+1, 1, name)); (code == TooManyQueries) == isChange {
 			t.Errorf("%s: got %s", name, code)
 		}
 	}

@@ -68,6 +68,18 @@ func MayChange(line []byte) bool {
 	return false
 }
 
+// listings has the names of the operations whose replies grow with the book, as they appear in a line without escapes.
+var listings = [][]byte{[]byte(`"page"`), []byte(`"children"`), []byte(`"authorised"`), []byte(`"trust"`)}
+
+// Listings returns the most listings that a reader of JSON can find in a line for which MayChange is false. A name that
+// is the value of another key counts too.
+func Listings(line []byte) (count int) {
+	for _, name := range listings {
+		count += bytes.Count(line, name)
+	}
+	return count
+}
+
 // insert returns a copy of the line with a text at a position.
 func insert(line []byte, at int, text string) []byte {
 	made := make([]byte, 0, len(line)+len(text))

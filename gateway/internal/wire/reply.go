@@ -53,6 +53,15 @@ func numberAfter(text, key []byte) (number uint64) {
 	return number
 }
 
+// Call returns the number of the call in a reply that is no refusal of a line, or 0.
+func Call(reply []byte) uint64 { return numberAfter(reply, callKey) }
+
+// Line returns the number of the line in a refusal of a line, or 0.
+func Line(reply []byte) uint64 { return numberAfter(reply, lineKey) }
+
+// IsShortage returns true for the codes that don't depend on the lines of a connection alone: L6, L7 and L8.
+func IsShortage(code string) bool { return code == "L6" || code == "L7" || code == "L8" }
+
 // Code returns the code of a reply, or "". It is the first key but for the call.
 func Code(reply []byte) string {
 	first, rest, _ := bytes.Cut(bytes.TrimPrefix(Tail(reply), []byte("{")), []byte(`":"`))

@@ -1,4 +1,5 @@
 """Tests of the checker itself: planted faults make it fail. And of the tables of docs/GATEWAY.md. They need no program."""
+import datetime
 import pathlib
 import re
 import subprocess
@@ -102,6 +103,15 @@ class StaleReads(unittest.TestCase):
         self.assertEqual(auditing.stale_reads(events), 0)
 
 
+class Go(unittest.TestCase):
+    def test_warning(self):
+        for version, today, oldest in (("go1.19.8", (2025, 2, 1), 23), ("go1.23.4", (2025, 2, 1), None), ("go1.23.4", (2025, 8, 1), 24),
+                                       ("go1.24", (2026, 1, 31), None), ("go version go1.25.1 linux/amd64", (2026, 8, 1), 26), ("devel", (2026, 8, 1), 26)):
+            warning = tools.go_warning(version, datetime.date(*today))
+            self.assertEqual(warning is None, oldest is None, version)
+            self.assertIn(f"fixes go1.{oldest} and later" if oldest else "", warning or "")
+
+
 class Rules(unittest.TestCase):
     def test_own_code(self):
         query, prune = b'{"op":"show"}', b'{"op":"prune"}'
@@ -109,6 +119,8 @@ class Rules(unittest.TestCase):
             (b'{"ops":[' + b",".join([query] * 5 + [prune]) + b"]}", "G2"),
             (b'{"ops":[' + b",".join([query] * 4 + [prune]) + b"]}", None),
             (b'{"ops":[' + b",".join([query] * 9) + b"]}", None),
+            (b'{"ops":[' + b",".join([b'{"op":"trust"}'] * 16) + b"]}", None),
+            (b'{"ops":[' + b",".join([b'{"op":"page"}'] * 17), "G2"),
             (b'{"ops":[{"op":"create"}]}' + b" " * (rules.MOST_BYTES - 60), "G3"),
             (b'{"ops":[{"op":"create"}]}' + b" " * rules.MOST_BYTES, None),
             (b'{"ops":[', None),

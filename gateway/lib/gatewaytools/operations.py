@@ -414,10 +414,10 @@ def _end(file):
 def authorities(programs, folder):
     """No certificate of `deploy/certificates` outlives its authority. An authority that would expire first is refused, and nothing changes."""
     keys = trial_keys(pathlib.Path(folder) / "keys", "127.0.0.1")
-    for name in ("caller-authority", "etcd-authority"):
+    for name in ("caller-authority", "etcd-authority", "peer-authority"):
         trial_keys(keys, "127.0.0.1")  # with the authorities that are there
         made = [file for file in keys.rglob("cert.pem") if (file.parent / "ca.pem").exists()]
-        expect(len(made), 5, "certificates")
+        expect(len(made), 6, "certificates")
         expect([file for file in made if _end(file) > _end(file.parent / "ca.pem")], [], "certificates that outlive their authorities")
         authority = keys / name
         former = (authority / "cert.pem").read_bytes()

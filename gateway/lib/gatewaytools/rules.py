@@ -8,6 +8,8 @@ import uuid
 CHANGES = {"create", "update", "delete", "prune", "set_agent", "drop_agent", "set_bundle", "drop_bundle"}
 QUERIES = {"show", "show_agent", "show_bundle", "children", "page", "authorised", "trust"}
 MOST_QUERIES = 4
+LISTINGS = (b'"page"', b'"children"', b'"authorised"', b'"trust"')
+MOST_LISTINGS = 16
 MOST_OPS = 64
 MOST_BYTES = 1 << 20
 MOST_TOKENS = 65536
@@ -51,11 +53,13 @@ def creates_without_id(batch):
 
 def own_code(line):
     """Returns the code with which the gateway refuses an operator's line, or None."""
-    batch = batch_of(line) if len(line) <= MOST_BYTES else None
-    if batch is None:
+    if len(line) > MOST_BYTES:
         return None
-    # a query is never too long: nothing that it needs is added to it
+    # a query is never too long: nothing that it needs is added to it. Its listings are counted without a reader of JSON
     if b"\\" not in line and not any(b'"%s"' % name.encode() in line for name in CHANGES):
+        return "G2" if sum(line.count(name) for name in LISTINGS) > MOST_LISTINGS else None
+    batch = batch_of(line)
+    if batch is None:
         return None
     if sum(name_of(op) in QUERIES for op in batch["ops"]) > MOST_QUERIES:
         return "G2"

@@ -9,6 +9,7 @@ import socket
 import ssl
 import subprocess
 import sys
+import threading
 import time
 
 from gatewaytools import cluster, differential, faults, plain, rules
@@ -151,6 +152,96 @@ def wrong_replica(programs, folder):
         site.gateways[0].call(b'{"ops":[{"op":"prune","before":0}]}')
         expect(site.gateways[1].call(cluster.page(), fresh=True)[0].split(b",")[1], b'"place":%d' % (before["place"] + 1), "a change afterwards")
         return f"stopped at entry {before['entry']}, the others go on"
+
+
+# ---- replies that belong to other lines
+
+SHIFTER = '''#!{python}
+"""Starts regd. Of the replies to queries it drops, doubles or swaps one in 300, as the file {lie} says, and writes a line about each into {told}."""
+import json, random, socket, subprocess, sys, threading
+
+real = subprocess.Popen(["{regd}", *sys.argv[1:]], stdout=subprocess.PIPE)
+host, port = json.loads(real.stdout.readline())["listening"].rsplit(":", 1)
+listener = socket.create_server(("127.0.0.1", 0))
+print(json.dumps({{"listening": "127.0.0.1:%d" % listener.getsockname()[1]}}), flush=True)
+
+def lied(line):
+    with open("{lie}") as file:
+        kind = file.read()
+    if not kind or random.randrange(300):
+        return [line]
+    with open("{told}", "a") as file:
+        print(kind, file=file)
+    return {{"drop": [], "double": [line, line], "swap": None}}[kind]
+
+def copy(source, target, lies):
+    kept = []
+    with source.makefile("rb") as lines:
+        for line in lines:
+            sent = lied(line) if lies else [line]
+            if sent is None:
+                kept.append(line)
+                continue
+            target.sendall(b"".join(sent + kept))
+            kept = []
+    target.shutdown(socket.SHUT_WR)
+
+threads = []
+for number in range(int(sys.argv[-1])):
+    outer, _ = listener.accept()
+    inner = socket.create_connection((host, int(port)))
+    threads += [threading.Thread(target=copy, args=args) for args in ((outer, inner, False), (inner, outer, number > 0))]
+    for thread in threads[-2:]:
+        thread.start()
+for thread in threads:
+    thread.join()
+real.kill()
+'''
+
+
+def shifted_replies(programs, folder):
+    """A regd that drops, doubles and swaps replies to queries: no caller gets the reply to another line, and each lie ends the replica."""
+    folder = pathlib.Path(folder)
+    regd, lie, told, count = folder / "regd", folder / "lie", folder / "told", 200
+    script(regd, SHIFTER.format(python=sys.executable, regd=programs.regd, lie=lie, told=told))
+    for file in (lie, told):
+        file.write_text("")
+    with cluster.Etcd(folder / "etcd", 1) as etcd, cluster.Gateway(programs.gateway, str(regd), etcd, folder, 0) as gateway:
+        bundles = [{"op": "set_bundle", "domain": f"b{number}.org", "text": f"text {number}"} for number in range(count)]
+        for begin in range(0, count, 50):
+            gateway.call(json.dumps({"ops": bundles[begin:begin + 50]}).encode())
+        stop, wrong = threading.Event(), []
+
+        def asks(first):
+            answered = 0
+            while not stop.is_set():
+                numbers = [(first + step) % count for step in range(20)]
+                lines = [json.dumps({"ops": [{"op": "show_bundle", "domain": f"b{number}.org"}]}).encode() for number in numbers]
+                for number, answer in zip(numbers, gateway.call(*lines)):
+                    if b'"text":"text %d"' % number in answer:
+                        answered += 1
+                    elif b'"code":"G5"' not in answer and answer:
+                        wrong.append(answer)
+            return answered
+
+        with concurrent.futures.ThreadPoolExecutor(8) as pool:
+            callers = [pool.submit(asks, 20 * number) for number in range(8)]
+            try:
+                for kind in ("drop", "double", "swap") * 3:
+                    before, ended = told.stat().st_size, gateway.metric("replicas_ended_total")
+                    lie.write_text(kind)
+                    cluster.wait_for(lambda: told.stat().st_size > before, 60, "a lie")
+                    lie.write_text("")
+                    cluster.wait_for(lambda: gateway.metric("replicas_ended_total") > ended, 60, "the end of the replica")
+            finally:
+                stop.set()
+            right = sum(caller.result() for caller in callers)
+        expect(wrong[:3], [], "replies to other lines")
+        lies = told.read_text().split()
+        ended = gateway.metric("replicas_ended_total")
+        if not right or not ended:
+            raise Wrong(f"{right} answers, {ended} replicas ended")
+        return f"{len(lies)} lies, {ended:.0f} replicas ended, {right} right answers and no wrong one"
 
 
 # ---- certificates
@@ -327,4 +418,4 @@ def many_callers(programs, folder):
         return f"920 idle connections, longest wait of another caller {max(waits):.2f} s"
 
 
-SCENARIOS = {"memory": memory, "full-etcd": full_etcd, "wrong-replica": wrong_replica, "identity": identity, "many-callers": many_callers, "tokens": tokens}
+SCENARIOS = {"memory": memory, "full-etcd": full_etcd, "wrong-replica": wrong_replica, "shifted-replies": shifted_replies, "identity": identity, "many-callers": many_callers, "tokens": tokens}

@@ -1,7 +1,9 @@
 """Builds the programs of the gateway, and finds what they need."""
 import collections
+import datetime
 import os
 import pathlib
+import re
 import shutil
 import subprocess
 import sys
@@ -12,8 +14,8 @@ SOURCES = TOP / "gateway"
 COMMANDS = {"go": "golang-go", "etcd": "etcd-server", "etcdctl": "etcd-client", "haproxy": "haproxy", "openssl": "openssl", "jq": "jq", "nc": "netcat-openbsd", "curl": "curl",
             "systemd-analyze": "systemd"}
 
-# how many lines of Go the gateway may have, without tests, comments and blank lines
-LINES = 3000
+# the number of a release of Go, and its year and month
+KNOWN_GO = 24, 2025, 2
 
 Programs = collections.namedtuple("Programs", "gateway regd load")
 
@@ -21,7 +23,8 @@ Programs = collections.namedtuple("Programs", "gateway regd load")
 def commands_of(parts):
     """Returns the commands that parts of gateway/test need."""
     commands = ["go"]
-    if not {*parts} <= {"fast", "unit-race", "fuzz", "oracle", "removals"}:
+    alone = ("fast", "unit-race", "fuzz/", "oracle", "removals")
+    if not all(part.startswith(alone) for part in parts):
         commands += ["etcd", "etcdctl", "haproxy", "openssl", "curl"]
     return commands + ["systemd-analyze"] * ("operation/units" in parts)
 
@@ -58,12 +61,25 @@ def started_go(*words, env=None, cwd=SOURCES, **more):
     return subprocess.Popen(["go", *words], cwd=cwd, env=go_environment(env), **more)
 
 
-def code_lines():
-    """Returns how many lines of Go the gateway has, without tests and what only tests use, without comments and blank lines."""
-    files = [SOURCES / "main.go", *(SOURCES / "internal").rglob("*.go")]
-    counted = [file for file in files if not file.stem.endswith("_test") and not file.parent.name.endswith("test")]
-    lines = [line.strip() for file in counted for line in file.read_text().splitlines()]
-    return sum(line != "" and not line.startswith("//") for line in lines)
+def go_warning(version, today):
+    """Returns why a gateway should not be built with the Go that prints a version, or None.
+
+    A release of Go comes every six months, and upstream fixes the two newest ones.
+    """
+    found = re.search(r"\bgo1\.(\d+)", version)
+    number, year, month = KNOWN_GO
+    oldest = number + ((today.year - year) * 12 + today.month - month) // 6 - 1
+    if found and int(found[1]) >= oldest:
+        return None
+    return f"{found[0] if found else version} gets no security updates from upstream, which fixes go1.{oldest} and later: see docs/GATEWAY.md, Go and etcd"
+
+
+def warn_of_go():
+    """Prints a warning if the command go gets no security updates."""
+    version = subprocess.run(["go", "env", "GOVERSION"], env=go_environment(), capture_output=True, text=True).stdout.strip()
+    warning = go_warning(version, datetime.date.today())
+    if warning:
+        print(f"{pathlib.Path(sys.argv[0]).name}: warning: {warning}", file=sys.stderr)
 
 
 def build(folder, regd, *words):

@@ -64,6 +64,7 @@ def built_gateway():
     """Returns the gateway, which the command go builds from the sources as they are."""
     if not shutil.which("go"):
         raise Missing("the command go is missing (Debian's package golang-go)")
+    tools.warn_of_go()
     with tempfile.TemporaryDirectory(prefix="regd-install-") as folder:
         program = pathlib.Path(folder) / "regd-gateway"
         # go stores what it compiles in a folder that one of these variables names

@@ -1,9 +1,12 @@
 // Package regdtest has a regd in miniature for unit tests. A test binary calls Main first in TestMain, and names itself as the program.
 //
-// It knows prune, which commits and reports its number, show, after, and token, which it ignores. Some hints in a line make it misbehave: L5, L6,
-// L7, L8 and O8 are replied as codes, KILL ends the process, HANG makes it answer nothing more on this connection, and SLOW makes it take a tenth of a
-// second. With WAIT a line takes a second, in which the other connections are answered. LARGE makes a reply of 100 kB. With LATE a change is seen by
-// the other connections after two seconds. For the domain shared.org the connections number their calls together, and for hung.org it never listens.
+// It knows prune, which commits and reports its number, show, after, and token, which it ignores. Some hints in a line
+// make it misbehave: L5, L6, L7, L8 and O8 are replied as codes, KILL ends the process, HANG makes it answer nothing
+// more on this connection, and SLOW makes it take a tenth of a second. With WAIT a line takes a second, and with HALT
+// four seconds, in which the other connections are answered. LARGE makes a reply of 100 kB. With LATE a change is seen
+// by the other connections after two seconds. With DROP there is no reply, with TWICE it comes twice, and with SWAP
+// after that to the next line, as if regd were wrong. For the domain shared.org the connections number their calls
+// together, and for hung.org it never listens.
 package regdtest
 
 import (
@@ -60,6 +63,7 @@ type book struct {
 
 func (b *book) serve(conn net.Conn, isWriter bool) {
 	in := bufio.NewReader(conn)
+	kept := ""
 	for call, line := 0, 1; ; line++ {
 		text, err := in.ReadBytes('\n')
 		if err != nil {
@@ -70,11 +74,27 @@ func (b *book) serve(conn net.Conn, isWriter bool) {
 			if call++; os.Args[3] == "shared.org" {
 				call = b.nextCall()
 			}
-			fmt.Fprintf(conn, "{\"call\":%d,%s}\n", call, reply)
+			reply = fmt.Sprintf("{\"call\":%d,%s}\n", call, reply)
 		} else {
-			fmt.Fprintf(conn, "{\"code\":\"%s\",\"line\":%d}\n", reply, line)
+			reply = fmt.Sprintf("{\"code\":\"%s\",\"line\":%d}\n", reply, line)
 		}
+		kept = send(conn, text, reply, kept)
 	}
+}
+
+// send sends a reply, and the one that was kept back, unless the line says otherwise. It returns a reply that is to be
+// sent after the next one.
+func send(conn net.Conn, text []byte, reply, kept string) string {
+	switch {
+	case bytes.Contains(text, []byte("DROP")):
+		reply = ""
+	case bytes.Contains(text, []byte("TWICE")):
+		reply += reply
+	case bytes.Contains(text, []byte("SWAP")):
+		return reply
+	}
+	conn.Write([]byte(reply + kept)) // if it fails, so does the next read
+	return ""
 }
 
 func (b *book) nextCall() int {
@@ -95,8 +115,10 @@ func (b *book) reply(text []byte, isWriter bool) (reply string, isCall bool) {
 	if bytes.Contains(text, []byte("HANG")) {
 		select {}
 	}
-	if bytes.Contains(text, []byte("WAIT")) {
-		time.Sleep(time.Second)
+	for word, long := range map[string]time.Duration{"WAIT": time.Second, "HALT": 4 * time.Second} {
+		if bytes.Contains(text, []byte(word)) {
+			time.Sleep(long)
+		}
 	}
 	b.mu.Lock()
 	defer b.mu.Unlock()
