@@ -4,6 +4,7 @@ The program is the one that the variable REGD names, otherwise the one that scri
 that scripts/build-unverified compiled without proofs will do.
 """
 
+import functools
 import os
 import pathlib
 import subprocess
@@ -51,6 +52,12 @@ def remove_program(path):
     mark_of(path).unlink(missing_ok=True)
 
 
+@functools.cache
+def warn(text):
+    """Prints a warning on standard error, once in a run."""
+    print(text, file=sys.stderr)
+
+
 def program(*, unverified=False):
     """Returns the path of the program. Ends the script with status 2 if there is none.
 
@@ -62,7 +69,7 @@ def program(*, unverified=False):
         return BUILT
     name = pathlib.Path(sys.argv[0]).name
     if unverified and is_current(UNVERIFIED):
-        print(f"{name}: with the UNVERIFIED program {UNVERIFIED}", file=sys.stderr)
+        warn(f"{name}: with the UNVERIFIED program {UNVERIFIED}")
         return UNVERIFIED
     instead = ", or scripts/build-unverified to try it without proofs" if unverified else ""
     print(f"{name}: regd is not built, or its sources changed since: run scripts/prove first{instead}", file=sys.stderr)
