@@ -53,6 +53,11 @@ def remove_program(path):
 
 
 @functools.cache
+def warn(text):
+    """Prints a warning on standard error, once in a run."""
+    print(text, file=sys.stderr)
+
+
 def program(*, unverified=False):
     """Returns the path of the program. Ends the script with status 2 if there is none.
 
@@ -64,7 +69,7 @@ def program(*, unverified=False):
         return BUILT
     name = pathlib.Path(sys.argv[0]).name
     if unverified and is_current(UNVERIFIED):
-        print(f"{name}: with the UNVERIFIED program {UNVERIFIED}", file=sys.stderr)
+        warn(f"{name}: with the UNVERIFIED program {UNVERIFIED}")
         return UNVERIFIED
     instead = ", or scripts/build-unverified to try it without proofs" if unverified else ""
     print(f"{name}: regd is not built, or its sources changed since: run scripts/prove first{instead}", file=sys.stderr)
