@@ -1,3 +1,4 @@
 pub mod Alone
 pub mod Calling
 pub mod Growing
+pub mod Workers

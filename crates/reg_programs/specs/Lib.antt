@@ -3,3 +3,4 @@ pub mod Ends
 pub mod Programs
 pub mod Sessions
 pub mod SessionsPrivate
+pub mod Served

@@ -1,6 +1,11 @@
 //! How are the connections of a server answered by several workers?
 
-ghost use Rattle.std.specs.Prelude.{◌≡◌, ◌<◌, IfOk, length, vec_len};
+ghost use Rattle.std.specs.Prelude.{◌≡◌, ◌<◌, ◌≤◌, ◌⊎◌, [], Err, IfOk, get_or, length, vec_capacity, vec_items, vec_len, ℕ};
+ghost use Rattle.shared_registry.specs.OneList.{AreOneList};
+ghost use Rattle.shared_registry.specs.Seated.{Seated};
+ghost use Rattle.reg_programs.specs.Served.{EachGrew, HaveSeenOneList};
+ghost use Rattle.reg_programs.specs.Sessions.{Grew};
+ghost use Rattle.reg_programs.specs.declared.serve_fault.ServeFault.TheVariants.{NoMemory as OutOfMemory};
 
 use crate::acceptor::accept_all;
 use crate::queue::{Connection, Queue, close_all, queues_of};
@@ -8,13 +13,14 @@ use crate::serve_fault::ServeFault;
 use crate::session_engine::session;
 use command_line::ServerPlan;
 use line_devices::{CountedDevice, Input, Output};
-use shared_registry::{NewHistory, Registry, RegistryId, Seat};
+use shared_registry::{NewHistory, Registry, RegistryId, Seat, one_list};
 use spiffe_name::TrustDomain;
 use std::alloc::Global;
 use std::marker::Brand;
 use std::net::{Net, OpenListener, SocketAddr, TcpListener, TcpStream};
+use std::snapshot::Snapshot;
 use std::sync::Wait;
-use std::thread::Threads;
+use std::thread::{Promise, PromisedHandle, Threads};
 use std::time::Clock;
 use std::{io, thread};
 
@@ -116,13 +122,14 @@ fn listen<
     if announce(rt, address).is_err() {
         return Err(ServeFault::Output);
     }
-    serve_connections(
+    let (_seats, served) = serve_connections(
         context,
         seats,
         queues.as_slice(),
         listener,
         plan.connections as u64,
-    )
+    );
+    served
 }
 
 /// Makes a seat for each of the workers. It waits for the registry's lock. The error is `NoSeat`, or `NoMemory`.
@@ -151,60 +158,151 @@ fn announce<R: Print>(rt: &R, address: SocketAddr) -> io::Result<()> {
     println!(rt; "{{\"listening\":\"{address}\"}}")
 }
 
-/// Starts a worker with one of the seats for each queue, accepts the connections, and returns when all workers have ended. The
-/// listener is closed after the last connection, so that later clients are refused immediately and don't wait. If a worker's
-/// thread can't be started, the error is [`ServeFault::NoMemory`], and no connection is accepted. The function waits for
-/// connections and for their bytes, and isn't guaranteed to return.
+/// Starts a worker with each of the seats, the one with seat j at queue j, accepts the connections, and returns the seats when all
+/// workers have ended, in the same order. The listener is closed after the last connection, so that later clients are refused
+/// immediately and don't wait. If memory runs out or a worker's thread can't be started, the result is [`ServeFault::NoMemory`], no
+/// connection is accepted, and seats may be missing. The function waits for connections and for their bytes, and isn't guaranteed
+/// to return.
+///
+/// A worker answers all its connections through its seat, which has seen more with each of them. So what any two connections were
+/// told stands in one list of commits: a commit number of one is that of the same commit for the other, after the same commits.
 pub fn serve_connections<
     J: RegistryId + Send + Sync,
     R: Threads + Wait + Clock + Sync,
     L: OpenListener<Stream = TcpStream> + Drop,
 >(
     context: &ServerContext<'_, J, R>,
-    mut seats: Vec<Seat<J>>,
+    seats: Vec<Seat<J>>,
     queues: &[Queue],
     listener: L,
     connections: u64,
-) -> Result<(), ServeFault>
+) -> (Vec<Seat<J>>, Result<(), ServeFault>)
     requires workers { 0 < length queues.now }
     requires seats { vec_len seats ≡ length queues.now }
+    ensures grew { (result.1 ≡ Err OutOfMemory) ⊎ EachGrew J.domain (vec_items seats) (vec_items result.0) }
+    ensures one_list { HaveSeenOneList (vec_items result.0) }
 {
-    let rt = context.rt;
+    let (seats, served) = serve_by_workers(context, seats, queues, listener, connections);
+    all_agree(seats.as_slice());
+    (seats, served)
+}
+
+/// The same, without the contract on any two seats.
+fn serve_by_workers<
+    J: RegistryId + Send + Sync,
+    R: Threads + Wait + Clock + Sync,
+    L: OpenListener<Stream = TcpStream> + Drop,
+>(
+    context: &ServerContext<'_, J, R>,
+    seats: Vec<Seat<J>>,
+    queues: &[Queue],
+    listener: L,
+    connections: u64,
+) -> (Vec<Seat<J>>, Result<(), ServeFault>)
+    requires workers { 0 < length queues.now }
+    requires seats { vec_len seats ≡ length queues.now }
+    ensures { (result.1 ≡ Err OutOfMemory) ⊎ EachGrew J.domain (vec_items seats) (vec_items result.0) }
+{
+    let (rt, alloc) = (context.rt, context.alloc);
+    let Ok(left) = Vec::with_capacity(alloc, queues.len()) else {
+        return (Vec::new(alloc), Err(ServeFault::NoMemory));
+    };
+    let Ok(mut workers) = Vec::with_capacity(alloc, queues.len()) else {
+        return (left, Err(ServeFault::NoMemory));
+    };
     thread::scope(
         thread::scope_env(),
         rt,
-        |scope|
+        |scope| -> (Vec<Seat<J>>, Result<(), ServeFault>)
             requires workers { 0 < length queues.now }
             requires seats { vec_len seats ≡ length queues.now }
+            requires none { vec_items workers ≡ [] }
+            requires room { length queues.now ≤ vec_capacity workers }
+            requires empty { vec_items left ≡ [] }
+            requires space { length queues.now ≤ vec_capacity left }
+            ensures { (result.1 ≡ Err OutOfMemory) ⊎ EachGrew J.domain (vec_items seats) (vec_items result.0) }
         {
-            for queue in queues {
-                let Some(seat) = seats.pop() else {
+            for seat in seats {
+                let queue = &queues[workers.len()];
+                let promise = GrownFrom(Snapshot::of(&seat));
+                let Ok(worker) = scope.spawn_with(promise, move || work(context, seat, queue))
+                else {
+                    close_all(rt, queues);
+                    return (left, Err(ServeFault::NoMemory));
+                };
+                let Ok(()) = workers.push(worker) else {
                     unreachable!()
                 };
-                if scope.spawn(move || work(context, seat, queue)).is_err() {
-                    close_all(rt, queues);
-                    return Err(ServeFault::NoMemory);
-                }
             }
             let accepted = accept_all(rt, listener, queues, connections);
             close_all(rt, queues);
-            accepted
+            (seats_at_end(rt, workers, left), accepted)
         },
     )
 }
 
-/// Runs one worker with its seat: it serves the connections of its queue, one after another.
+/// What a worker promises: it returns the seat that it was started with, after its sessions.
+#[derive(Drop)]
+struct GrownFrom<J: RegistryId>(Snapshot<Seat<J>>);
+
+impl<J: RegistryId> Promise<Seat<J>> for GrownFrom<J> {
+    ghost use Rattle.reg_programs.specs.Sessions.{Grew};
+
+    ghost kept_by = { λ promise seat. Grew J.domain promise.0.value seat };
+}
+
+/// Waits until each worker has ended, and appends its seat to `seats`, which is empty and has room for all of them.
+fn seats_at_end<J: RegistryId, R: Threads>(
+    rt: &R,
+    workers: Vec<PromisedHandle<Seat<J>, GrownFrom<J>>>,
+    mut seats: Vec<Seat<J>>,
+) -> Vec<Seat<J>>
+    requires empty { vec_items seats ≡ [] }
+    requires room { vec_len workers ≤ vec_capacity seats }
+    ensures count { vec_len result ≡ vec_len workers }
+    ensures grew { (i : ℕ) (w : _) (s : Seated) → i < vec_len workers → Grew J.domain (get_or (vec_items workers) i w).promise.0.value (get_or (vec_items result) i s) }
+{
+    for worker in workers {
+        let Ok(()) = seats.push(worker.join(rt)) else {
+            unreachable!()
+        };
+    }
+    seats
+}
+
+/// Does nothing but bring the law on any two seats into the proof, for all of them.
+fn all_agree<J: RegistryId>(seats: &[Seat<J>])
+    ensures { HaveSeenOneList seats.now }
+{
+    for seat in seats {
+        agrees_with_all(seat, seats);
+    }
+}
+
+/// The same for one of the seats.
+fn agrees_with_all<J: RegistryId>(seat: &Seat<J>, seats: &[Seat<J>])
+    ensures { (i : ℕ) (s : Seated) → i < length seats.now → AreOneList seat.now.seen (get_or seats.now i s).seen }
+{
+    for other in seats {
+        one_list(seat, other);
+    }
+}
+
+/// Runs one worker with its seat, and returns the seat: it serves the connections of its queue, one after another.
 fn work<J: RegistryId, R: Wait>(
     context: &ServerContext<'_, J, R>,
     mut seat: Seat<J>,
     queue: &Queue,
-) {
+) -> Seat<J>
+    ensures { Grew J.domain seat result }
+{
     for _ in context.rt.forever() {
         let Some(connection) = queue.take(context.rt) else {
             break
         };
         seat = attend(context, seat, &connection);
     }
+    seat
 }
 
 /// Serves one connection, closes it in any case, and returns the seat.
@@ -212,7 +310,9 @@ fn attend<J: RegistryId, R: Wait>(
     context: &ServerContext<'_, J, R>,
     seat: Seat<J>,
     connection: &Connection,
-) -> Seat<J> {
+) -> Seat<J>
+    ensures { Grew J.domain seat result }
+{
     // so a reply is sent without delay; if the option can't be set, replies are sent all the same
     let _ = connection.stream.set_nodelay(true);
     let mut input = Input::new(CountedDevice::new(&connection.stream));

@@ -38,6 +38,8 @@ pub struct Hosted {
     pub accepts: u64,
     /// The number of pauses.
     pub pauses: u64,
+    /// The commit number that each seat has seen at the end, in the order of the workers.
+    pub places: Vec<u64>,
 }
 
 /// The clients of a server.
@@ -291,7 +293,7 @@ fn both<
         calls: &calls,
     };
     let connections = plan.connections;
-    let (ended, answers) = thread::join(
+    let ((seats, ended), answers) = thread::join(
         rt,
         ||
             requires workers { 0 < length queues.now }
@@ -299,10 +301,15 @@ fn both<
         { serve_connections(shared, seats, queues, listener, connections) },
         || answers_of(rt, alloc, address, queues, callers),
     );
+    let mut places = Vec::new(alloc);
+    for seat in &seats {
+        places.push(seat.place())?;
+    }
     Ok(Hosted {
         ended,
         answers: answers?,
         accepts: calls.load(Ordering::SeqCst),
         pauses: watched.pauses(),
+        places,
     })
 }

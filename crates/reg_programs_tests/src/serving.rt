@@ -143,3 +143,40 @@ fn a_connection_draws_ids_from_its_own_stream(rt: HostRuntime) -> Result<(), Fai
     let callers = InTurn(&[TWO_CREATES, ONE_CREATE]);
     are_answered(&rt, rt.alloc(), 1, 2, false, &callers, CREATED)
 }
+
+/// Asserts what the seats of a server with these numbers of workers and connections have seen at its end.
+fn have_seen<
+    R: Abort + Threads + Wait + Clock + Net<Listener = TcpListener, Stream = TcpStream> + Sync,
+    C: Callers,
+>(
+    rt: &R,
+    alloc: Global,
+    workers: usize,
+    connections: u64,
+    callers: &C,
+    expected: &[u64],
+) -> Result<(), Fail>
+    requires workers { 0 < workers }
+{
+    let plan = Plan {
+        workers,
+        connections,
+        errors: &[],
+        waits: true,
+    };
+    let hosted = host(rt, alloc, plan, callers)?;
+    holds(rt, hosted.ended.is_ok(), "the server ends well");
+    holds(
+        rt,
+        hosted.places.as_slice() == expected,
+        "what the seats have seen",
+    );
+    Ok(())
+}
+
+/// The worker of the second connection has seen both commits of the first one; the third worker has no connection.
+#[test]
+fn the_seats_come_back_with_what_they_have_seen(rt: HostRuntime) -> Result<(), Fail> {
+    let callers = InTurn(&[FIRST_LINES, QUESTION]);
+    have_seen(&rt, rt.alloc(), 3, 2, &callers, &[2, 2, 0])
+}
