@@ -29,7 +29,7 @@ type settings struct {
 	members, etcdFiles, prefix string
 	listen, fresh, status      string
 	files                      server.Files
-	isSnapshot                 bool
+	isSnapshot, isVersion      bool
 	keep                       uint64
 	skip                       etcd.Line
 }
@@ -52,6 +52,7 @@ func parse(words []string) (s settings, err error) {
 	flags.StringVar(&s.files.Authorities, "authorities", "", "TLS: the `file` of the authorities of callers")
 	operators := flags.String("operators", "", "TLS: the SPIFFE `IDs` of callers that may send every line, separated by commas")
 	addLimits(flags, &s.Limits)
+	flags.BoolVar(&s.isVersion, "version", false, "print the version, and exit")
 	flags.BoolVar(&s.isSnapshot, "snapshot", false, "make a snapshot, cut the log behind it, and exit")
 	skip := flags.String("skip", "", "make all replicas leave out a `line`, given as the number of its entry, a point, and its number there, and exit")
 	flags.StringVar(&s.Replies, "replies", "1", "a `version`: gateways with the same one have to give the same replies")
@@ -68,6 +69,8 @@ func parse(words []string) (s settings, err error) {
 	switch {
 	case flags.NArg() > 0:
 		err = fmt.Errorf("an unknown word: %s", flags.Arg(0))
+	case s.isVersion:
+		return s, nil
 	case s.Replica.Domain == "":
 		err = errors.New("-domain is required")
 	case s.Replica.Workers < 2 || s.Replica.Workers > 32:
@@ -119,6 +122,12 @@ func main() {
 	s, err := parse(os.Args[1:])
 	if err != nil {
 		os.Exit(2)
+	}
+	if s.isVersion {
+		if _, err := fmt.Println("regd-gateway", version); err != nil {
+			os.Exit(1)
+		}
+		return
 	}
 	ctx, stop := signal.NotifyContext(context.Background(), syscall.SIGINT, syscall.SIGTERM)
 	go func() {

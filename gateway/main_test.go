@@ -45,6 +45,18 @@ func TestMain(m *testing.M) {
 	os.Exit(m.Run())
 }
 
+// TestVersion checks that the gateway prints the version of the file VERSION, and ends without a domain.
+func TestVersion(t *testing.T) {
+	want, err := os.ReadFile("../VERSION")
+	if err != nil {
+		t.Fatal(err)
+	}
+	got, err := exec.Command(os.Args[0], "gateway", "-version").Output()
+	if err != nil || string(got) != "regd-gateway "+string(want) {
+		t.Errorf("%q, %v; want the version %q", got, err, want)
+	}
+}
+
 func TestParse(t *testing.T) {
 	const tls = " -certificate c -key k -authorities a"
 	for _, c := range []struct {
@@ -55,6 +67,8 @@ func TestParse(t *testing.T) {
 		{"-domain ex.org -listen localhost:1 -fresh 127.0.0.9:2 -workers 32", ""},
 		{"-domain ex.org -listen [::1]:1", ""},
 		{"-domain ex.org -listen 0.0.0.0:1 -operators spiffe://ex.org/o" + tls, ""},
+		{"-version", ""},
+		{"-version x", "unknown"},
 		{"", "-domain"},
 		{"-domain ex.org x", "unknown"},
 		{"-domain ex.org -workers 1", "-workers"},

@@ -15,7 +15,6 @@ from regdtools.program import ROOT
 PREFIX = "/usr"
 NAME = "regd"
 ARCHITECTURES = {"x86_64": "amd64", "aarch64": "arm64"}
-VERSION = re.compile(r"^## (\d+(?:\.\d+)+|Unreleased)\b", re.MULTILINE)
 # the versions of symbols of the C library, in the string table of a program
 SYMBOLS = re.compile(rb"\0GLIBC_2\.(\d+)")
 SUGGESTED = ["etcd-client", "etcd-server", "haproxy", "openssl", "python3"]
@@ -58,10 +57,9 @@ if [ "$1" = remove ] && [ -d /run/systemd/system ]; then systemctl daemon-reload
 
 
 def version():
-    """Returns the version of the package, from the headings of CHANGELOG.md."""
-    found = VERSION.findall((ROOT / "CHANGELOG.md").read_text())
-    released = next((word for word in found if word != "Unreleased"), "0")
-    return released if found[:1] == [released] else f"{released}+unreleased.{moment()}"
+    """Returns the version of the package: the text of VERSION, with the time of the commit if it isn't that of a release."""
+    found = (ROOT / "VERSION").read_text().strip()
+    return f"{found}.{moment()}" if found.endswith("+unreleased") else found
 
 
 def architecture():
