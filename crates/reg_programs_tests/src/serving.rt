@@ -117,6 +117,17 @@ fn a_sleeping_worker_is_woken(rt: HostRuntime) -> Result<(), Fail> {
     are_answered(&rt, rt.alloc(), 2, 2, true, &callers, expected.as_str())
 }
 
+/// A worker that is woken before its queue is closed mostly finds it closed all the same, so the server ends many times with many
+/// sleeping workers.
+#[test]
+fn each_sleeping_worker_is_woken_by_the_end(rt: HostRuntime) -> Result<(), Fail> {
+    let callers = InTurn(&[""]);
+    for _ in 0..20 {
+        are_answered(&rt, rt.alloc(), 16, 1, true, &callers, "")?;
+    }
+    Ok(())
+}
+
 #[test]
 fn a_worker_keeps_its_seat(rt: HostRuntime) -> Result<(), Fail> {
     let expected = format!(in rt.alloc(); "{FIRST_ANSWERS}{FOURTH_ANSWER}")?;
