@@ -75,7 +75,7 @@ func parse(words []string) (s settings, err error) {
 	case *skip != "" && !isLine:
 		err = errors.New("-skip takes a line, such as 17.1")
 	case !s.Limits.IsValid():
-		err = fmt.Errorf("a limit is not above 0, or -limit-line-bytes is above %d", server.UsualLimits.LineBytes)
+		err = fmt.Errorf("a limit is negative, or 0 although it is needed, or -limit-line-bytes is above %d", server.UsualLimits.LineBytes)
 	case isTLS && (s.files.Certificate == "" || s.files.Key == "" || s.files.Authorities == ""):
 		err = errors.New("TLS takes -certificate, -key and -authorities")
 	case !isTLS && *operators != "":
@@ -98,7 +98,11 @@ func addLimits(flags *flag.FlagSet, l *server.Limits) {
 	flags.DurationVar(&l.Idle, "limit-idle", l.Idle, "the time between two lines of a connection")
 	flags.DurationVar(&l.Line, "limit-line", l.Line, "the time from the first byte of a line to its last one")
 	flags.DurationVar(&l.Write, "limit-write", l.Write, "the time for a caller to read when its answers fill all buffers")
+	flags.DurationVar(&l.Silent, "limit-silent", l.Silent,
+		"the time without an answer of etcd, after which queries are refused; 0 for none")
 	flags.DurationVar(&l.Stop, "limit-stop", l.Stop, "the time for lines that are under way after SIGTERM")
+	flags.IntVar(&l.Lag, "limit-lag", l.Lag,
+		"entries of the log that are not executed, beyond which queries are refused; 0 for none")
 	flags.IntVar(&l.LineBytes, "limit-line-bytes", l.LineBytes, "bytes of a line")
 	flags.IntVar(&l.Lines, "limit-lines", l.Lines, "lines of a connection that are under way")
 	flags.IntVar(&l.LongLines, "limit-long-lines", l.LongLines, "lines of over 8 KiB, of all connections, that are under way")

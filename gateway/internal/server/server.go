@@ -27,11 +27,13 @@ type Limits struct {
 	Idle      time.Duration // for a caller to begin a line
 	Line      time.Duration // for the rest of the line
 	Write     time.Duration // for a caller to read when its answers fill all buffers
+	Silent    time.Duration // of etcd, after which queries are refused; 0 for none
 	Stop      time.Duration // for lines that are under way when the gateway shuts down
 	Votes     time.Duration // between two looks at the votes
 	Members   time.Duration // between two looks at the members of etcd
 	Status    time.Duration // for a request for the status, and for its answer
 
+	Lag               int   // entries of the log that the replica has not executed, beyond which queries are refused; 0 for none
 	LineBytes         int   // of a line, without its line feed
 	Lines             int   // of a connection that are under way
 	LongLines         int   // of over 8 KiB, of all connections
@@ -44,13 +46,18 @@ type Limits struct {
 // UsualLimits are the defaults of the program.
 var UsualLimits = Limits{
 	Answer: 20 * time.Second, After: 2 * time.Second, Handshake: 10 * time.Second, Idle: 15 * time.Minute, Line: 30 * time.Second,
-	Write: 20 * time.Second, Stop: 25 * time.Second, Votes: 5 * time.Second, Members: 10 * time.Second, Status: 10 * time.Second,
+	Write: 20 * time.Second, Silent: time.Minute, Lag: 10000, Stop: 25 * time.Second, Votes: 5 * time.Second, Members: 10 * time.Second, Status: 10 * time.Second,
 	LineBytes: wire.MaxLine, Lines: 256, LongLines: 64, Changes: 4096, ReplyBytes: 512 << 20, Connections: 10000, CallerConnections: 100,
 }
 
-// IsValid returns true if all limits are above 0, and lines are not longer than regd accepts them.
+// IsValid returns true if all limits are above 0, but for those that may be none, and lines are not longer than regd accepts them.
 func (l Limits) IsValid() bool {
-	for i, limits := 0, reflect.ValueOf(l); i < limits.NumField(); i++ {
+	if l.Silent < 0 || l.Lag < 0 {
+		return false
+	}
+	l.Silent, l.Lag = 1, 1
+	limits := reflect.ValueOf(l)
+	for i := 0; i < limits.NumField(); i++ {
 		if limits.Field(i).Int() <= 0 {
 			return false
 		}
@@ -93,8 +100,9 @@ type Gateway struct {
 
 	isDisputed atomic.Bool
 	sessions   atomic.Int64  // open ones
+	started    time.Time     // when New was called
 	head       atomic.Uint64 // where the log ended when etcd was last asked
-	headTime   atomic.Int64  // when that was, in seconds
+	heardAfter atomic.Int64  // how long after started that was, in nanoseconds
 	members    atomic.Pointer[[]etcd.Member]
 	skips      atomic.Pointer[etcd.Skips]
 	failure    atomic.Pointer[failure]
@@ -106,7 +114,7 @@ type Gateway struct {
 // New returns a gateway of a log.
 func New(log *etcd.Log, options Options) *Gateway {
 	g := &Gateway{
-		log: log, options: options, run: wire.NewID(), board: board{changed: make(chan struct{})},
+		log: log, options: options, run: wire.NewID(), started: time.Now(), board: board{changed: make(chan struct{})},
 		changes: make(chan *request, options.Limits.Changes), long: make(chan struct{}, options.Limits.LongLines),
 		handshakes: make(chan struct{}, runtime.GOMAXPROCS(0)),
 		stop:       make(chan struct{}), crowd: crowd{counts: map[string]int{}}, marks: make(chan replica.State, votesLeft),
@@ -116,7 +124,6 @@ func New(log *etcd.Log, options Options) *Gateway {
 	}
 	g.options.Replica.ReplyBytes = int(options.Limits.ReplyBytes) / 2 / len(g.turns) // those that are read take no more room than those that are not yet sent
 	g.skips.Store(&etcd.Skips{})
-	g.headTime.Store(time.Now().Unix())
 	return g
 }
 

@@ -81,9 +81,7 @@ func (s *session) serve(ctx context.Context) {
 			line, code = wire.ForLog(line)
 		}
 		if code != "" {
-			s.add(s.request(nil)).answer(wire.Refusal(code))
-			s.freeTurn()
-			etcd.Pause(ctx, floodPause) // a refused line needs no regd, so there is no turn for it
+			s.refuse(ctx, code)
 			continue
 		}
 		if (isChange != s.isChanging || s.isFresh) && !s.writeAnswers(ctx, 0) {
@@ -94,6 +92,13 @@ func (s *session) serve(ctx context.Context) {
 		}
 	}
 	s.writeAnswers(ctx, 0)
+}
+
+// refuse answers a line with a code, and pauses: a refused line needs no regd, so there is no turn for it.
+func (s *session) refuse(ctx context.Context, code string) {
+	s.add(s.request(nil)).answer(wire.Refusal(code))
+	s.freeTurn()
+	etcd.Pause(ctx, floodPause)
 }
 
 // isFull returns true if no further line may be under way before some are answered. Connections with lines under way have equal shares, so that one
@@ -279,7 +284,11 @@ func (s *session) query(ctx context.Context, line []byte) bool {
 	} else if !s.takeTurn(ctx) {
 		return false
 	}
-	_, state := s.board.read()
+	r, state := s.board.read()
+	if !s.isFresh && r != nil && s.isOutdated(state.Entry) {
+		s.refuse(ctx, wire.Outdated)
+		return true
+	}
 	if after := wire.After(line); after > state.Place {
 		if !s.writeAnswers(ctx, 0) {
 			return false

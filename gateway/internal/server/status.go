@@ -14,7 +14,8 @@ import (
 	"regd/gateway/internal/wire"
 )
 
-// silentLimit is how long etcd may be silent before a balancer should send changes to another gateway.
+// silentLimit is how long etcd may be silent before a balancer should send changes to another gateway. Limits has
+// that for queries.
 const silentLimit = 5 * time.Second
 
 // stats are what a gateway counts.
@@ -45,13 +46,28 @@ func (g *Gateway) Handler() http.Handler {
 
 // isReady returns true if queries can be answered.
 func (g *Gateway) isReady() bool {
-	r, _ := g.board.read()
-	return r != nil && !g.isStopping.Load()
+	r, state := g.board.read()
+	return r != nil && !g.isStopping.Load() && !g.isOutdated(state.Entry)
 }
 
-// silence returns for how long etcd has not said where the log ends. It is asked once a second.
+// isOutdated returns true if a book with this last entry may be older than queries of the usual port accept: etcd has
+// not said for too long where the log ends, or there are too many entries behind this one.
+func (g *Gateway) isOutdated(entry uint64) bool {
+	limits := g.options.Limits
+	isSilent := limits.Silent > 0 && g.silence() > limits.Silent
+	return isSilent || limits.Lag > 0 && g.lag(entry) > uint64(limits.Lag)
+}
+
+// silence returns for how long etcd has not said where the log ends. It is asked once a second. A clock that is set
+// makes no difference.
 func (g *Gateway) silence() time.Duration {
-	return time.Duration(time.Now().Unix()-g.headTime.Load()) * time.Second
+	return time.Since(g.started) - time.Duration(g.heardAfter.Load())
+}
+
+// hear takes note of where the log ends, as etcd has just said.
+func (g *Gateway) hear(head uint64) {
+	g.head.Store(head)
+	g.heardAfter.Store(int64(time.Since(g.started)))
 }
 
 // serveReady answers with 200 or 503.
@@ -102,8 +118,7 @@ func (g *Gateway) serveStatus(w http.ResponseWriter, _ *http.Request) {
 func (g *Gateway) askHead(ctx context.Context) error {
 	for ctx.Err() == nil {
 		if head, err := g.log.Head(ctx); err == nil {
-			g.head.Store(head)
-			g.headTime.Store(time.Now().Unix())
+			g.hear(head)
 		}
 		etcd.Pause(ctx, time.Second)
 	}
@@ -136,7 +151,7 @@ func (g *Gateway) serveMetrics(w http.ResponseWriter, _ *http.Request) {
 	p.Histogram(name+"change_duration_seconds", "Times from a line that may be a change to its answer.", &g.changed)
 	p.Histogram(name+"query_duration_seconds", "Times from any other line to its answer.", &g.queries)
 	p.Vector(name+"refusals_total", "Answers with a code, by code.", "code", &g.refusals,
-		wire.NotAllowed, wire.TooMixed, wire.NoRoom, wire.TooMany, wire.Busy, wire.TooLong, wire.Skipped)
+		wire.NotAllowed, wire.TooMixed, wire.NoRoom, wire.TooMany, wire.Busy, wire.TooLong, wire.Skipped, wire.Outdated)
 	p.Histogram(name+"append_duration_seconds", "Times in which etcd accepted an entry of this gateway.", &g.appends)
 	p.Gauge(name+"reply_bytes", "Bytes of replies that are not yet sent.", float64(g.held.Load()))
 	p.Gauge(name+"changes_waiting", "Changes that wait to be appended.", float64(len(g.changes)))

@@ -20,7 +20,7 @@ SERVER, REPLICA, LOG, CLIENT, WIRE, SNAPSHOT = (f"internal/{name}" for name in (
 SESSION, APPEND, BOARD, FOLLOW, FRESH, VOTES, CALLER, STATUS, CERTIFICATES = (
     f"internal/server/{name}.go" for name in (
         "session", "append", "board", "follow", "fresh", "votes", "caller", "status", "certificates"))
-LINK, PROCESS = "internal/replica/link.go", "internal/replica/process.go"
+LINK, PROCESS, LOGLINE = "internal/replica/link.go", "internal/replica/process.go", "internal/logline/logline.go"
 LINE, TOKEN, UUID, BATCH, REPLY, AGENT = (f"internal/wire/{name}.go" for name in ("line", "token", "uuid", "batch", "reply", "agent"))
 MAIN, BOOK, MEMBERS, METRICS, SKIP = (
     "main.go", "internal/snapshot/book.go", "internal/etcd/members.go", "internal/metrics/metrics.go", "internal/etcd/skip.go")
@@ -53,10 +53,12 @@ FEATURES = [
     ("operators are a list", MAIN, 'strings.Split(*operators, ",")', "[]string{*operators}", "TestCertificates"),
     ("members are a list", MAIN, 'strings.Split(s.members, ",")', "[]string{s.members}", "TestProgram"),
     *((f"-limit-{name}", MAIN, f'"limit-{name}", ', f'"no-limit-{name}", ', "TestLimits") for name in (
-        "answer", "after", "handshake", "idle", "line", "write", "stop", "line-bytes", "lines", "long-lines", "changes", "reply-bytes", "connections",
+        "answer", "after", "handshake", "idle", "line", "write", "silent", "lag", "stop", "line-bytes", "lines", "long-lines", "changes", "reply-bytes", "connections",
         "caller-connections")),
     ("limits are above 0", MAIN, "case !s.Limits.IsValid():", "case false:", "TestParse"),
     ("0 is no limit", SERVER, "limits.Field(i).Int() <= 0 {", "limits.Field(i).Int() < 0 {", "TestParse"),
+    ("but for those that may be none", SERVER, "\tl.Silent, l.Lag = 1, 1\n", "", "TestParse"),
+    ("which are not negative", SERVER, "if l.Silent < 0 || l.Lag < 0 {", "if false {", "TestParse"),
     ("lines are not longer than regd accepts them", SERVER, "return l.LineBytes <= wire.MaxLine", "return true", "TestParse"),
     ("-snapshot", MAIN, "case s.isSnapshot:", "case false:", "TestProgram"),
     ("-keep", MAIN, "s.Replica, s.keep)", "s.Replica, 0)", "TestProgram"),
@@ -126,6 +128,9 @@ FEATURES = [
     ("while they do", SESSION, "\t\ts.flooding.Add(-1)\n", "", "TestFlood"),
     ("not when they have left", SESSION, "\ts.freeTurn()\n\ts.endStreak()\n", "\ts.freeTurn()\n", "TestTurnsEnd"),
     ("not fresh ones", SESSION, "if s.isFresh { // these", "if s.isFresh = s.isFresh && s.takeTurn(ctx); s.isFresh { // these", "TestTurns"),
+    ("a book that may be too old answers no query", SESSION, "r != nil && s.isOutdated(state.Entry)", "r == nil && s.isOutdated(state.Entry)", "TestOutdated"),
+    ("but for fresh ones", SESSION, "if !s.isFresh && r != nil && s.isOutdated", "if r != nil && s.isOutdated", "TestLag"),
+    ("queries wait for a replica", SESSION, "r != nil && s.isOutdated", "s.isOutdated", "TestOutdatedReplay"),
     ("a turn ends before a commit is waited for", SESSION, "\t\ts.freeTurn()\n\t\tlate", "\t\tlate", "TestTurnsEnd"),
     ("each worker has turns", SERVER, "len(g.turns) < options.Replica.Workers-1 {", "len(g.turns) < 1 {", "TestTurns"),
     ("a turn ends before a caller is waited for", SESSION, "\ts.freeTurn()\n\tlong", "\tlong", "TestTurnsEnd"),
@@ -233,7 +238,7 @@ FEATURES = [
     ("a replica that has ended is not on the board", FOLLOW, "\tdefer g.board.update(func() { g.board.replica, g.board.state = nil, replica.State{} })\n", "", "TestReplicaIsAway"),
     ("nor is its state", FOLLOW, "nil, replica.State{} })", "nil, g.board.state })", "TestReplicaIsAway"),
     ("no session is woken without a replica", BOARD, "if b.replica != nil { // no session", "if b != nil { // no session", "TestBoardSleeps"),
-    ("a caller pauses after a refused line", SESSION, "\t\t\tetcd.Pause(ctx, floodPause) // a refused", "\t\t\t// a refused", "TestRefusedLines"),
+    ("a caller pauses after a refused line", SESSION, "\ts.freeTurn()\n\tetcd.Pause(ctx, floodPause)\n", "\ts.freeTurn()\n", "TestRefusedLines"),
     ("an answered line takes no memory", SESSION, "s.row[0], s.row, s.progress = nil, s.row[1:], time.Now()", "s.row, s.progress = s.row[1:], time.Now()", "TestAnsweredRow"),
     ("what waited for a reply takes none", LINK, "l.waiting[0], l.waiting = nil, l.waiting[1:]", "l.waiting = l.waiting[1:]", "TestReplyCutOff"),
     ("a snapshot goes on with the log of the last one", SNAPSHOT, "old.Entry+1, old.Name, func", 'old.Entry+1, "", func', "TestReplayTurnedBack"),
@@ -250,7 +255,7 @@ FEATURES = [
     ("a gateway votes", FOLLOW, "case g.marks <- state:", "case make(chan replica.State) <- state:", "TestMarks"),
     ("every 1,000 entries", FOLLOW, "if state.Entry%voteInterval == 0 {", "{", "TestMarks"),
     ("votes never hold up a replica", FOLLOW, "\t\tdefault: // while etcd doesn't answer, those that there is no room for don't count\n", "", "TestMarks"),
-    ("the status says where the log ends", STATUS, "\t\t\tg.head.Store(head)\n", "\t\t\t_ = head\n", "TestStatus"),
+    ("the status says where the log ends", STATUS, "\tg.head.Store(head)\n", "\t_ = head\n", "TestStatus"),
     ("also while there is no replica", SERVER, "g.askHead, ", "", "TestFailingLine"),
     ("fresh queries share requests", FRESH, "if g.fresh.answered > begun {", "if false && g.fresh.answered > begun {", "TestFreshHead"),
     ("a shared request began after the query", FRESH, "g.fresh.answered > begun", "g.fresh.answered >= begun", "TestGateways"),
@@ -273,8 +278,9 @@ FEATURES = [
     ("/status: sum", STATUS, 'fmt.Sprintf("%x", state.Sum)', 'fmt.Sprintf("%x", state.Sum[:0])', "TestStatus"),
     ("/status: head", STATUS, '"head": g.head.Load()', '"head": 0', "TestStatus"),
     ("/status: lag", STATUS, '"lag": g.lag(state.Entry)', '"lag": 0', "TestStatus"),
-    ("/status: silent", STATUS, "time.Now().Unix()-g.headTime.Load()", "0", "TestSilent"),
-    ("/status: silent while nothing was heard", SERVER, "\tg.headTime.Store(time.Now().Unix())\n", "", "TestStatus"),
+    ("/status: silent", STATUS, "time.Since(g.started) -", "0*time.Since(g.started) -", "TestSilent"),
+    ("a clock that is set makes no difference", SERVER, "started: time.Now(),", "started: time.Now().Round(0),", "TestClock"),
+    ("/status: silent while nothing was heard", SERVER, "started: time.Now(), ", "", "TestStatus"),
     ("/status: sessions", STATUS, '"sessions": g.sessions.Load()', '"sessions": 0', "TestStatus"),
     ("/status: sessions that ended don't count", SERVER, "\tdefer g.sessions.Add(-1)\n", "", "TestSlowCallers"),
     ("/status: etcd", STATUS, '"etcd": g.members.Load()', '"etcd": nil', "TestStatus"),
@@ -282,6 +288,11 @@ FEATURES = [
     ("/status: tokens", STATUS, "len(r.Tokens())", "len(r.Tokens()[:0])", "TestStatus"),
     ("a gateway that has executed more than it knows of doesn't lag", STATUS, "head > entry {", "head != entry {", "TestStatus"),
     ("/ready", STATUS, "\tif !isReady {\n\t\tw.WriteHeader(http.StatusServiceUnavailable)\n\t}\n\tfmt", "\tfmt", "TestReady"),
+    ("/ready while the book is not too old", STATUS, " && !g.isOutdated(state.Entry)", " && state.Entry >= 0", "TestOutdated"),
+    ("-limit-silent has an effect", STATUS, "g.silence() > limits.Silent", "g.silence() > 1<<62", "TestOutdated"),
+    ("0 is no limit of silence", STATUS, "limits.Silent > 0 && ", "", "TestOutdated"),
+    ("-limit-lag has an effect", STATUS, "g.lag(entry) > uint64(limits.Lag)", "g.lag(entry) > 1<<62", "TestLag"),
+    ("0 is no limit of the lag", STATUS, "limits.Lag > 0 && ", "", "TestLag"),
     ("/ready/changes", STATUS, "g.isReady() && g.silence() <= silentLimit", "g.isReady()", "TestReady"),
     ("/ready/changes needs a replica", STATUS, "g.isReady() && g.silence() <= silentLimit", "g.silence() <= silentLimit", "TestReady"),
     ("the members of etcd are asked", SERVER, "g.askMembers, func", "func", "TestStatus"),
@@ -432,9 +443,10 @@ FEATURES = [
     ("connections are used again, several at a time", LOG, "MaxIdleConnsPerHost: 16, ", "", "TestConnections"),
     ("a request is repeated", CLIENT, "if err == nil || ctx.Err() != nil {\n\t\t\treturn ctx.Err()", "if err == nil || ctx != nil {\n\t\t\treturn err", "TestInsist"),
     ("a request is repeated after a pause", CLIENT, "\t\tPause(ctx, retryTime)\n", "", "TestPauses"),
-    ("log lines quote values", "internal/logline/logline.go", " %v=%q", " %v=%v", "TestFormat"),
-    ("log lines quote events", "internal/logline/logline.go", "event=%q", "event=%v", "TestFormat"),
-    ("a rare event is logged once a minute", "internal/logline/logline.go", "now >= next && ", "", "TestRare"),
+    ("log lines quote values", LOGLINE, " %v=%q", " %v=%v", "TestFormat"),
+    ("log lines quote events", LOGLINE, "event=%q", "event=%v", "TestFormat"),
+    ("a rare event is logged once a minute", LOGLINE, "int64(now) >= next && ", "", "TestRare"),
+    ("of a clock that nobody sets", LOGLINE, "var started = time.Now()", "var started = time.Now().Round(0)", "TestRareClock"),
     # a replica
     ("few changes are open", PROCESS, "make(chan struct{}, mostOpen)", "make(chan struct{}, 100*mostOpen)", "TestOpenChanges"),
     ("a repeated change waits for those under way", REPLICA, "\t\tif r.find(tokened.Token) != nil { // rare, and the answer may depend on changes that are under way\n\t\t\tr.Settle()\n\t\t}\n", "", "TestTokens"),
