@@ -434,32 +434,99 @@ func TestCertificates(t *testing.T) {
 	}
 }
 
-// TestFailuresAreLoggedOnce lets etcd refuse requests for a second: the program logs one line when that begins, and one when it ends.
+// TestFailuresAreLoggedOnce lets etcd refuse all requests, and then, for want of space, changes alone. The program logs each reason for each kind of
+// request once, and once when such a request is answered again.
 func TestFailuresAreLoggedOnce(t *testing.T) {
 	s := newSite(t)
 	var logged bytes.Buffer
 	state := s.freeAddress()
 	gateway := s.command("-status", state)
 	gateway.Stderr = &logged
-	out, _ := gateway.StdoutPipe()
-	if err := gateway.Start(); err != nil {
+	out, err := gateway.StdoutPipe()
+	if err == nil {
+		err = gateway.Start()
+	}
+	if err != nil {
 		t.Fatal(err)
 	}
 	t.Cleanup(func() { gateway.Process.Kill() })
-	bufio.NewReader(out).ReadString('\n')
-	s.store.Refuse(1 << 30)
-	time.Sleep(1500 * time.Millisecond) // in which where the log ends is asked, and asked again
-	if text := s.get("http://" + state + "/metrics"); strings.Contains(text, "\nregd_gateway_etcd_failures_total 0\n") {
-		t.Errorf("metrics: got %s", text)
+	var first struct{ Listening string }
+	if err := json.NewDecoder(out).Decode(&first); err != nil {
+		t.Fatal(err)
 	}
+	failures := func() (count float64) {
+		for _, line := range strings.Split(s.get("http://"+state+"/metrics"), "\n") {
+			if value := strings.TrimPrefix(line, "regd_gateway_etcd_failures_total "); value != line {
+				fmt.Sscan(value, &count)
+			}
+		}
+		return count
+	}
+	s.store.Refuse(1 << 30)
+	conn, err := net.Dial("tcp", first.Listening)
+	if err != nil {
+		t.Fatal(err)
+	}
+	defer conn.Close()
+	fmt.Fprintln(conn, prune)
+	s.within("few requests fail", func() bool { return failures() > 4 })
+	s.store.Fill(true)
 	s.store.Refuse(0)
-	time.Sleep(time.Second)
+	before := failures()
+	s.within("no changes fail", func() bool { return failures() > before+4 })
+	s.store.Fill(false)
+	s.expect("the change", s.ask(conn, show), `{"call":1,"place":1,"replies":[{"pruned":["1"]}],"result":"committed"}`+"\n")
 	gateway.Process.Signal(syscall.SIGTERM)
 	s.status(gateway)
-	for _, event := range []string{`event="etcd doesn't answer" path="/v3/kv/range"`, `event="etcd answers again" path="/v3/kv/range"`} {
-		if count := strings.Count(logged.String(), event); count != 1 {
+	for event, least := range map[string]int{
+		`doesn't answer" request="append" error="etcd: 503`: 1, `doesn't answer" request="append" error="etcd: 429`: 1,
+		`answers again" request="append"`: 1, `doesn't answer" request="get" error="etcd: 503`: 0, `answers again" request="get"`: 0,
+	} {
+		if count := strings.Count(logged.String(), event); count < least || count > 1 {
 			t.Errorf("%s: %d times in %s", event, count, logged.String())
 		}
+	}
+}
+
+// TestSlowAppendIsLogged lets etcd accept a change after it had refused it, and not answer: the entry in the log is the end of the failure.
+func TestSlowAppendIsLogged(t *testing.T) {
+	s := newSite(t)
+	var logged bytes.Buffer
+	state := s.freeAddress()
+	gateway := s.command("-status", state)
+	gateway.Stderr = &logged
+	out, err := gateway.StdoutPipe()
+	if err == nil {
+		err = gateway.Start()
+	}
+	if err != nil {
+		t.Fatal(err)
+	}
+	t.Cleanup(func() { gateway.Process.Kill() })
+	var first struct{ Listening string }
+	if err := json.NewDecoder(out).Decode(&first); err != nil {
+		t.Fatal(err)
+	}
+	s.store.Fill(true)
+	conn, err := net.Dial("tcp", first.Listening)
+	if err != nil {
+		t.Fatal(err)
+	}
+	defer conn.Close()
+	fmt.Fprintln(conn, prune)
+	s.within("no append fails", func() bool {
+		return !strings.Contains(s.get("http://"+state+"/metrics"), "\nregd_gateway_etcd_failures_total 0\n")
+	})
+	defer s.store.HoldAnswers()()
+	s.store.Fill(false)
+	s.expect("the change", s.ask(conn, show), `{"call":1,"place":1,"replies":[{"pruned":["1"]}],"result":"committed"}`+"\n")
+	s.within("the append goes on", func() bool {
+		return !strings.Contains(s.get("http://"+state+"/metrics"), "\nregd_gateway_append_duration_seconds_count 0\n")
+	})
+	gateway.Process.Signal(syscall.SIGTERM)
+	s.status(gateway)
+	if count := strings.Count(logged.String(), `event="etcd answers again" request="append"`); count != 1 {
+		t.Errorf("logged %s", logged.String())
 	}
 }
 

@@ -11,6 +11,7 @@ import (
 	"sync"
 	"time"
 
+	"regd/gateway/internal/etcd"
 	"regd/gateway/internal/logline"
 )
 
@@ -101,7 +102,7 @@ func (c *Certificates) Server() *tls.Config {
 func (c *Certificates) Dial(ctx context.Context, network, address string) (net.Conn, error) {
 	config := c.current().Clone()
 	config.MinVersion = tls.VersionTLS12
-	return (&tls.Dialer{Config: config}).DialContext(ctx, network, address)
+	return (&tls.Dialer{NetDialer: etcd.Dialer, Config: config}).DialContext(ctx, network, address)
 }
 
 // Expiry returns when the certificate expires.

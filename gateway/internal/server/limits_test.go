@@ -291,6 +291,7 @@ func TestChangesLimit(t *testing.T) {
 		t.Errorf("after the change: got %s", got)
 	}
 	s.store.Refuse(0)
+	within(t, "changes wait", func() bool { _, state := g.board.read(); return state.Place == 3 })
 	s.expect("another change", s.call(address, prune), committed(1, 4))
 }
 

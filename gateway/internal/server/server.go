@@ -83,7 +83,7 @@ type Gateway struct {
 	options    Options
 	run        string // no other gateway, and no other run of this one, has it
 	board      board
-	flights    sync.Map // from the names of this gateway's entries that are not yet answered to their changes
+	flights    sync.Map // from the names of this gateway's entries that are not yet answered to *flight
 	changes    chan *request
 	long       chan struct{}   // one for each long line that is under way
 	turns      []chan struct{} // for each worker of regd, of callers that send many queries together
@@ -99,6 +99,7 @@ type Gateway struct {
 	marks      chan replica.State // checksums to vote for
 
 	isDisputed atomic.Bool
+	isLogLost  atomic.Bool   // the log was found empty, and has not this gateway's book
 	sessions   atomic.Int64  // open ones
 	started    time.Time     // when New was called
 	head       atomic.Uint64 // where the log ended when etcd was last asked
@@ -108,7 +109,7 @@ type Gateway struct {
 	failure    atomic.Pointer[failure]
 	stats
 
-	acceptFails, crowded, callerCrowded, changesWait, longWait, noRoom logline.Rare
+	acceptFails, readAgain, crowded, callerCrowded, changesWait, longWait, noRoom logline.Rare
 }
 
 // New returns a gateway of a log.

@@ -323,7 +323,7 @@ func TestNoAnswer(t *testing.T) {
 	t.Parallel()
 	s := newSite(t)
 	s.limits.Answer = 300 * time.Millisecond
-	_, usual, fresh := s.gateway("a")
+	g, usual, fresh := s.gateway("a")
 	s.store.Refuse(1 << 30)
 	begin := time.Now()
 	s.expect("a change", s.call(usual, prune, show))
@@ -334,6 +334,7 @@ func TestNoAnswer(t *testing.T) {
 		t.Errorf("the connections ended after %v", took)
 	}
 	s.store.Refuse(0)
+	within(t, "the change that was taken isn't made", func() bool { _, state := g.board.read(); return state.Place == 1 })
 	s.expect("after the change that was taken", s.call(usual, prune), committed(1, 2))
 }
 

@@ -278,14 +278,20 @@ func (s *session) query(ctx context.Context, line []byte) bool {
 		late, cancel := context.WithTimeout(ctx, s.options.Limits.Answer)
 		defer cancel()
 		_, before := s.board.read()
-		if head, err := s.freshHead(late); err != nil || head < before.Entry || !s.board.wait(late, head, 0) { // less after a restore
+		head, err := s.freshHead(late)
+		isThere := err == nil && head >= before.Entry && !s.isLogLost.Load() // less after a restore
+		if !isThere || !s.board.wait(late, head, 0) {
+			if errors.Is(late.Err(), context.DeadlineExceeded) {
+				s.ended.Inc("answer")
+			}
 			return false
 		}
 	} else if !s.takeTurn(ctx) {
 		return false
 	}
 	r, state := s.board.read()
-	if !s.isFresh && r != nil && s.isOutdated(state.Entry) {
+	isThere := r != nil
+	if isThere && !s.isFresh && s.isOutdated(state.Entry) {
 		s.refuse(ctx, wire.Outdated)
 		return true
 	}

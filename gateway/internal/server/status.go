@@ -99,7 +99,7 @@ func (g *Gateway) serveStatus(w http.ResponseWriter, _ *http.Request) {
 	r, state := g.board.read()
 	isReady := g.isReady()
 	status := map[string]any{
-		"name": g.options.Name, "program": g.options.Program, "ready": isReady, "disputed": g.isDisputed.Load(),
+		"name": g.options.Name, "program": g.options.Program, "ready": isReady, "disputed": g.isDisputed.Load(), "lost": g.isLogLost.Load(),
 		"entry": state.Entry, "place": state.Place, "sum": fmt.Sprintf("%x", state.Sum),
 		"head": g.head.Load(), "lag": g.lag(state.Entry), "silent": g.silence().Seconds(), "sessions": g.sessions.Load(), "etcd": g.members.Load(),
 		"stopping": g.isStopping.Load(), "skipped": g.skips.Load(), "failing": g.failing(state.Entry),
@@ -117,7 +117,7 @@ func (g *Gateway) serveStatus(w http.ResponseWriter, _ *http.Request) {
 // askHead keeps the end of the log, until the context ends.
 func (g *Gateway) askHead(ctx context.Context) error {
 	for ctx.Err() == nil {
-		if head, err := g.log.Head(ctx); err == nil {
+		if head, err := g.log.Head(ctx); err == nil && !g.isLogLost.Load() { // of another log it would mean nothing
 			g.hear(head)
 		}
 		etcd.Pause(ctx, time.Second)
@@ -144,6 +144,7 @@ func (g *Gateway) serveMetrics(w http.ResponseWriter, _ *http.Request) {
 	p.Info(name+"info", "Names of the gateway and of its regd.", "name", g.options.Name, "program", g.options.Program)
 	p.Gauge(name+"ready", "1 if queries can be answered.", is[g.isReady()])
 	p.Gauge(name+"disputed", "1 if another gateway has another checksum.", is[g.isDisputed.Load()])
+	p.Gauge(name+"log_lost", "1 if the log was found empty, and the book is kept.", is[g.isLogLost.Load()])
 	p.Gauge(name+"connections", "Open connections of callers.", float64(g.sessions.Load()))
 	p.Counter(name+"connections_total", "Connections of callers.", &g.accepted)
 	p.Vector(name+"connections_ended_total", "Connections that the gateway ended, by reason.", "reason", &g.ended,

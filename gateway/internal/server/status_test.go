@@ -58,7 +58,7 @@ func TestStatus(t *testing.T) {
 	delete(values, "silent")
 	want := map[string]any{"name": "a", "program": "p", "ready": true, "disputed": true, "entry": float64(state.Entry), "place": 2.0,
 		"sum": fmt.Sprintf("%x", state.Sum), "head": 5.0, "lag": 3.0, "sessions": 1.0, "regd": float64(r.Pid()), "tokens": 1.0,
-		"stopping": false, "skipped": map[string]any{}, "failing": nil,
+		"stopping": false, "lost": false, "skipped": map[string]any{}, "failing": nil,
 		"etcd": []any{map[string]any{"url": s.store.URL, "bytes": 1048576.0, "used": 4096.0, "quota": 2097152.0}}}
 	if code != 200 || !reflect.DeepEqual(values, want) || silent > 5 {
 		t.Errorf("got %d, %v", code, values)
