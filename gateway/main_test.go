@@ -67,6 +67,24 @@ func TestParse(t *testing.T) {
 		{"-domain ex.org -fresh 10.0.0.1:1", "loopback"},
 		{"-domain ex.org -operators spiffe://ex.org/o", "needs TLS"},
 		{"-domain ex.org -certificate c -key k", "-authorities"},
+		{"-domain ex.org -operators spiffe://ex.org/o,spiffe://ex.org/p" + tls, ""},
+		{"-domain ex.org -operators spiffe://ex.org/o," + tls, "-operators"},
+		{"-domain ex.org -operators spiffe://other.org/o" + tls, "-operators"},
+		{"-domain ex.org -operators operator" + tls, "-operators"},
+		{"-domain ex.org -etcd http://127.0.0.1:1,http://[::1]:2,http://localhost:3", ""},
+		{"-domain ex.org -etcd https://10.0.0.1:2379,https://a.example:2379 -etcd-files f", ""},
+		{"-domain ex.org -etcd https://10.0.0.1:2379", ""},
+		{"-domain ex.org -etcd http://10.0.0.1:2379", "loopback"},
+		{"-domain ex.org -etcd http://127.0.0.1:2379 -etcd-files f", "-etcd-files"},
+		{"-domain ex.org -etcd https://10.0.0.1:2379,http://127.0.0.1:2379 -etcd-files f", "-etcd-files"},
+		{"-domain ex.org -etcd https://10.0.0.1:2379/", "-etcd"},
+		{"-domain ex.org -etcd https://10.0.0.1", "-etcd"},
+		{"-domain ex.org -etcd 10.0.0.1:2379", "-etcd"},
+		{"-domain ex.org -etcd ftp://10.0.0.1:2379", "-etcd"},
+		{"-domain ex.org -etcd http://127.0.0.1:1,", "-etcd"},
+		{"-domain ex.org -etcd=", "-etcd"},
+		{"-domain ex.org -prefix regd", "-prefix"},
+		{"-domain ex.org -prefix=", "-prefix"},
 		{"-domain ex.org -skip 17.1", ""},
 		{"-domain ex.org -snapshot -keep 1 -listen 0.0.0.0:1 -status 0.0.0.0:2 -operators spiffe://ex.org/o -limit-lines 9" + tls, ""},
 		{"-domain ex.org -skip 17", "-skip"},
@@ -82,6 +100,10 @@ func TestParse(t *testing.T) {
 		if (err == nil) != (c.want == "") || err != nil && !strings.Contains(err.Error(), c.want) {
 			t.Errorf("%s: got %v", c.words, err)
 		}
+	}
+	blank := append(strings.Fields("-domain ex.org"+tls), "-operators", "spiffe://ex.org/o, spiffe://ex.org/p")
+	if _, err := parse(blank); err == nil || !strings.Contains(err.Error(), "-operators") {
+		t.Errorf("a blank after a comma: got %v", err)
 	}
 	s, _ := parse([]string{"-domain", "ex.org", "-listen", "127.0.0.1:7"})
 	if !strings.HasSuffix(s.Name, "/127.0.0.1:7") || len(s.Name) < 14 {
@@ -597,8 +619,8 @@ func TestExits(t *testing.T) {
 		{"another port that is taken", []string{"-fresh", s.store.Listener.Addr().String()}, 1},
 		{"a third port that is taken", []string{"-status", s.store.Listener.Addr().String()}, 1},
 		{"no certificate", []string{"-certificate", "/nonexistent", "-key", "/nonexistent", "-authorities", "/nonexistent"}, 1},
-		{"no certificate for etcd", []string{"-etcd-files", "/nonexistent"}, 1},
-		{"another domain", []string{"-domain", "other.org"}, 1},
+		{"no certificate for etcd", []string{"-etcd-files", "/nonexistent", "-etcd", "https://127.0.0.1:1"}, 1},
+		{"another domain", []string{"-domain", "other.org"}, 2},
 	} {
 		s.expect(c.name, fmt.Sprint(s.status(s.command(c.words...))), fmt.Sprint(c.want))
 	}

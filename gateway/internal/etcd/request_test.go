@@ -332,7 +332,7 @@ func TestBackoff(t *testing.T) {
 	}
 }
 
-// TestFailover makes an entry by a first member that loses its answer, after which a snapshot cuts it off. Nobody can know whether it was made, so the
+// TestFailover makes an entry by a first member that loses its answer, after which a snapshot cuts it off. Whether it was made can't be known, so the
 // second member doesn't make it again.
 func TestFailover(t *testing.T) {
 	server, log, ctx := openLog(t)

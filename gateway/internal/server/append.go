@@ -97,7 +97,7 @@ func (g *Gateway) giveUp(name string) {
 }
 
 // giveUpLost ends the entries that were appended and are not among those up to the last one that the replica has
-// executed. A snapshot stands for them, or a log that was restored from a backup has lost them.
+// executed. They are in a snapshot, or a log that was restored from a backup has lost them.
 func (g *Gateway) giveUpLost(executed uint64) {
 	g.flights.Range(func(name, value any) bool {
 		if last := value.(*flight).last.Load(); last != 0 && last <= executed {

@@ -131,7 +131,7 @@ func TestSlowAppend(t *testing.T) {
 }
 
 // TestSwallowedAppend makes a snapshot of an entry, and cuts that off, before the gateway that has appended it has seen it. The connections of its
-// changes end, since nobody can know what was answered, and nothing is kept of it.
+// changes end, since it can't be known what was answered, and nothing is kept of it.
 func TestSwallowedAppend(t *testing.T) {
 	t.Parallel()
 	s := newSite(t)

@@ -21,13 +21,10 @@ func (s *site) lose(values map[string][]byte) {
 	s.store.TellWatches(`{"error":{"message":"x"}}`)
 }
 
-// isLost returns what the status and the metrics say of a gateway's log.
+// isLost returns what the status says of a gateway's log.
 func isLost(t *testing.T, g *Gateway) bool {
 	t.Helper()
 	_, values := status(t, g)
-	if metric := samples(t, g)["regd_gateway_log_lost"]; (metric == 1) != (values["lost"] == true) {
-		t.Errorf("the metric is %v, the status %v", metric, values["lost"])
-	}
 	return values["lost"] == true
 }
 
@@ -54,6 +51,9 @@ func TestLostLog(t *testing.T) {
 		within(t, name+": it is ready for changes", func() bool { return get(g, "/ready/changes").Code == 503 })
 		if head, err := s.log.Head(s.ctx); head != 4 || err != nil || !isLost(t, g) {
 			t.Errorf("%s: the log has %d entries, %v", name, head, err)
+		}
+		if metric := samples(t, g)["regd_gateway_log_lost"]; metric != 1 {
+			t.Errorf("%s: the metric is %v", name, metric)
 		}
 		if after, state := g.board.read(); after != before || state.Place != 2 {
 			t.Errorf("%s: another replica was made, %v", name, state)

@@ -210,7 +210,7 @@ func (g *Gateway) receive(ctx context.Context, conn net.Conn, isFresh bool) {
 			return
 		}
 		conn, s.conn = secure, secure
-		s.agent, s.isOperator = callerOf(secure.ConnectionState().PeerCertificates[0], g.options.Operators) // the handshake requires one
+		s.agent, s.isOperator = callerOf(secure.ConnectionState().PeerCertificates[0], g.options.Replica.Domain, g.options.Operators) // the handshake requires one
 		defer g.crowd.leave(s.agent)
 		isAdmitted = g.crowd.enter(s.agent, g.options.Limits.CallerConnections)
 	}

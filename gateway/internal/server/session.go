@@ -18,6 +18,7 @@ import (
 const (
 	retryTime  = 2 * time.Millisecond
 	flushSize  = 1 << 15
+	pieceSize  = 1 << 18 // that a caller reads within the time for it
 	readBuffer = 1 << 13
 	replyRoom  = 1 << 18 // for replies to the lines of a connection that are under way, if these are as long as the last ones were
 	// lines that are under way of all connections together, if each has more than one
@@ -43,6 +44,7 @@ type session struct {
 	isFresh    bool
 	number     int // of the connection, which chooses a worker of regd
 
+	lineEnd      time.Time  // when the line that is read has to have ended
 	row          []*request // those whose answer is not yet written
 	largest      int        // about the size of a large reply
 	isChanging   bool       // they are changes
@@ -121,7 +123,7 @@ func (s *session) hasLine() bool {
 
 // waitForLine waits until a line begins to arrive, and limits the time for the rest of it.
 func (s *session) waitForLine() bool {
-	if !s.readFor(s.options.Limits.Idle) {
+	if !s.readUntil(time.Now().Add(s.options.Limits.Idle)) {
 		return false
 	}
 	if _, err := s.in.Peek(1); err != nil {
@@ -130,12 +132,13 @@ func (s *session) waitForLine() bool {
 	}
 	s.endStreak()
 	runtime.Gosched() // a caller that always has lines doesn't keep a processor
-	return s.readFor(s.options.Limits.Line)
+	s.lineEnd = time.Now().Add(s.options.Limits.Line)
+	return s.readUntil(s.lineEnd)
 }
 
-// readFor limits the time for reading. It returns false if nothing is to be read, because the gateway shuts down.
-func (s *session) readFor(long time.Duration) bool {
-	s.conn.SetReadDeadline(time.Now().Add(long))
+// readUntil limits the time for reading. It returns false if nothing is to be read, because the gateway shuts down.
+func (s *session) readUntil(end time.Time) bool {
+	s.conn.SetReadDeadline(end)
 	if !s.isStopping.Load() { // asked last, since Shutdown ends the time of those that were not stopping before
 		return true
 	}
@@ -150,12 +153,15 @@ func (s *session) noteLate(err error, reason string) {
 	}
 }
 
-// takeSlot waits for one of the slots for lines that are longer than the buffer. It returns false if there is none for too long.
+// takeSlot waits for one of the slots for lines that are longer than the buffer. It returns false if there is none for
+// too long. The time in which it waits is not the caller's.
 func (s *session) takeSlot(ctx context.Context) bool {
+	began := time.Now()
 	select {
 	case s.long <- struct{}{}:
 		s.isLong = true
-		return s.readFor(s.options.Limits.Line)
+		s.lineEnd = s.lineEnd.Add(time.Since(began))
+		return s.readUntil(s.lineEnd)
 	case <-time.After(s.options.Limits.Answer):
 		s.longWait.Error("too many long lines wait", "limit", cap(s.long))
 	case <-ctx.Done():
@@ -410,18 +416,13 @@ func (s *session) isOld(q *request, reply []byte) bool {
 	return !wire.IsRefusal(reply) && (place < s.place || place < q.place || wire.Code(reply) == "W1" && place < state.Place)
 }
 
-// flush writes what is in out. A caller that doesn't read has less time for it while the replies to all callers take much room.
+// flush writes what is in out.
 func (s *session) flush() bool {
 	if len(s.out) == 0 {
 		return !s.isBroken
 	}
 	s.freeTurn()
-	long := s.options.Limits.Write
-	if s.held.Load() > s.options.Limits.ReplyBytes/2 {
-		long /= 10
-	}
-	s.conn.SetWriteDeadline(time.Now().Add(long))
-	if _, err := s.conn.Write(s.out); err != nil {
+	if err := s.write(s.out); err != nil {
 		s.isBroken = true
 		s.noteLate(err, "write")
 	}
@@ -431,6 +432,28 @@ func (s *session) flush() bool {
 		s.out = nil
 	}
 	return !s.isBroken
+}
+
+// write writes a text in pieces, each of which has the time limit. So a caller that reads is not cut off in the middle of
+// a large reply. It has less time while the replies to all callers take much room.
+func (s *session) write(text []byte) error {
+	for len(text) > 0 {
+		piece := text
+		if len(piece) > pieceSize {
+			piece = piece[:pieceSize]
+		}
+		long := s.options.Limits.Write
+		if s.held.Load() > s.options.Limits.ReplyBytes/2 {
+			long /= 10
+		}
+		s.conn.SetWriteDeadline(time.Now().Add(long))
+		count, err := s.conn.Write(piece)
+		if err != nil {
+			return err
+		}
+		text = text[count:]
+	}
+	return nil
 }
 
 // A request is a line of a caller.
