@@ -182,9 +182,12 @@ func reasonOf(err error) string {
 
 // Pause waits for some time, or until the context ends.
 func Pause(ctx context.Context, long time.Duration) {
-	late, cancel := context.WithTimeout(ctx, long)
-	defer cancel()
-	<-late.Done()
+	late := time.NewTimer(long) // a context would make all that pause wait for one lock
+	defer late.Stop()
+	select {
+	case <-late.C:
+	case <-ctx.Done():
+	}
 }
 
 func (l *Log) find(ctx context.Context, kind string, size int, request object) ([]pair, error) {

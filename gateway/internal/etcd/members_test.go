@@ -13,7 +13,9 @@ func TestMembersStates(t *testing.T) {
 	usual, _, ctx := openLog(t)
 	alarmed, _, _ := openLog(t)
 	alarmed.Alarm("memberID:1 alarm:NOSPACE ")
-	refusing := httptest.NewServer(http.HandlerFunc(func(w http.ResponseWriter, _ *http.Request) { http.Error(w, "no leader", http.StatusServiceUnavailable) }))
+	refusing := httptest.NewServer(http.HandlerFunc(func(w http.ResponseWriter, _ *http.Request) {
+		http.Error(w, "no leader", http.StatusServiceUnavailable)
+	}))
 	defer refusing.Close()
 	store, _, _ := openLog(t)
 	unmeasured := httptest.NewServer(http.HandlerFunc(func(w http.ResponseWriter, r *http.Request) {

@@ -12,9 +12,6 @@ SOURCES = TOP / "gateway"
 COMMANDS = {"go": "golang-go", "etcd": "etcd-server", "etcdctl": "etcd-client", "haproxy": "haproxy", "openssl": "openssl", "jq": "jq", "nc": "netcat-openbsd", "curl": "curl",
             "systemd-analyze": "systemd"}
 
-# how many lines of Go the gateway may have, without tests, comments and blank lines
-LINES = 3000
-
 Programs = collections.namedtuple("Programs", "gateway regd load")
 
 
@@ -56,14 +53,6 @@ def go(*words, env=None, cwd=SOURCES, **more):
 def started_go(*words, env=None, cwd=SOURCES, **more):
     """Starts the command go on the sources, and returns its process."""
     return subprocess.Popen(["go", *words], cwd=cwd, env=go_environment(env), **more)
-
-
-def code_lines():
-    """Returns how many lines of Go the gateway has, without tests and what only tests use, without comments and blank lines."""
-    files = [SOURCES / "main.go", *(SOURCES / "internal").rglob("*.go")]
-    counted = [file for file in files if not file.stem.endswith("_test") and not file.parent.name.endswith("test")]
-    lines = [line.strip() for file in counted for line in file.read_text().splitlines()]
-    return sum(line != "" and not line.startswith("//") for line in lines)
 
 
 def build(folder, regd, *words):
