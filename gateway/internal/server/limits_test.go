@@ -645,7 +645,10 @@ func TestSteadyReader(t *testing.T) {
 	s.limits.Write = 2 * time.Second
 	inner, outer := net.Pipe()
 	made := &session{Gateway: New(s.log, Options{Limits: s.limits}), conn: inner, out: make([]byte, 4*pieceSize)}
-	written := make(chan bool)
+	if err := outer.SetDeadline(time.Now().Add(10 * s.limits.Write)); err != nil {
+		t.Fatal(err)
+	}
+	written := make(chan bool, 1)
 	go func() { written <- made.flush() }()
 	begin, part := time.Now(), make([]byte, pieceSize/4)
 	for count := 0; count < 16; count++ {

@@ -29,8 +29,8 @@ func (g *Gateway) checkLog(ctx context.Context) (isLost bool, err error) {
 	}
 	isEmpty, err := g.log.IsEmpty(ctx)
 	if err == nil && isEmpty {
-		logline.Error("the log is empty, and the book is kept: restore etcd, or restart the gateway to follow an empty log",
-			"entry", book.Entry, "place", book.Place)
+		logline.Error("the log is empty, and the book is kept", "entry", book.Entry, "place", book.Place,
+			"cure", "restore etcd, or restart the gateway to follow the empty log")
 		g.isLogLost.Store(true)
 	}
 	return isEmpty, err
