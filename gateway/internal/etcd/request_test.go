@@ -140,11 +140,13 @@ func TestSlowPage(t *testing.T) {
 // all entries arrive.
 func TestLargePage(t *testing.T) {
 	t.Parallel()
-	server, _, ctx := openLog(t)
-	const last = 20
+	server, _, _ := openLog(t)
+	ctx, cancel := context.WithTimeout(context.Background(), time.Minute)
+	defer cancel()
+	const last = 12
 	other := New([]string{server.URL}, "r/", nil)
 	for number := uint64(1); number <= last; number++ {
-		if _, err := other.Append(ctx, number, bytes.Repeat([]byte("x"), 100_000)); err != nil {
+		if _, err := other.Append(ctx, number, bytes.Repeat([]byte("x"), 50_000)); err != nil {
 			t.Fatal(err)
 		}
 	}
@@ -152,8 +154,8 @@ func TestLargePage(t *testing.T) {
 		answer := httptest.NewRecorder()
 		server.Config.Handler.ServeHTTP(answer, r)
 		text := answer.Body.Bytes()
-		for len(text) > 0 && r.Context().Err() == nil { // of 133 kB for an entry, five in half a second
-			part := text[:smaller(len(text), 13_300)]
+		for len(text) > 0 && r.Context().Err() == nil { // of 67 kB for an entry, five in half a second
+			part := text[:smaller(len(text), 6_700)]
 			if _, err := w.Write(part); err != nil {
 				return
 			}

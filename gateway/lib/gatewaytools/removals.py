@@ -103,7 +103,7 @@ FEATURES = [
     ("as its authority has spelled it", IDENTITY, "uris = append(uris, string(name.Bytes))", "uris = append(uris, leaf.URIs[0].String())", "TestCallerOf"),
     ("an ID has a path", IDENTITY, "(/[a-zA-Z0-9._-]+)+$", "(/[a-zA-Z0-9._-]+)*$", "TestIsCallerID"),
     ("of segments that aren't empty", IDENTITY, "[a-zA-Z0-9._-]+)+$", "[a-zA-Z0-9._-]*)+$", "TestIsCallerID"),
-    ("and not of dots", IDENTITY, 'if segment == "." || segment == ".." {', "if false {", "TestIsCallerID"),
+    ("and not of dots", IDENTITY, 'if segment == "." || segment == ".." {', 'if segment == "\\n" {', "TestIsCallerID"),
     ("an ID isn't too long", IDENTITY, " || len(text) > mostID", "", "TestIsCallerID"),
     ("only listed names are operators", IDENTITY, "isOperator || uris[0] == operator", "isOperator || uris[0][:9] == operator[:9]", "TestCallerOf"),
     ("callers speak TLS 1.3", CERTIFICATES, ", MinVersion: tls.VersionTLS13}", "}", "TestHandshakes"),
