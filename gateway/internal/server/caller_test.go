@@ -90,7 +90,7 @@ func TestIsCallerID(t *testing.T) {
 func TestCallers(t *testing.T) {
 	t.Parallel()
 	s := newSite(t)
-	s.limits.Handshake = time.Second
+	s.limits.Handshake = 4 * time.Second
 	_, dial := s.secured(n2)
 	trust := `{"ops":[{"op":"trust","agent":"` + n1 + `"}]}`
 	for _, c := range []struct {
