@@ -8,6 +8,7 @@ import (
 	"flag"
 	"fmt"
 	"net"
+	"net/url"
 	"os"
 	"os/exec"
 	"os/signal"
@@ -26,70 +27,136 @@ const sumVersion = "2"
 
 type settings struct {
 	server.Options
-	members, etcdFiles, prefix string
-	listen, fresh, status      string
-	files                      server.Files
-	isSnapshot, isVersion      bool
-	keep                       uint64
-	skip                       etcd.Line
+	members               []string
+	etcdFiles, prefix     string
+	listen, fresh, status string
+	files                 server.Files
+	isSnapshot, isVersion bool
+	keep                  uint64
+	skip                  etcd.Line
 }
 
 // parse reads the command line, and prints what is wrong with it.
 func parse(words []string) (s settings, err error) {
 	flags := flag.NewFlagSet("regd-gateway", flag.ContinueOnError)
-	flags.StringVar(&s.Replica.Domain, "domain", "", "the trust `domain` (required)")
-	flags.StringVar(&s.members, "etcd", "http://127.0.0.1:2379", "the `URLs` of etcd's members, separated by commas")
-	flags.StringVar(&s.etcdFiles, "etcd-files", "", "a `folder` with ca.pem, cert.pem and key.pem, for etcd over https")
-	flags.StringVar(&s.prefix, "prefix", "regd/", "the prefix of all keys in etcd")
-	flags.StringVar(&s.Replica.Program, "regd", "regd", "the `program` regd")
-	flags.IntVar(&s.Replica.Workers, "workers", 4, "workers of regd, 2 to 32: one for changes, the others for queries")
-	flags.StringVar(&s.Name, "name", "", "the `name` of this gateway, which stays the same and is no other gateway's (default: the host and -listen)")
-	flags.StringVar(&s.listen, "listen", "127.0.0.1:0", "the `address` for callers")
-	flags.StringVar(&s.fresh, "fresh", "", "the `address` for callers whose queries see every change that was answered before")
-	flags.StringVar(&s.status, "status", "", "the `address` of /status, /metrics and /ready over HTTP")
-	flags.StringVar(&s.files.Certificate, "certificate", "", "TLS: the `file` of this gateway's certificate; all three are read again when they change")
-	flags.StringVar(&s.files.Key, "key", "", "TLS: the `file` of its key")
-	flags.StringVar(&s.files.Authorities, "authorities", "", "TLS: the `file` of the authorities of callers")
-	operators := flags.String("operators", "", "TLS: the SPIFFE `IDs` of callers that may send every line, separated by commas")
+	given := addOptions(flags, &s)
 	addLimits(flags, &s.Limits)
-	flags.BoolVar(&s.isVersion, "version", false, "print the version, and exit")
-	flags.BoolVar(&s.isSnapshot, "snapshot", false, "make a snapshot, cut the log behind it, and exit")
-	skip := flags.String("skip", "", "make all replicas leave out a `line`, given as the number of its entry, a point, and its number there, and exit")
-	flags.StringVar(&s.Replies, "replies", "1", "a `version`: gateways with the same one have to give the same replies")
-	flags.Uint64Var(&s.keep, "keep", 10000, "with -snapshot: how many entries stay in the log")
 	if err := flags.Parse(words); err != nil {
 		return s, err
 	}
-	if host, _ := os.Hostname(); s.Name == "" {
-		s.Name = host + "/" + s.listen
-	}
-	s.Operators = strings.Split(*operators, ",")
-	isTLS, isLine := s.files != server.Files{}, false
-	s.skip, isLine = etcd.ParseLine(*skip)
-	switch {
-	case flags.NArg() > 0:
-		err = fmt.Errorf("an unknown word: %s", flags.Arg(0))
-	case s.isVersion:
+	if s.isVersion && flags.NArg() == 0 {
 		return s, nil
-	case s.Replica.Domain == "":
-		err = errors.New("-domain is required")
-	case s.Replica.Workers < 2 || s.Replica.Workers > 32:
-		err = errors.New("-workers is not 2 to 32")
-	case *skip != "" && !isLine:
-		err = errors.New("-skip takes a line, such as 17.1")
-	case !s.Limits.IsValid():
-		err = fmt.Errorf("a limit is not above 0, or -limit-line-bytes is above %d", server.UsualLimits.LineBytes)
-	case isTLS && (s.files.Certificate == "" || s.files.Key == "" || s.files.Authorities == ""):
-		err = errors.New("TLS takes -certificate, -key and -authorities")
-	case !isTLS && *operators != "":
-		err = errors.New("-operators needs TLS")
-	case !isTLS && !(isLoopback(s.listen) && (s.fresh == "" || isLoopback(s.fresh))):
-		err = errors.New("without TLS the gateway listens on loopback addresses alone")
+	}
+	err = s.take(given)
+	if err == nil && flags.NArg() > 0 {
+		err = fmt.Errorf("an unknown word: %s", flags.Arg(0))
+	}
+	if err == nil {
+		err = s.check()
 	}
 	if err != nil {
 		fmt.Fprintln(flags.Output(), "regd-gateway:", err)
 	}
 	return s, err
+}
+
+// texts are options that are read further.
+type texts struct{ members, operators, skip *string }
+
+// addOptions adds the options but for limits.
+func addOptions(flags *flag.FlagSet, s *settings) (given texts) {
+	flags.StringVar(&s.Replica.Domain, "domain", "", "the trust `domain` (required)")
+	given.members = flags.String("etcd", "http://127.0.0.1:2379", "the `URLs` of etcd's members, separated by commas")
+	flags.StringVar(&s.etcdFiles, "etcd-files", "", "a `folder` with ca.pem, cert.pem and key.pem, for etcd over https")
+	flags.StringVar(&s.prefix, "prefix", "regd/", "the prefix of all keys in etcd, which ends with a slash")
+	flags.StringVar(&s.Replica.Program, "regd", "regd", "the `program` regd")
+	flags.IntVar(&s.Replica.Workers, "workers", 4, "workers of regd, 2 to 32: one for changes, the others for queries")
+	flags.StringVar(&s.Name, "name", "",
+		"the `name` of this gateway, which stays the same and is no other gateway's (default: the host and -listen)")
+	flags.StringVar(&s.listen, "listen", "127.0.0.1:0", "the `address` for callers")
+	flags.StringVar(&s.fresh, "fresh", "",
+		"the `address` for callers whose queries see every change that was answered before")
+	flags.StringVar(&s.status, "status", "", "the `address` of /status, /metrics and /ready over HTTP")
+	flags.StringVar(&s.files.Certificate, "certificate", "",
+		"TLS: the `file` of this gateway's certificate; all three are read again when they change")
+	flags.StringVar(&s.files.Key, "key", "", "TLS: the `file` of its key")
+	flags.StringVar(&s.files.Authorities, "authorities", "", "TLS: the `file` of the authorities of callers")
+	given.operators = flags.String("operators", "",
+		"TLS: the SPIFFE `IDs` of callers that may send every line, separated by commas")
+	flags.BoolVar(&s.isVersion, "version", false, "print the version, and exit")
+	flags.BoolVar(&s.isSnapshot, "snapshot", false, "make a snapshot, cut the log behind it, and exit")
+	given.skip = flags.String("skip", "",
+		"make all replicas leave out a `line`, given as the number of its entry, a point, and its number there, and exit")
+	flags.StringVar(&s.Replies, "replies", "1", "a `version`: gateways with the same one have to give the same replies")
+	flags.Uint64Var(&s.keep, "keep", 10000, "with -snapshot: how many entries stay in the log")
+	return given
+}
+
+// take reads the options that are lists, or a line, and chooses the default name.
+func (s *settings) take(given texts) error {
+	s.members = strings.Split(*given.members, ",")
+	if *given.operators != "" {
+		s.Operators = strings.Split(*given.operators, ",")
+	}
+	if *given.skip != "" {
+		isLine := false
+		if s.skip, isLine = etcd.ParseLine(*given.skip); !isLine {
+			return errors.New("-skip takes a line, such as 17.1")
+		}
+	}
+	if s.Name != "" {
+		return nil
+	}
+	host, err := os.Hostname()
+	s.Name = host + "/" + s.listen
+	return err
+}
+
+// check returns an error if the options don't go together.
+func (s *settings) check() error {
+	isTLS := s.files != server.Files{}
+	isLocal := isLoopback(s.listen) && (s.fresh == "" || isLoopback(s.fresh))
+	switch {
+	case s.Replica.Domain == "":
+		return errors.New("-domain is required")
+	case s.Replica.Workers < 2 || s.Replica.Workers > 32:
+		return errors.New("-workers is not 2 to 32")
+	case !s.Limits.IsValid():
+		return fmt.Errorf("a limit is negative, or 0 although it is needed, or -limit-line-bytes is above %d",
+			server.UsualLimits.LineBytes)
+	case isTLS && (s.files.Certificate == "" || s.files.Key == "" || s.files.Authorities == ""):
+		return errors.New("TLS takes -certificate, -key and -authorities")
+	case !isTLS && len(s.Operators) > 0:
+		return errors.New("-operators needs TLS")
+	case !isTLS && !isLocal:
+		return errors.New("without TLS the gateway listens on loopback addresses alone")
+	case !strings.HasSuffix(s.prefix, "/"):
+		return errors.New("-prefix doesn't end with a slash")
+	}
+	for _, operator := range s.Operators {
+		if !server.IsCallerID(operator, s.Replica.Domain) {
+			return fmt.Errorf("-operators has %q, which is no SPIFFE ID of a caller in %s", operator, s.Replica.Domain)
+		}
+	}
+	return s.checkMembers()
+}
+
+// checkMembers returns an error unless all members of etcd are URLs of an address and nothing else. Without TLS they are
+// on this machine.
+func (s *settings) checkMembers() error {
+	for _, member := range s.members {
+		parsed, err := url.Parse(member)
+		isURL := err == nil && parsed.Port() != "" && member == parsed.Scheme+"://"+parsed.Host
+		switch {
+		case !isURL || parsed.Scheme != "http" && parsed.Scheme != "https":
+			return fmt.Errorf("-etcd has %q, which is no URL such as https://10.0.0.1:2379", member)
+		case parsed.Scheme == "http" && s.etcdFiles != "":
+			return fmt.Errorf("-etcd-files needs https, and -etcd has %s", member)
+		case parsed.Scheme == "http" && !isLoopback(parsed.Host):
+			return fmt.Errorf("without TLS etcd is on loopback addresses alone, and -etcd has %s", member)
+		}
+	}
+	return nil
 }
 
 // addLimits adds the options for limits.
@@ -101,7 +168,11 @@ func addLimits(flags *flag.FlagSet, l *server.Limits) {
 	flags.DurationVar(&l.Idle, "limit-idle", l.Idle, "the time between two lines of a connection")
 	flags.DurationVar(&l.Line, "limit-line", l.Line, "the time from the first byte of a line to its last one")
 	flags.DurationVar(&l.Write, "limit-write", l.Write, "the time for a caller to read when its answers fill all buffers")
+	flags.DurationVar(&l.Silent, "limit-silent", l.Silent,
+		"the time without an answer of etcd, after which queries are refused; 0 for none")
 	flags.DurationVar(&l.Stop, "limit-stop", l.Stop, "the time for lines that are under way after SIGTERM")
+	flags.IntVar(&l.Lag, "limit-lag", l.Lag,
+		"entries of the log that are not executed, beyond which queries are refused; 0 for none")
 	flags.IntVar(&l.LineBytes, "limit-line-bytes", l.LineBytes, "bytes of a line")
 	flags.IntVar(&l.Lines, "limit-lines", l.Lines, "lines of a connection that are under way")
 	flags.IntVar(&l.Listings, "limit-listings", l.Listings,
@@ -141,11 +212,19 @@ func main() {
 	}()
 	if err := run(ctx, s); err != nil && ctx.Err() == nil {
 		logline.Error("stopped", "error", err)
-		if errors.Is(err, server.ErrOutvoted) {
-			os.Exit(4)
-		}
-		os.Exit(1)
+		os.Exit(statusOf(err))
 	}
+}
+
+// statusOf returns the exit status for an error: 2 and 4 for those that another start doesn't cure.
+func statusOf(err error) int {
+	switch {
+	case errors.Is(err, etcd.ErrDomain):
+		return 2
+	case errors.Is(err, server.ErrOutvoted):
+		return 4
+	}
+	return 1
 }
 
 // run runs the gateway until the context ends or an error stops it.
@@ -176,7 +255,7 @@ func run(ctx context.Context, s settings) error {
 	if s.Etcd != nil {
 		dial = s.Etcd.Dial
 	}
-	log := etcd.New(strings.Split(s.members, ","), s.prefix, dial)
+	log := etcd.New(s.members, s.prefix, dial)
 	g := server.New(log, s.Options)
 	if s.status != "" && !s.isSnapshot && s.skip == (etcd.Line{}) { // also while etcd doesn't answer
 		on, err := net.Listen("tcp", s.status)

@@ -81,9 +81,30 @@ func TestParse(t *testing.T) {
 		{"-domain ex.org -fresh 10.0.0.1:1", "loopback"},
 		{"-domain ex.org -operators spiffe://ex.org/o", "needs TLS"},
 		{"-domain ex.org -certificate c -key k", "-authorities"},
+		{"-domain ex.org -operators spiffe://ex.org/o,spiffe://ex.org/p" + tls, ""},
+		{"-domain ex.org -operators spiffe://ex.org/o," + tls, "-operators"},
+		{"-domain ex.org -operators spiffe://other.org/o" + tls, "-operators"},
+		{"-domain ex.org -operators operator" + tls, "-operators"},
+		{"-domain ex.org -etcd http://127.0.0.1:1,http://[::1]:2,http://localhost:3", ""},
+		{"-domain ex.org -etcd https://10.0.0.1:2379,https://a.example:2379 -etcd-files f", ""},
+		{"-domain ex.org -etcd https://10.0.0.1:2379", ""},
+		{"-domain ex.org -etcd http://10.0.0.1:2379", "loopback"},
+		{"-domain ex.org -etcd http://127.0.0.1:2379 -etcd-files f", "-etcd-files"},
+		{"-domain ex.org -etcd https://10.0.0.1:2379,http://127.0.0.1:2379 -etcd-files f", "-etcd-files"},
+		{"-domain ex.org -etcd https://10.0.0.1:2379/", "-etcd"},
+		{"-domain ex.org -etcd https://10.0.0.1", "-etcd"},
+		{"-domain ex.org -etcd 10.0.0.1:2379", "-etcd"},
+		{"-domain ex.org -etcd ftp://10.0.0.1:2379", "-etcd"},
+		{"-domain ex.org -etcd http://127.0.0.1:1,", "-etcd"},
+		{"-domain ex.org -etcd=", "-etcd"},
+		{"-domain ex.org -prefix regd", "-prefix"},
+		{"-domain ex.org -prefix=", "-prefix"},
 		{"-domain ex.org -skip 17.1", ""},
 		{"-domain ex.org -snapshot -keep 1 -listen 0.0.0.0:1 -status 0.0.0.0:2 -operators spiffe://ex.org/o -limit-lines 9" + tls, ""},
 		{"-domain ex.org -skip 17", "-skip"},
+		{"-domain ex.org -limit-silent 0 -limit-lag 0", ""},
+		{"-domain ex.org -limit-silent -1s", "limit"},
+		{"-domain ex.org -limit-lag -1", "limit"},
 		{"-domain ex.org -limit-lines 0", "limit"},
 		{"-domain ex.org -limit-reply-bytes -1", "limit"},
 		{"-domain ex.org -limit-idle 0s", "limit"},
@@ -93,6 +114,10 @@ func TestParse(t *testing.T) {
 		if (err == nil) != (c.want == "") || err != nil && !strings.Contains(err.Error(), c.want) {
 			t.Errorf("%s: got %v", c.words, err)
 		}
+	}
+	blank := append(strings.Fields("-domain ex.org"+tls), "-operators", "spiffe://ex.org/o, spiffe://ex.org/p")
+	if _, err := parse(blank); err == nil || !strings.Contains(err.Error(), "-operators") {
+		t.Errorf("a blank after a comma: got %v", err)
 	}
 	s, _ := parse([]string{"-domain", "ex.org", "-listen", "127.0.0.1:7"})
 	if !strings.HasSuffix(s.Name, "/127.0.0.1:7") || len(s.Name) < 14 {
@@ -109,6 +134,8 @@ func TestLimits(t *testing.T) {
 		"-limit-idle=3s":              func(l *server.Limits) { l.Idle = 3 * time.Second },
 		"-limit-line=3s":              func(l *server.Limits) { l.Line = 3 * time.Second },
 		"-limit-write=3s":             func(l *server.Limits) { l.Write = 3 * time.Second },
+		"-limit-silent=3s":            func(l *server.Limits) { l.Silent = 3 * time.Second },
+		"-limit-lag=7":                func(l *server.Limits) { l.Lag = 7 },
 		"-limit-stop=3s":              func(l *server.Limits) { l.Stop = 3 * time.Second },
 		"-limit-line-bytes=7":         func(l *server.Limits) { l.LineBytes = 7 },
 		"-limit-lines=7":              func(l *server.Limits) { l.Lines = 7 },
@@ -446,32 +473,99 @@ func TestCertificates(t *testing.T) {
 	}
 }
 
-// TestFailuresAreLoggedOnce lets etcd refuse requests for a second: the program logs one line when that begins, and one when it ends.
+// TestFailuresAreLoggedOnce lets etcd refuse all requests, and then, for want of space, changes alone. The program logs each reason for each kind of
+// request once, and once when such a request is answered again.
 func TestFailuresAreLoggedOnce(t *testing.T) {
 	s := newSite(t)
 	var logged bytes.Buffer
 	state := s.freeAddress()
 	gateway := s.command("-status", state)
 	gateway.Stderr = &logged
-	out, _ := gateway.StdoutPipe()
-	if err := gateway.Start(); err != nil {
+	out, err := gateway.StdoutPipe()
+	if err == nil {
+		err = gateway.Start()
+	}
+	if err != nil {
 		t.Fatal(err)
 	}
 	t.Cleanup(func() { gateway.Process.Kill() })
-	bufio.NewReader(out).ReadString('\n')
-	s.store.Refuse(1 << 30)
-	time.Sleep(1500 * time.Millisecond) // in which where the log ends is asked, and asked again
-	if text := s.get("http://" + state + "/metrics"); strings.Contains(text, "\nregd_gateway_etcd_failures_total 0\n") {
-		t.Errorf("metrics: got %s", text)
+	var first struct{ Listening string }
+	if err := json.NewDecoder(out).Decode(&first); err != nil {
+		t.Fatal(err)
 	}
+	failures := func() (count float64) {
+		for _, line := range strings.Split(s.get("http://"+state+"/metrics"), "\n") {
+			if value := strings.TrimPrefix(line, "regd_gateway_etcd_failures_total "); value != line {
+				fmt.Sscan(value, &count)
+			}
+		}
+		return count
+	}
+	s.store.Refuse(1 << 30)
+	conn, err := net.Dial("tcp", first.Listening)
+	if err != nil {
+		t.Fatal(err)
+	}
+	defer conn.Close()
+	fmt.Fprintln(conn, prune)
+	s.within("few requests fail", func() bool { return failures() > 4 })
+	s.store.Fill(true)
 	s.store.Refuse(0)
-	time.Sleep(time.Second)
+	before := failures()
+	s.within("no changes fail", func() bool { return failures() > before+4 })
+	s.store.Fill(false)
+	s.expect("the change", s.ask(conn, show), `{"call":1,"place":1,"replies":[{"pruned":["1"]}],"result":"committed"}`+"\n")
 	gateway.Process.Signal(syscall.SIGTERM)
 	s.status(gateway)
-	for _, event := range []string{`event="etcd doesn't answer" path="/v3/kv/range"`, `event="etcd answers again" path="/v3/kv/range"`} {
-		if count := strings.Count(logged.String(), event); count != 1 {
+	for event, least := range map[string]int{
+		`doesn't answer" request="append" error="etcd: 503`: 1, `doesn't answer" request="append" error="etcd: 429`: 1,
+		`answers again" request="append"`: 1, `doesn't answer" request="get" error="etcd: 503`: 0, `answers again" request="get"`: 0,
+	} {
+		if count := strings.Count(logged.String(), event); count < least || count > 1 {
 			t.Errorf("%s: %d times in %s", event, count, logged.String())
 		}
+	}
+}
+
+// TestSlowAppendIsLogged lets etcd accept a change after it had refused it, and not answer: the entry in the log is the end of the failure.
+func TestSlowAppendIsLogged(t *testing.T) {
+	s := newSite(t)
+	var logged bytes.Buffer
+	state := s.freeAddress()
+	gateway := s.command("-status", state)
+	gateway.Stderr = &logged
+	out, err := gateway.StdoutPipe()
+	if err == nil {
+		err = gateway.Start()
+	}
+	if err != nil {
+		t.Fatal(err)
+	}
+	t.Cleanup(func() { gateway.Process.Kill() })
+	var first struct{ Listening string }
+	if err := json.NewDecoder(out).Decode(&first); err != nil {
+		t.Fatal(err)
+	}
+	s.store.Fill(true)
+	conn, err := net.Dial("tcp", first.Listening)
+	if err != nil {
+		t.Fatal(err)
+	}
+	defer conn.Close()
+	fmt.Fprintln(conn, prune)
+	s.within("no append fails", func() bool {
+		return !strings.Contains(s.get("http://"+state+"/metrics"), "\nregd_gateway_etcd_failures_total 0\n")
+	})
+	defer s.store.HoldAnswers()()
+	s.store.Fill(false)
+	s.expect("the change", s.ask(conn, show), `{"call":1,"place":1,"replies":[{"pruned":["1"]}],"result":"committed"}`+"\n")
+	s.within("the append goes on", func() bool {
+		return !strings.Contains(s.get("http://"+state+"/metrics"), "\nregd_gateway_append_duration_seconds_count 0\n")
+	})
+	gateway.Process.Signal(syscall.SIGTERM)
+	s.status(gateway)
+	if count := strings.Count(logged.String(), `event="etcd answers again" request="append"`); count != 1 {
+		t.Errorf("logged %s", logged.String())
 	}
 }
 
@@ -639,8 +733,8 @@ func TestExits(t *testing.T) {
 		{"another port that is taken", []string{"-fresh", s.store.Listener.Addr().String()}, 1},
 		{"a third port that is taken", []string{"-status", s.store.Listener.Addr().String()}, 1},
 		{"no certificate", []string{"-certificate", "/nonexistent", "-key", "/nonexistent", "-authorities", "/nonexistent"}, 1},
-		{"no certificate for etcd", []string{"-etcd-files", "/nonexistent"}, 1},
-		{"another domain", []string{"-domain", "other.org"}, 1},
+		{"no certificate for etcd", []string{"-etcd-files", "/nonexistent", "-etcd", "https://127.0.0.1:1"}, 1},
+		{"another domain", []string{"-domain", "other.org"}, 2},
 	} {
 		s.expect(c.name, fmt.Sprint(s.status(s.command(c.words...))), fmt.Sprint(c.want))
 	}

@@ -59,6 +59,9 @@ type event struct {
 	To    int64  `json:"to"`
 	Place uint64 `json:"place"`
 	Read  bool   `json:"read,omitempty"`
+
+	Query  string `json:"query,omitempty"` // in place of Line and Reply
+	Answer string `json:"answer,omitempty"`
 }
 
 // What the callers saw.
@@ -377,6 +380,7 @@ func (c *caller) take(line string, reply []byte, isRead bool, copies int, from, 
 	}
 	e := event{From: from.UnixNano(), To: to.UnixNano(), Place: answer.Place, Read: isRead}
 	if isRead {
+		e.Query, e.Answer = line, string(reply)
 		for i := 0; i < copies; i++ {
 			c.seen.reads = append(c.seen.reads, to.Sub(from).Seconds())
 		}

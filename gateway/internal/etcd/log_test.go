@@ -15,7 +15,7 @@ import (
 func open(t *testing.T) (*etcdtest.Server, *etcd.Log, context.Context) {
 	server := etcdtest.New()
 	t.Cleanup(server.CloseClientConnections)
-	ctx, cancel := context.WithTimeout(context.Background(), 20*time.Second)
+	ctx, cancel := context.WithTimeout(context.Background(), time.Minute)
 	t.Cleanup(cancel)
 	log := etcd.New([]string{server.URL}, "r/", nil)
 	if err := log.Open(ctx, "ex.org"); err != nil {
@@ -32,8 +32,31 @@ func TestOpen(t *testing.T) {
 	if err := log.Open(ctx, "ex.org"); err != nil {
 		t.Error(err)
 	}
-	if err := log.Open(ctx, "other.org"); err == nil {
-		t.Error("the log of another trust domain was opened")
+	if err := log.Open(ctx, "other.org"); !errors.Is(err, etcd.ErrDomain) {
+		t.Errorf("the log of another trust domain: got %v", err)
+	}
+	if head, err := log.Head(ctx); head != 1 || err != nil {
+		t.Errorf("head: got %d, %v", head, err)
+	}
+}
+
+// TestOpenTogether lets another gateway create a log, and append to it, when this one has found none: it doesn't create it again.
+func TestOpenTogether(t *testing.T) {
+	server := etcdtest.New()
+	defer server.CloseClientConnections()
+	ctx, cancel := context.WithTimeout(context.Background(), time.Minute)
+	defer cancel()
+	log := etcd.New([]string{server.URL}, "r/", nil)
+	server.Before(1, func() {
+		if err := log.Open(ctx, "ex.org"); err != nil {
+			t.Error(err)
+		}
+		if _, err := log.Append(ctx, 1, []byte("a")); err != nil {
+			t.Error(err)
+		}
+	})
+	if err := log.Open(ctx, "ex.org"); err != nil {
+		t.Error(err)
 	}
 	if head, err := log.Head(ctx); head != 1 || err != nil {
 		t.Errorf("head: got %d, %v", head, err)
@@ -146,7 +169,7 @@ func TestFollow(t *testing.T) {
 func TestFollowRestored(t *testing.T) {
 	for _, when := range []string{"a page", "caught up"} {
 		server, log, ctx := open(t)
-		short, stop := context.WithTimeout(ctx, 5*time.Second)
+		short, stop := context.WithTimeout(ctx, 30*time.Second)
 		defer stop()
 		fill := func(prefix string) {
 			for number := uint64(1); number <= 200; number++ {

@@ -18,11 +18,13 @@ type Member struct {
 	Quota  int64    `json:"quota"` // of the file, or 0 if unknown
 	Alarms []string `json:"alarms,omitempty"`
 	Error  string   `json:"error,omitempty"` // why it doesn't serve requests
+	// why the quota is unknown of a member that serves requests
+	QuotaError string `json:"quota_error,omitempty"`
 }
 
 // Members asks each member for its state.
 func (l *Log) Members(ctx context.Context) []Member {
-	ctx, cancel := context.WithTimeout(ctx, callTime)
+	ctx, cancel := context.WithTimeout(ctx, l.times.call)
 	defer cancel()
 	all := make([]Member, len(l.members))
 	var asking sync.WaitGroup
@@ -56,8 +58,10 @@ func (l *Log) ask(ctx context.Context, m *Member) error {
 		return err
 	}
 	m.Bytes, m.Used, m.Alarms = status.Bytes, status.Used, status.Errors
-	m.Quota, err = l.quota(ctx, m.URL)
-	return err
+	if m.Quota, err = l.quota(ctx, m.URL); err != nil { // its metrics may be at another address
+		m.QuotaError = err.Error()
+	}
+	return nil
 }
 
 // quota returns the quota of a member, which it reports as a metric alone.

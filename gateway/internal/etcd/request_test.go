@@ -1,15 +1,19 @@
 package etcd
 
 import (
+	"bytes"
 	"context"
 	"errors"
 	"fmt"
+	"io"
 	"net"
 	"net/http"
 	"net/http/httptest"
+	"net/url"
 	"strings"
 	"sync"
 	"sync/atomic"
+	"syscall"
 	"testing"
 	"time"
 
@@ -19,7 +23,7 @@ import (
 func openLog(t *testing.T) (*etcdtest.Server, *Log, context.Context) {
 	server := etcdtest.New()
 	t.Cleanup(server.CloseClientConnections)
-	ctx, cancel := context.WithTimeout(context.Background(), 20*time.Second)
+	ctx, cancel := context.WithTimeout(context.Background(), time.Minute)
 	t.Cleanup(cancel)
 	log := New([]string{server.URL}, "r/", nil)
 	if err := log.Open(ctx, "ex.org"); err != nil {
@@ -27,6 +31,10 @@ func openLog(t *testing.T) (*etcdtest.Server, *Log, context.Context) {
 	}
 	return server, log, ctx
 }
+
+// shortTimes are for tests that let them pass.
+var shortTimes = times{call: 300 * time.Millisecond, byte: 10 * time.Microsecond, page: 3 * time.Second,
+	again: 20 * time.Millisecond, rarely: 100 * time.Millisecond}
 
 // TestSilentMember uses another member if one accepts connections and never answers.
 func TestSilentMember(t *testing.T) {
@@ -37,13 +45,14 @@ func TestSilentMember(t *testing.T) {
 	}
 	defer silent.Close()
 	log := New([]string{"http://" + silent.Addr().String(), server.URL}, "r/", nil)
+	log.times = shortTimes
 	begin := time.Now()
 	for i := 0; i < 2; i++ { // it stays with the one that answers
 		if had, err := log.Get(ctx, "head"); err != nil || string(had) != "0" {
 			t.Errorf("got %s, %v", had, err)
 		}
 	}
-	if took := time.Since(begin); took < callTime || took > 10*callTime {
+	if took := time.Since(begin); took < log.times.call || took > 10*log.times.call {
 		t.Errorf("it took %v", took)
 	}
 }
@@ -60,7 +69,9 @@ func TestFailuresTogether(t *testing.T) {
 	log := New([]string{bad.URL, server.URL}, "r/", nil)
 	ended := make(chan error, 2)
 	for i := 0; i < 2; i++ {
-		go func() { ended <- log.call(ctx, pageTime, "/v3/kv/range", object{"key": log.key("head")}, &found{}) }()
+		go func() {
+			ended <- log.read(ctx, log.times.page, "/v3/kv/range", object{"key": log.key("head")}, &found{})
+		}()
 	}
 	<-arrived
 	<-arrived
@@ -75,46 +86,143 @@ func TestFailuresTogether(t *testing.T) {
 	}
 }
 
-// TestSlowPage checks that a page may take longer than another request, and that no request may take for ever.
-func TestSlowPage(t *testing.T) {
-	slow := httptest.NewServer(http.HandlerFunc(func(w http.ResponseWriter, r *http.Request) {
+// slow is a member that answers as a store does, after some time.
+func slow(t *testing.T, store http.Handler, long time.Duration) string {
+	server := httptest.NewServer(http.HandlerFunc(func(w http.ResponseWriter, r *http.Request) {
+		text, err := io.ReadAll(r.Body)
+		if err != nil {
+			return
+		}
 		select {
-		case <-time.After(callTime * 3 / 2):
-			fmt.Fprint(w, `{"responses":[{"response_range":{}},{"response_range":{"kvs":[{"value":"Nw=="}]}}]}`) // the head is 7
+		case <-time.After(long):
+			r.Body = io.NopCloser(bytes.NewReader(text))
+			store.ServeHTTP(w, r)
 		case <-r.Context().Done():
 		}
 	}))
-	defer slow.Close()
-	log := New([]string{slow.URL}, "r/", nil)
+	t.Cleanup(server.Close)
+	return server.URL
+}
+
+// TestSlowEtcd checks that requests are answered by an etcd that takes two seconds for each.
+func TestSlowEtcd(t *testing.T) {
+	t.Parallel()
+	store, _, ctx := openLog(t)
+	log := New([]string{slow(t, store.Config.Handler, 2*time.Second)}, "r/", nil)
+	if head, err := log.Head(ctx); head != 0 || err != nil {
+		t.Errorf("head: got %d, %v", head, err)
+	}
+	if last, err := log.Append(ctx, 1, []byte("a")); last != 1 || err != nil {
+		t.Errorf("append: got %d, %v", last, err)
+	}
+	if count := store.Counts().Transactions; count != 2 { // of which one has opened the log
+		t.Errorf("%d transactions", count)
+	}
+}
+
+// TestSlowPage checks that a page may take longer than another request, and that no request may take for ever.
+func TestSlowPage(t *testing.T) {
+	log := New([]string{"http://127.0.0.1:1"}, "r/", nil)
+	log.times = shortTimes
+	log.members = []string{slow(t, http.HandlerFunc(func(w http.ResponseWriter, _ *http.Request) {
+		fmt.Fprint(w, `{"responses":[{"response_range":{}},{"response_range":{"kvs":[{"value":"Nw=="}]}}]}`) // the head is 7
+	}), log.times.call*3/2)}
 	_, _, ctx := openLog(t)
 	if _, err := log.Follow(ctx, 1, "", func(uint64) {}, func(uint64, []byte) {}); !errors.Is(err, ErrCut) {
 		t.Errorf("a slow page: got %v", err)
 	}
-	if err := log.call(ctx, callTime, "/", object{}, &found{}); !errors.Is(err, context.DeadlineExceeded) {
+	if err := log.read(ctx, log.times.call, "/", object{}, &found{}); !errors.Is(err, context.DeadlineExceeded) {
 		t.Errorf("a slow answer: got %v", err)
+	}
+}
+
+// TestLargePage follows a log over a slow network: pages that take too long are followed by smaller ones, and those that come by larger ones, so that
+// all entries arrive.
+func TestLargePage(t *testing.T) {
+	t.Parallel()
+	server, _, _ := openLog(t)
+	ctx, cancel := context.WithTimeout(context.Background(), time.Minute)
+	defer cancel()
+	const last = 12
+	other := New([]string{server.URL}, "r/", nil)
+	for number := uint64(1); number <= last; number++ {
+		if _, err := other.Append(ctx, number, bytes.Repeat([]byte("x"), 50_000)); err != nil {
+			t.Fatal(err)
+		}
+	}
+	const pageTime = 2 * time.Second
+	narrow := httptest.NewServer(http.HandlerFunc(func(w http.ResponseWriter, r *http.Request) {
+		answer := httptest.NewRecorder()
+		server.Config.Handler.ServeHTTP(answer, r)
+		text := answer.Body.Bytes()
+		inTime := smaller(len(text), 5*67_000) // five entries come in the time for a page
+		if _, err := w.Write(text[:inTime]); err != nil {
+			return
+		}
+		if inTime < len(text) {
+			Pause(r.Context(), 2*pageTime)
+		}
+	}))
+	defer narrow.Close()
+	log := New([]string{narrow.URL}, "r/", nil)
+	log.times = shortTimes
+	log.times.page = pageTime
+	reading, stop := context.WithCancel(ctx)
+	defer stop()
+	next, taken := uint64(1), 0
+	for tries := 0; next <= last && ctx.Err() == nil; tries++ {
+		var err error
+		next, err = log.Follow(reading, next, "", func(uint64) { stop() }, func(uint64, []byte) { taken++ })
+		if err == nil || tries > 40 {
+			t.Fatalf("entry %d is due, %v", next, err)
+		}
+	}
+	if taken != last {
+		t.Errorf("%d entries came", taken)
+	}
+	if size := log.pageSize.Load(); size < 1 || size > 16 {
+		t.Errorf("the next page has %d entries", size)
+	}
+}
+
+func smaller(a, b int) int {
+	if a < b {
+		return a
+	}
+	return b
+}
+
+// TestPageSize checks how many entries the next page has: half after one that took too long, and one more after one that came.
+func TestPageSize(t *testing.T) {
+	log := New(nil, "r/", nil)
+	for _, c := range []struct {
+		err  error
+		want int64
+	}{
+		{nil, pageSize}, {context.DeadlineExceeded, pageSize / 2}, {errors.New("refused"), pageSize / 2}, {nil, pageSize/2 + 1},
+		{context.DeadlineExceeded, pageSize / 4}, {context.DeadlineExceeded, 8}, {context.DeadlineExceeded, 4},
+		{context.DeadlineExceeded, 2}, {context.DeadlineExceeded, 1}, {context.DeadlineExceeded, 1}, {nil, 2},
+	} {
+		if log.resize(log.pageSize.Load(), c.err); log.pageSize.Load() != c.want {
+			t.Errorf("after %v: got %d, want %d", c.err, log.pageSize.Load(), c.want)
+		}
 	}
 }
 
 // TestLargeValues checks that requests with large values may take longer than others.
 func TestLargeValues(t *testing.T) {
 	store, _, ctx := openLog(t)
-	slow := httptest.NewServer(http.HandlerFunc(func(w http.ResponseWriter, r *http.Request) {
-		select {
-		case <-time.After(callTime * 3 / 2):
-			store.Config.Handler.ServeHTTP(w, r)
-		case <-r.Context().Done():
-		}
-	}))
-	defer slow.Close()
-	log := New([]string{slow.URL}, "r/", nil)
+	log := New(nil, "r/", nil)
+	log.times = shortTimes
+	log.members = []string{slow(t, store.Config.Handler, log.times.call*3/2)}
 	for name, request := range map[string]func() error{
 		"an append":  func() error { _, err := log.Append(ctx, 1, make([]byte, 1<<20)); return err },
 		"a piece":    func() error { return log.Put(ctx, "piece", make([]byte, 1<<19)) },
 		"reading it": func() error { _, err := log.GetLarge(ctx, "piece", 1<<19); return err },
 	} {
-		begin := time.Now()
-		if err, took := request(), time.Since(begin); err != nil || took > 3*callTime {
-			t.Errorf("%s: got %v after %v", name, err, took)
+		store.Recount()
+		if err := request(); err != nil || store.Counts().Requests != 1 {
+			t.Errorf("%s: got %v, %v", name, store.Counts(), err)
 		}
 	}
 }
@@ -135,7 +243,7 @@ func TestLongAnswers(t *testing.T) {
 			}
 		}
 		server.Start()
-		err := New([]string{server.URL}, "r/", nil).call(context.Background(), pageTime, "/", object{}, &found{})
+		err := New([]string{server.URL}, "r/", nil).read(context.Background(), usualTimes.page, "/", object{}, &found{})
 		if isError := status != http.StatusOK; (err != nil) != isError || isError && (len(err.Error()) > 1000 || !strings.Contains(err.Error(), "503 Service Unavailable {} reason")) {
 			t.Errorf("got %.2000v", err)
 		}
@@ -163,11 +271,11 @@ func TestConnections(t *testing.T) {
 	log, ctx := New([]string{server.URL}, "r/", nil), context.Background()
 	for i := 0; i < 20; i++ {
 		handler.Refuse(i % 2)
-		if err := log.call(ctx, callTime, "/v3/kv/range", object{"key": log.key("head")}, &found{}); (err != nil) != (i%2 == 1) {
+		if err := log.read(ctx, log.times.call, "/v3/kv/range", object{"key": log.key("head")}, &found{}); (err != nil) != (i%2 == 1) {
 			t.Error(err)
 		}
 	}
-	if count := opened.Load(); count != 1 {
+	if count := opened.Load(); count > 3 { // few more than one, on a machine that is too busy to free one in time
 		t.Errorf("%d connections for one request after another", count)
 	}
 	for round := 0; round < 10; round++ {
@@ -186,23 +294,96 @@ func TestConnections(t *testing.T) {
 	}
 }
 
-// TestPauses checks that there is a pause before a refused request is repeated.
+// TestPauses checks that there are pauses before a refused request is repeated, each longer than the one before.
 func TestPauses(t *testing.T) {
 	server, log, _ := openLog(t)
+	log.times = shortTimes
 	for name, request := range map[string]func(context.Context) error{
 		"a query":   func(ctx context.Context) error { _, err := log.Get(ctx, "head"); return err },
+		"a value":   func(ctx context.Context) error { return log.Put(ctx, "x", nil) },
 		"an append": func(ctx context.Context) error { _, err := log.Append(ctx, 1, []byte("a")); return err },
 	} {
-		ctx, cancel := context.WithTimeout(context.Background(), 4*retryTime)
+		ctx, cancel := context.WithTimeout(context.Background(), 20*log.times.again)
 		server.Recount()
 		server.Refuse(1 << 30)
 		if err := request(ctx); err != context.DeadlineExceeded {
 			t.Errorf("%s: got %v", name, err)
 		}
-		if count := server.Counts().Requests; count > 5 {
+		if count := server.Counts().Requests; count < 2 || count > 10 {
 			t.Errorf("%s: %d requests", name, count)
 		}
 		cancel()
+	}
+}
+
+// TestBackoff checks that pauses double up to the longest one, that chance takes at most half of each, and that they begin again after a reset.
+func TestBackoff(t *testing.T) {
+	b, seen := Backoff{First: 100 * time.Millisecond, Most: time.Second}, map[time.Duration]bool{}
+	for round := 0; round < 50; round++ {
+		for _, most := range []time.Duration{100, 200, 400, 800, 1000, 1000} {
+			most *= time.Millisecond
+			pause := b.take()
+			if seen[pause] = true; pause < most/2 || pause > most {
+				t.Fatalf("got %v, want up to %v", pause, most)
+			}
+		}
+		b.Reset()
+	}
+	if len(seen) < 100 {
+		t.Errorf("of 300 pauses %d are different", len(seen))
+	}
+}
+
+// TestFailover makes an entry by a first member that loses its answer, after which a snapshot cuts it off. Whether it was made can't be known, so the
+// second member doesn't make it again.
+func TestFailover(t *testing.T) {
+	server, log, ctx := openLog(t)
+	first := httptest.NewServer(http.HandlerFunc(func(w http.ResponseWriter, r *http.Request) {
+		server.Config.Handler.ServeHTTP(httptest.NewRecorder(), r)
+		if err := log.Cut(ctx, 1); err != nil {
+			t.Error(err)
+		}
+		http.Error(w, "etcdserver: leader changed", http.StatusServiceUnavailable)
+	}))
+	defer first.Close()
+	last, err := New([]string{first.URL, server.URL}, "r/", nil).Append(ctx, 1, []byte("a"))
+	if last != 1 || !errors.Is(err, ErrUnknown) {
+		t.Errorf("got %d, %v", last, err)
+	}
+	made := 0
+	for _, key := range server.Puts() {
+		if strings.HasPrefix(key, "r/log/") {
+			made++
+		}
+	}
+	if made != 1 {
+		t.Errorf("it was made %d times", made)
+	}
+}
+
+// TestUnreachable checks that a connection has a limit for what the other side doesn't acknowledge, which is shorter than that of a request.
+func TestUnreachable(t *testing.T) {
+	on, err := net.Listen("tcp", "127.0.0.1:0")
+	if err != nil {
+		t.Fatal(err)
+	}
+	defer on.Close()
+	conn, err := Dialer.Dial("tcp", on.Addr().String())
+	if err != nil {
+		t.Fatal(err)
+	}
+	defer conn.Close()
+	raw, err := conn.(*net.TCPConn).SyscallConn()
+	if err != nil {
+		t.Fatal(err)
+	}
+	limit := 0
+	var failed error
+	err = raw.Control(func(descriptor uintptr) {
+		limit, failed = syscall.GetsockoptInt(int(descriptor), syscall.IPPROTO_TCP, tcpUserTimeout)
+	})
+	if err != nil || failed != nil || limit != 3000 || Dialer.Timeout >= usualTimes.call {
+		t.Errorf("got %d ms, %v, %v", limit, err, failed)
 	}
 }
 
@@ -268,5 +449,39 @@ func TestOpenAppend(t *testing.T) {
 	})
 	if last, err := log.Append(ctx, 1, []byte("c")); last != 4 || err != nil {
 		t.Errorf("got %d, %v", last, err)
+	}
+}
+
+// TestReasons checks which failures are logged: each reason once until a request is answered, whatever addresses a connection had, and few of them.
+func TestReasons(t *testing.T) {
+	log := New(nil, "r/", nil)
+	dial := func(port int) error {
+		return &url.Error{Err: &net.OpError{Op: "dial", Addr: &net.TCPAddr{Port: port}, Err: syscall.ECONNREFUSED}}
+	}
+	for _, c := range []struct {
+		kind string
+		err  error
+		want bool
+	}{
+		{"get", dial(1), true}, {"get", dial(2), false}, {"get", errors.New("no space"), true}, {"get", errors.New("no space"), false},
+		{"append", errors.New("no space"), true}, {"get", &url.Error{Err: context.DeadlineExceeded}, true},
+		{"get", fmt.Errorf("x: %w", &url.Error{URL: "a", Err: context.DeadlineExceeded}), false},
+	} {
+		if got := log.isNews(c.kind, reasonOf(c.err)); got != c.want {
+			t.Errorf("%s: %v: got %v", c.kind, c.err, got)
+		}
+	}
+	count := 3
+	for i := 0; i < 100; i++ {
+		if log.isNews("get", fmt.Sprint(i)) {
+			count++
+		}
+	}
+	if count != mostReasons {
+		t.Errorf("%d reasons", count)
+	}
+	log.answers("get")
+	if !log.isNews("get", "no space") || log.isNews("append", "no space") {
+		t.Error("an answer of one kind counts for another one, or for none")
 	}
 }

@@ -18,15 +18,23 @@ func Error(event string, pairs ...any) {
 	os.Stderr.WriteString(format(time.Now(), "error", event, pairs))
 }
 
+// started is when the process began to count. The time since then doesn't follow a clock that is set.
+var started = time.Now()
+
 // A Rare is for an event that may come often: it writes at most one line in a minute. The zero value is ready.
-type Rare struct{ next atomic.Int64 }
+type Rare struct{ next atomic.Int64 } // when the next line is due: nanoseconds since the process started
 
 // Error writes a line as the function Error does, if it is time for one.
 func (r *Rare) Error(event string, pairs ...any) {
-	now := time.Now().Unix()
-	if next := r.next.Load(); now >= next && r.next.CompareAndSwap(next, now+60) {
+	if r.isDue(time.Since(started)) {
 		Error(event, pairs...)
 	}
+}
+
+// isDue returns true if a line may be written, and then none is due for a minute.
+func (r *Rare) isDue(now time.Duration) bool {
+	next := r.next.Load()
+	return int64(now) >= next && r.next.CompareAndSwap(next, int64(now+time.Minute))
 }
 
 // format returns the line. The event and the values are quoted, so that no text of a caller looks like another word or line.

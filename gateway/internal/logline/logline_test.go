@@ -28,14 +28,12 @@ func TestFormat(t *testing.T) {
 // TestRare checks that a rare event is logged, and not again within a minute.
 func TestRare(t *testing.T) {
 	var r Rare
-	begin := time.Now().Unix()
-	r.Error("first")
-	next := r.next.Load()
-	if next < begin+60 || next > time.Now().Unix()+60 {
-		t.Errorf("the next line is due in %d seconds", next-begin)
-	}
-	r.next.Store(next + 1000)
-	if r.Error("second"); r.next.Load() != next+1000 {
-		t.Error("it was logged again")
+	for _, c := range []struct {
+		now  time.Duration
+		want bool
+	}{{0, true}, {0, false}, {59 * time.Second, false}, {time.Minute, true}, {61 * time.Second, false}, {time.Hour, true}} {
+		if got := r.isDue(c.now); got != c.want {
+			t.Errorf("after %v: got %v", c.now, got)
+		}
 	}
 }

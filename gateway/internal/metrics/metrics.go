@@ -70,7 +70,15 @@ func (p *Page) Gauge(name, help string, value float64) {
 // Info adds the value 1 with two labels.
 func (p *Page) Info(name, help, first, one, second, other string) {
 	p.begin("gauge", name, help)
-	p.sample(fmt.Sprintf("%s{%s=%q,%s=%q}", name, first, one, second, other), 1)
+	p.sample(fmt.Sprintf("%s{%s=%s,%s=%s}", name, first, quote(one), second, quote(other)), 1)
+}
+
+// escapes are those of the text format in a value of a label, which knows no others.
+var escapes = strings.NewReplacer(`\`, `\\`, `"`, `\"`, "\n", `\n`)
+
+// quote returns a value of a label in quotes.
+func quote(value string) string {
+	return `"` + escapes.Replace(strings.ToValidUTF8(value, "\uFFFD")) + `"`
 }
 
 // Counter adds a counter.
@@ -87,7 +95,8 @@ func (p *Page) Vector(name, help, label string, v *Vector, known ...string) {
 	}
 	var samples []string
 	v.counters.Range(func(value, counter any) bool {
-		samples = append(samples, fmt.Sprintf("%s{%s=%q} %d\n", name, label, value, counter.(*Counter).Load()))
+		text := fmt.Sprintf("%s{%s=%s} %d\n", name, label, quote(value.(string)), counter.(*Counter).Load())
+		samples = append(samples, text)
 		return true
 	})
 	sort.Strings(samples)

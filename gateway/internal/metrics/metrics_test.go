@@ -12,7 +12,7 @@ func TestPage(t *testing.T) {
 	c.Inc()
 	c.Inc()
 	var v Vector
-	for _, value := range []string{"b", "a\"\n", "b"} {
+	for _, value := range []string{"b", "a\"\n", "b", "\té\x01\\\xff"} {
 		v.Inc(value)
 	}
 	for _, one := range []struct {
@@ -25,7 +25,7 @@ func TestPage(t *testing.T) {
 		{"labels", func(p *Page) { p.Info("g", "Names.", "a", "x", "b", "y\n") }, "# HELP g Names.\n# TYPE g gauge\ng{a=\"x\",b=\"y\\n\"} 1\n"},
 		{"a counter", func(p *Page) { p.Counter("c_total", "Events.", &c) }, "# HELP c_total Events.\n# TYPE c_total counter\nc_total 2\n"},
 		{"a vector", func(p *Page) { p.Vector("v_total", "Events.", "code", &v) },
-			"# HELP v_total Events.\n# TYPE v_total counter\nv_total{code=\"a\\\"\\n\"} 1\nv_total{code=\"b\"} 2\n"},
+			"# HELP v_total Events.\n# TYPE v_total counter\nv_total{code=\"\té\x01\\\\\uFFFD\"} 1\nv_total{code=\"a\\\"\\n\"} 1\nv_total{code=\"b\"} 2\n"},
 	} {
 		var p Page
 		if one.add(&p); p.String() != one.want {

@@ -1,6 +1,7 @@
 package server
 
 import (
+	"fmt"
 	"sync"
 	"testing"
 	"time"
@@ -106,5 +107,71 @@ func TestNextNumber(t *testing.T) {
 	}
 	if counts := s.store.Counts(); counts.Transactions != 5 {
 		t.Errorf("%d transactions", counts.Transactions)
+	}
+}
+
+// TestSlowAppend lets etcd make entries immediately and answer late. The gateway meets its entry in the log, and makes the next one.
+func TestSlowAppend(t *testing.T) {
+	t.Parallel()
+	s := newSite(t)
+	_, address, _ := s.gateway("a")
+	release := s.store.HoldAnswers()
+	defer release()
+	s.store.Recount()
+	begin := time.Now()
+	for place := 1; place <= 5; place++ {
+		s.expect("a change", s.call(address, prune), committed(1, place))
+	}
+	if counts := s.store.Counts(); counts.Transactions != 5 {
+		t.Errorf("%d transactions", counts.Transactions)
+	}
+	if took := time.Since(begin); took > 10*time.Second {
+		t.Errorf("it took %v", took)
+	}
+}
+
+// TestSwallowedAppend makes a snapshot of an entry, and cuts that off, before the gateway that has appended it has seen it. The connections of its
+// changes end, since it can't be known what was answered, and nothing is kept of it.
+func TestSwallowedAppend(t *testing.T) {
+	t.Parallel()
+	s := newSite(t)
+	s.limits.Answer = 40 * time.Second
+	g, address, _ := s.gateway("a")
+	s.expect("a change", s.call(address, prune), committed(1, 1))
+	within(t, "no watch", func() bool { return s.store.Counts().Watches == 1 })
+	s.store.HoldWatch()
+	conn, in := s.dial(address)
+	fmt.Fprintln(conn, prune)
+	within(t, "no entry", func() bool { head, _ := s.log.Head(s.ctx); return head == 2 })
+	s.log.Put(s.ctx, "snapshot/0000000000000002/00000000", []byte(`{"Entry":2,"Place":2}`))
+	s.log.Put(s.ctx, "snapshot", []byte(`{"Entry":2,"Chunks":1}`))
+	s.log.Cut(s.ctx, 2)
+	begin := time.Now()
+	if got := ends(t, in); got != "" {
+		t.Errorf("got %s", got)
+	}
+	if took := time.Since(begin); took > s.limits.Answer/2 {
+		t.Errorf("it took %v", took)
+	}
+	g.flights.Range(func(name, _ any) bool { t.Errorf("%s is under way", name); return true })
+	s.expect("another change", s.call(address, prune), committed(1, 3))
+}
+
+// TestGiveUpLost checks which entries are given up: those that were appended before the last one that was executed.
+func TestGiveUpLost(t *testing.T) {
+	g := New(newSite(t).log, Options{Limits: UsualLimits})
+	made := map[string]*request{}
+	for name, last := range map[string]uint64{"open": 0, "executed": 7, "to be executed": 8} {
+		made[name] = (&session{Gateway: g}).request(nil)
+		f := &flight{changes: []*request{made[name]}, passed: make(chan uint64, 1)}
+		f.last.Store(last)
+		g.flights.Store(name, f)
+	}
+	g.giveUpLost(7)
+	for name, q := range made {
+		_, isThere := g.flights.Load(name)
+		if isGone := name == "executed"; isThere == isGone || (len(q.reply) == 1) != isGone {
+			t.Errorf("%s: it is there: %v, replies: %d", name, isThere, len(q.reply))
+		}
 	}
 }

@@ -13,6 +13,7 @@ type board struct {
 	changed chan struct{}    // closed and replaced at each change
 	replica *replica.Replica // nil until a replica has executed what was in the log when it started
 	state   replica.State
+	former  replica.State // of the last replica that ended, if that had executed an entry
 }
 
 // update changes the board, and wakes those that wait.
@@ -24,6 +25,26 @@ func (b *board) update(change func()) {
 		close(b.changed)
 		b.changed = make(chan struct{})
 	}
+}
+
+// clear takes the replica off the board, when it has ended.
+func (b *board) clear() {
+	b.update(func() {
+		if b.state.Entry > 0 {
+			b.former = b.state
+		}
+		b.replica, b.state = nil, replica.State{}
+	})
+}
+
+// last returns the state of a book that this gateway has, or had last. It is empty if the gateway has executed nothing.
+func (b *board) last() replica.State {
+	b.mu.Lock()
+	defer b.mu.Unlock()
+	if b.state.Entry > 0 {
+		return b.state
+	}
+	return b.former
 }
 
 // read returns the replica, or nil, and its state.

@@ -3,28 +3,13 @@ package server
 import (
 	"context"
 	"crypto/tls"
-	"crypto/x509"
 	"io"
 	"net"
 	"os"
-	"strings"
 	"sync"
 	"syscall"
 	"time"
 )
-
-// callerOf returns the SPIFFE ID of a certificate, or "", and whether it is one of the operators. A certificate names a caller if its only URI is
-// a SPIFFE ID, as the specification of X.509-SVIDs requires. Otherwise the caller has no name, and may send nothing.
-func callerOf(leaf *x509.Certificate, operators []string) (id string, isOperator bool) {
-	if len(leaf.URIs) != 1 || leaf.IsCA || !strings.HasPrefix(leaf.URIs[0].String(), "spiffe://") {
-		return "", false
-	}
-	id = leaf.URIs[0].String()
-	for _, operator := range operators {
-		isOperator = isOperator || id == operator
-	}
-	return id, isOperator
-}
 
 // A crowd counts the connections of each caller.
 type crowd struct {

@@ -2,7 +2,11 @@ package server
 
 import (
 	"crypto/x509"
+	"crypto/x509/pkix"
+	"encoding/asn1"
 	"fmt"
+	"math/big"
+	"strings"
 	"testing"
 	"time"
 )
@@ -23,6 +27,11 @@ func TestCallerOf(t *testing.T) {
 		cert *x509.Certificate
 		id   string
 	}{
+		{"an empty fragment", a.unparsed("spiffe://ex.org/operator#"), ""},
+		{"a URI that is an ID", a.unparsed("spiffe://ex.org/longer"), "spiffe://ex.org/longer"},
+		{"another spelling of the scheme", a.unparsed("SPIFFE://ex.org/operator"), ""},
+		{"an ID of another trust domain", a.leaf("t", "spiffe://example.org/operator"), ""},
+		{"an ID of a longer trust domain", a.leaf("u", "spiffe://ex.org.evil.org/operator"), ""},
 		{"an operator", a.leaf("o", "spiffe://ex.org/operator"), "spiffe://ex.org/operator"},
 		{"an agent", a.leaf("n", n1), n1},
 		{"a longer name", a.leaf("l", "spiffe://ex.org/operator2"), "spiffe://ex.org/operator2"},
@@ -31,13 +40,49 @@ func TestCallerOf(t *testing.T) {
 		{"another scheme", a.leaf("h", "https://ex.org/operator"), ""},
 		{"an authority", signed, ""},
 	} {
-		id, isOperator := callerOf(c.cert, operators)
+		id, isOperator := callerOf(c.cert, "ex.org", operators)
 		if id != c.id || isOperator != (c.name == "an operator") {
 			t.Errorf("%s: got %s, %v", c.name, id, isOperator)
 		}
 	}
-	if id, isOperator := callerOf(a.leaf("e"), []string{""}); id != "" || isOperator {
+	if id, isOperator := callerOf(a.leaf("e"), "ex.org", []string{""}); id != "" || isOperator {
 		t.Error("a caller without a name is an operator")
+	}
+}
+
+// sanOf returns the extension with a URI as a certificate's only alternative name, unchanged.
+func sanOf(t *testing.T, uri string) pkix.Extension {
+	t.Helper()
+	names := []asn1.RawValue{{Class: asn1.ClassContextSpecific, Tag: uriTag, Bytes: []byte(uri)}}
+	value, err := asn1.Marshal(names)
+	if err != nil {
+		t.Fatal(err)
+	}
+	return pkix.Extension{Id: nameExtension, Value: value}
+}
+
+// unparsed returns a certificate with a URI that is not parsed before it is signed.
+func (a *authority) unparsed(uri string) *x509.Certificate {
+	template := &x509.Certificate{SerialNumber: big.NewInt(5), NotBefore: time.Now().Add(-time.Hour), NotAfter: time.Now().Add(time.Hour),
+		ExtraExtensions: []pkix.Extension{sanOf(a.t, uri)}}
+	cert, _ := a.sign("unparsed", template, a)
+	return cert
+}
+
+// TestIsCallerID checks which texts are IDs of callers: those of the trust domain with a path that regd accepts.
+func TestIsCallerID(t *testing.T) {
+	long := "spiffe://ex.org/" + strings.Repeat("x", mostID-len("spiffe://ex.org/"))
+	for id, want := range map[string]bool{
+		"spiffe://ex.org/operator": true, n1: true, "spiffe://ex.org/A-b_c.9/...": true, long: true, long + "x": false,
+		"": false, "spiffe://ex.org": false, "spiffe://ex.org/": false, "spiffe://ex.org/a/": false, "spiffe://ex.org//a": false,
+		"spiffe://ex.org/a/.": false, "spiffe://ex.org/../a": false, "spiffe://ex.org/a#": false, "spiffe://ex.org/a?b": false,
+		"spiffe://ex.org/%61": false, "spiffe://ex.org:443/a": false, "spiffe://u@ex.org/a": false, "SPIFFE://ex.org/a": false,
+		"spiffe://EX.org/a": false, " spiffe://ex.org/a": false, "spiffe://ex.org/a\n": false, "spiffe://other.org/a": false,
+		"spiffe://ex.organ/a": false, "spiffe://ex.org/é": false, "https://ex.org/a": false,
+	} {
+		if IsCallerID(id, "ex.org") != want {
+			t.Errorf("%.60q: got %v", id, !want)
+		}
 	}
 }
 
@@ -45,7 +90,7 @@ func TestCallerOf(t *testing.T) {
 func TestCallers(t *testing.T) {
 	t.Parallel()
 	s := newSite(t)
-	s.limits.Handshake = time.Second
+	s.limits.Handshake = 4 * time.Second
 	_, dial := s.secured(n2)
 	trust := `{"ops":[{"op":"trust","agent":"` + n1 + `"}]}`
 	for _, c := range []struct {

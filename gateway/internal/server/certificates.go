@@ -11,6 +11,7 @@ import (
 	"sync"
 	"time"
 
+	"regd/gateway/internal/etcd"
 	"regd/gateway/internal/logline"
 )
 
@@ -115,7 +116,7 @@ func (c *Certificates) Dial(ctx context.Context, network, address string) (net.C
 	config.VerifyConnection = func(state tls.ConnectionState) error {
 		return checkChain(state.PeerCertificates, config.RootCAs, host, x509.ExtKeyUsageServerAuth)
 	}
-	return (&tls.Dialer{Config: config}).DialContext(ctx, network, address)
+	return (&tls.Dialer{NetDialer: etcd.Dialer, Config: config}).DialContext(ctx, network, address)
 }
 
 // Expiry returns when the certificate expires.

@@ -128,7 +128,7 @@ func handshake(t *testing.T, server *Certificates, dial func(ctx context.Context
 	if err != nil {
 		return "", 0, err
 	}
-	id, _ := callerOf(conn.ConnectionState().PeerCertificates[0], nil)
+	id, _ := callerOf(conn.ConnectionState().PeerCertificates[0], "ex.org", nil)
 	return id, serial, nil
 }
 

@@ -12,8 +12,9 @@ import (
 	"regd/gateway/internal/snapshot"
 )
 
-// againTime is the time before another replica is started, and before the log is read again.
-const againTime = 200 * time.Millisecond
+// againTime is the time before another replica is started. The pauses before the log is read again begin with it, and
+// end with the other one.
+const againTime, mostAgainTime = 200 * time.Millisecond, time.Second
 
 // silentTime is how long a watch may bring nothing although there are new entries.
 const silentTime = 3 * time.Second
@@ -43,6 +44,9 @@ func (g *Gateway) follow(ctx context.Context) error {
 
 // runReplica makes a replica from the newest snapshot and the log, and keeps it at the end of the log until it ends.
 func (g *Gateway) runReplica(ctx context.Context) error {
+	if _, err := g.awaitLog(ctx); err != nil {
+		return err
+	}
 	began := time.Now()
 	r, err := replica.Start(ctx, g.options.Replica, g.executed)
 	if err != nil {
@@ -59,11 +63,14 @@ func (g *Gateway) runReplica(ctx context.Context) error {
 	if err != nil {
 		return err
 	}
-	defer g.board.update(func() { g.board.replica, g.board.state = nil, replica.State{} })
+	defer g.board.clear()
+	pauses := etcd.Backoff{First: againTime, Most: mostAgainTime}
 	isReady := false
 	caughtUp := func(last uint64) {
 		if r.Settle(); r.State().Entry >= last { // less if regd has ended
 			g.board.update(func() { g.board.replica, g.board.state = r, r.State() })
+			g.giveUpLost(r.State().Entry)
+			pauses.Reset()
 			if took := time.Since(began); !isReady {
 				isReady = true
 				g.replays.Observe(took)
@@ -75,6 +82,7 @@ func (g *Gateway) runReplica(ctx context.Context) error {
 	take := func(number uint64, value []byte) {
 		name, lines := etcd.SplitEntry(value)
 		last = name
+		g.pass(number, name)
 		if line, isRecord := etcd.Skipped(name); isRecord && skips[line] == "" {
 			logline.Info("a line is skipped of which the replica did not know", "line", line)
 			r.Close()
@@ -95,14 +103,21 @@ func (g *Gateway) runReplica(ctx context.Context) error {
 		reading, cut := context.WithCancel(ctx)
 		next, err = g.log.Follow(reading, next, last, func(end uint64) { caughtUp(end); go g.guard(reading, cut, r) }, take)
 		cut()
-		switch {
-		case ctx.Err() != nil:
+		if ctx.Err() != nil {
 			return errors.New("regd ended")
-		case errors.Is(err, etcd.ErrCut) || errors.Is(err, etcd.ErrTurnedBack):
-			return err
 		}
-		logline.Error("reading the log again", "next", next, "error", err)
-		etcd.Pause(ctx, againTime)
+		isOther := errors.Is(err, etcd.ErrCut) || errors.Is(err, etcd.ErrTurnedBack)
+		if isOther || errors.Is(err, etcd.ErrNoHead) {
+			wasLost, failed := g.awaitLog(ctx)
+			if failed != nil {
+				return failed
+			}
+			if isOther && !wasLost {
+				return err
+			}
+		}
+		g.readAgain.Error("reading the log again", "next", next, "error", err)
+		pauses.Pause(ctx)
 	}
 }
 
@@ -129,6 +144,7 @@ func (f *failure) after(executed uint64, at etcd.Line, sent uint64) *failure {
 // executed takes note that the replica has executed an entry.
 func (g *Gateway) executed(state replica.State) {
 	g.board.update(func() { g.board.state = state })
+	g.giveUpLost(state.Entry)
 	if state.Entry%voteInterval == 0 {
 		select {
 		case g.marks <- state:

@@ -2,7 +2,6 @@ package server
 
 import (
 	"context"
-	"sync"
 	"sync/atomic"
 )
 
@@ -10,17 +9,21 @@ import (
 type fresh struct {
 	begun atomic.Uint64 // how many requests have begun
 
-	mu       sync.Mutex // held by the goroutine that queries etcd
-	answered uint64     // the number of the last request that was answered
-	head     uint64     // its answer
+	asks     chan struct{} // has the goroutine that queries etcd, which alone reads and writes the others
+	answered uint64        // the number of the last request that was answered
+	head     uint64        // its answer
 }
 
-// freshHead returns the number of the last entry of the log, so that every change that was answered before the call is counted. Its only error
-// is that of the context.
+// freshHead returns the number of the last entry of the log, so that every change that was answered before the call is
+// counted. It fails if the context ends, also while another goroutine queries etcd, or if the log has no head.
 func (g *Gateway) freshHead(ctx context.Context) (uint64, error) {
 	begun := g.fresh.begun.Load()
-	g.fresh.mu.Lock()
-	defer g.fresh.mu.Unlock()
+	select {
+	case g.fresh.asks <- struct{}{}:
+		defer func() { <-g.fresh.asks }()
+	case <-ctx.Done():
+		return 0, ctx.Err()
+	}
 	if g.fresh.answered > begun { // that request has begun after this call
 		return g.fresh.head, nil
 	}

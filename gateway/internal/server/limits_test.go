@@ -292,6 +292,7 @@ func TestChangesLimit(t *testing.T) {
 		t.Errorf("after the change: got %s", got)
 	}
 	s.store.Refuse(0)
+	within(t, "changes wait", func() bool { _, state := g.board.read(); return state.Place == 3 })
 	s.expect("another change", s.call(address, prune), committed(1, 4))
 }
 
@@ -596,6 +597,73 @@ func TestPressure(t *testing.T) {
 	}
 	if took := time.Since(begin); took > s.limits.Write*3/4 || endedFor(t, g, "write") != 1 {
 		t.Errorf("it was cut off after %v", took)
+	}
+}
+
+// TestSlowLine sends a long line slowly: the time for it is not that for its beginning and again that for the rest.
+func TestSlowLine(t *testing.T) {
+	t.Parallel()
+	s := newSite(t)
+	s.limits.Line = 2 * time.Second
+	g, address, _ := s.gateway("a")
+	long := show + strings.Repeat(" ", 2*readBuffer)
+	conn, in := s.dial(address)
+	begin := time.Now()
+	fmt.Fprint(conn, long[:10])
+	time.Sleep(s.limits.Line * 3 / 4)
+	fmt.Fprint(conn, long[10:readBuffer+1])
+	within(t, "no slot is taken", func() bool { return len(g.long) == 1 })
+	if got := ends(t, in); got != "" || endedFor(t, g, "line") != 1 {
+		t.Errorf("got %s", got)
+	}
+	if took := time.Since(begin); took < s.limits.Line || took > s.limits.Line*3/2 {
+		t.Errorf("it took %v", took)
+	}
+}
+
+// TestWaitForSlot checks that the time in which a line waits for a slot is not that of its caller.
+func TestWaitForSlot(t *testing.T) {
+	t.Parallel()
+	s := newSite(t)
+	s.limits.Line, s.limits.LongLines = time.Second, 1
+	g, address, _ := s.gateway("a")
+	g.long <- struct{}{}
+	long := show + strings.Repeat(" ", 2*readBuffer)
+	conn, in := s.dial(address)
+	fmt.Fprint(conn, long[:readBuffer+1])
+	time.Sleep(2 * s.limits.Line)
+	<-g.long
+	fmt.Fprintln(conn, long[readBuffer+1:])
+	if got, err := in.ReadString('\n'); got != answered(1, 0)+"\n" {
+		t.Errorf("got %s, %v", got, err)
+	}
+}
+
+// TestSteadyReader checks that a caller which reads all the time gets a large reply, although that takes longer than a caller may not read.
+func TestSteadyReader(t *testing.T) {
+	t.Parallel()
+	s := newSite(t)
+	s.limits.Write = 2 * time.Second
+	inner, outer := net.Pipe()
+	made := &session{Gateway: New(s.log, Options{Limits: s.limits}), conn: inner, out: make([]byte, 4*pieceSize)}
+	if err := outer.SetDeadline(time.Now().Add(10 * s.limits.Write)); err != nil {
+		t.Fatal(err)
+	}
+	written := make(chan bool, 1)
+	go func() { written <- made.flush() }()
+	begin, part := time.Now(), make([]byte, pieceSize/4)
+	for count := 0; count < 16; count++ {
+		time.Sleep(s.limits.Write / 10)
+		if _, err := io.ReadFull(outer, part); err != nil {
+			t.Fatalf("after %d parts: %v", count, err)
+		}
+	}
+	if isWritten, took := <-written, time.Since(begin); !isWritten || took < s.limits.Write*3/2 {
+		t.Errorf("written: %v, in %v", isWritten, took)
+	}
+	made.out = make([]byte, 4*pieceSize)
+	if made.flush() {
+		t.Error("a caller that doesn't read isn't cut off")
 	}
 }
 

@@ -28,11 +28,13 @@ type Limits struct {
 	Idle      time.Duration // for a caller to begin a line
 	Line      time.Duration // for the rest of the line
 	Write     time.Duration // for a caller to read when its answers fill all buffers
+	Silent    time.Duration // of etcd, after which queries are refused; 0 for none
 	Stop      time.Duration // for lines that are under way when the gateway shuts down
 	Votes     time.Duration // between two looks at the votes
 	Members   time.Duration // between two looks at the members of etcd
 	Status    time.Duration // for a request for the status, and for its answer
 
+	Lag               int   // entries of the log that the replica has not executed, beyond which queries are refused; 0 for none
 	LineBytes         int   // of a line, without its line feed
 	Lines             int   // of a connection that are under way
 	Listings          int   // in a query: operations whose replies grow with the book
@@ -48,15 +50,20 @@ type Limits struct {
 // UsualLimits are the defaults of the program.
 var UsualLimits = Limits{
 	Answer: 20 * time.Second, After: 2 * time.Second, Handshake: 3 * time.Second, Idle: 15 * time.Minute,
-	Line: 30 * time.Second, Write: 20 * time.Second, Stop: 25 * time.Second,
+	Line: 30 * time.Second, Write: 20 * time.Second, Silent: time.Minute, Lag: 10000, Stop: 25 * time.Second,
 	Votes: 5 * time.Second, Members: 10 * time.Second, Status: 10 * time.Second,
 	LineBytes: wire.MaxLine, Lines: 256, Listings: 16, LongLines: 64, Changes: 4096, ReplyBytes: 512 << 20,
 	Connections: 10000, CallerConnections: 100, Handshakes: 256, AddressHandshakes: 128,
 }
 
-// IsValid returns true if all limits are above 0, and lines are not longer than regd accepts them.
+// IsValid returns true if all limits are above 0, but for those that may be none, and lines are not longer than regd accepts them.
 func (l Limits) IsValid() bool {
-	for i, limits := 0, reflect.ValueOf(l); i < limits.NumField(); i++ {
+	if l.Silent < 0 || l.Lag < 0 {
+		return false
+	}
+	l.Silent, l.Lag = 1, 1
+	limits := reflect.ValueOf(l)
+	for i := 0; i < limits.NumField(); i++ {
 		if limits.Field(i).Int() <= 0 {
 			return false
 		}
@@ -82,7 +89,7 @@ type Gateway struct {
 	options    Options
 	run        string // no other gateway, and no other run of this one, has it
 	board      board
-	flights    sync.Map // from the names of this gateway's entries that are not yet answered to their changes
+	flights    sync.Map // from the names of this gateway's entries that are not yet answered to *flight
 	changes    chan *request
 	long       chan struct{}   // one for each long line that is under way
 	turns      []chan struct{} // for each worker of regd, of callers that send many queries together
@@ -99,15 +106,17 @@ type Gateway struct {
 	marks      chan replica.State // checksums to vote for
 
 	isDisputed atomic.Bool
+	isLogLost  atomic.Bool   // the log was found empty, and has not this gateway's book
 	sessions   atomic.Int64  // open ones
+	started    time.Time     // when New was called
 	head       atomic.Uint64 // where the log ended when etcd was last asked
-	headTime   atomic.Int64  // when that was, in seconds
+	heardAfter atomic.Int64  // how long after started that was, in nanoseconds
 	members    atomic.Pointer[[]etcd.Member]
 	skips      atomic.Pointer[etcd.Skips]
 	failure    atomic.Pointer[failure]
 	stats
 
-	acceptFails, crowded, callerCrowded, changesWait, longWait, noRoom, manyHandshakes, panics logline.Rare
+	acceptFails, readAgain, crowded, callerCrowded, changesWait, longWait, noRoom, manyHandshakes, panics logline.Rare
 
 	failedHandshakes logline.Few
 }
@@ -115,11 +124,12 @@ type Gateway struct {
 // New returns a gateway of a log.
 func New(log *etcd.Log, options Options) *Gateway {
 	g := &Gateway{
-		log: log, options: options, run: wire.NewID(), board: board{changed: make(chan struct{})},
+		log: log, options: options, run: wire.NewID(), started: time.Now(), board: board{changed: make(chan struct{})},
 		changes: make(chan *request, options.Limits.Changes), long: make(chan struct{}, options.Limits.LongLines),
 		gate:       newGate(options.Limits.Handshakes, options.Limits.AddressHandshakes),
 		handshakes: make(chan struct{}, runtime.GOMAXPROCS(0)),
-		stop:       make(chan struct{}), crowd: crowd{counts: map[string]int{}}, marks: make(chan replica.State, votesLeft),
+		stop:       make(chan struct{}), crowd: crowd{counts: map[string]int{}}, fresh: fresh{asks: make(chan struct{}, 1)},
+		marks: make(chan replica.State, votesLeft),
 	}
 	for len(g.turns) == 0 || len(g.turns) < options.Replica.Workers-1 {
 		g.turns = append(g.turns, make(chan struct{}, mostTurns))
@@ -127,7 +137,6 @@ func New(log *etcd.Log, options Options) *Gateway {
 	g.options.Replica.ReplyBytes = int(options.Limits.ReplyBytes) / 2 / len(g.turns) // those that are read take no more room than those that are not yet sent
 	g.options.Replica.OnLate = g.late.Inc
 	g.skips.Store(&etcd.Skips{})
-	g.headTime.Store(time.Now().Unix())
 	return g
 }
 
@@ -204,7 +213,8 @@ func (g *Gateway) receive(ctx context.Context, conn net.Conn, isFresh bool) {
 		}
 		s.conn = secure
 		// the handshake requires a certificate
-		s.agent, s.isOperator = callerOf(secure.ConnectionState().PeerCertificates[0], g.options.Operators)
+		s.agent, s.isOperator = callerOf(
+			secure.ConnectionState().PeerCertificates[0], g.options.Replica.Domain, g.options.Operators)
 	}
 	defer g.sessions.Add(-1)
 	if g.sessions.Add(1) > int64(g.options.Limits.Connections) {

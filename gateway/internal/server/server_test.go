@@ -35,6 +35,8 @@ type site struct {
 	ctx   context.Context
 	store *etcdtest.Server
 	log   *etcd.Log
+	// of callers for their answers
+	patience time.Duration
 	// of the gateways that start from now on
 	limits    Limits
 	address   string        // of the last one that secured started
@@ -44,11 +46,16 @@ type site struct {
 }
 
 func newSite(t *testing.T) *site {
+	return newSiteFor(t, 40*time.Second)
+}
+
+// newSiteFor returns a site whose callers wait for a time.
+func newSiteFor(t *testing.T, patience time.Duration) *site {
 	store := etcdtest.New()
 	t.Cleanup(store.CloseClientConnections)
-	ctx, cancel := context.WithTimeout(context.Background(), 50*time.Second)
+	ctx, cancel := context.WithTimeout(context.Background(), patience+10*time.Second)
 	t.Cleanup(cancel)
-	s := &site{t: t, ctx: ctx, store: store, log: etcd.New([]string{store.URL}, "r/", nil), limits: UsualLimits}
+	s := &site{t: t, ctx: ctx, patience: patience, store: store, log: etcd.New([]string{store.URL}, "r/", nil), limits: UsualLimits}
 	if err := s.log.Open(ctx, "ex.org"); err != nil {
 		t.Fatal(err)
 	}
@@ -102,7 +109,7 @@ func (s *site) dial(address string) (net.Conn, *bufio.Reader) {
 	if err != nil {
 		s.t.Fatal(err)
 	}
-	conn.SetDeadline(time.Now().Add(40 * time.Second))
+	conn.SetDeadline(time.Now().Add(s.patience))
 	s.t.Cleanup(func() { conn.Close() })
 	return conn, bufio.NewReader(conn)
 }
@@ -159,7 +166,8 @@ func TestOrder(t *testing.T) {
 
 // TestLongLines checks that the longest lines, sent together while etcd refuses, are all answered.
 func TestLongLines(t *testing.T) {
-	s := newSite(t)
+	s := newSiteFor(t, 3*time.Minute) // they take long with the race detector on a busy machine
+	s.limits.Answer, s.limits.Line = time.Minute, time.Minute
 	_, address, _ := s.gateway("a")
 	long := prune + strings.Repeat(" ", wire.MaxLine-len(prune))
 	var lines, want []string
@@ -325,7 +333,7 @@ func TestNoAnswer(t *testing.T) {
 	t.Parallel()
 	s := newSite(t)
 	s.limits.Answer = 300 * time.Millisecond
-	_, usual, fresh := s.gateway("a")
+	g, usual, fresh := s.gateway("a")
 	s.store.Refuse(1 << 30)
 	begin := time.Now()
 	s.expect("a change", s.call(usual, prune, show))
@@ -336,6 +344,7 @@ func TestNoAnswer(t *testing.T) {
 		t.Errorf("the connections ended after %v", took)
 	}
 	s.store.Refuse(0)
+	within(t, "the change that was taken isn't made", func() bool { _, state := g.board.read(); return state.Place == 1 })
 	s.expect("after the change that was taken", s.call(usual, prune), committed(1, 2))
 }
 

@@ -18,6 +18,7 @@ import (
 const (
 	retryTime  = 2 * time.Millisecond
 	flushSize  = 1 << 15
+	pieceSize  = 1 << 18 // that a caller reads within the time for it
 	readBuffer = 1 << 13
 	replyRoom  = 1 << 18 // for replies to the lines of a connection that are under way, if these are as long as the last ones were
 	// lines that are under way of all connections together, if each has more than one
@@ -43,6 +44,7 @@ type session struct {
 	isFresh    bool
 	number     int // of the connection, which chooses a worker of regd
 
+	lineEnd      time.Time  // when the line that is read has to have ended
 	row          []*request // those whose answer is not yet written
 	largest      int        // about the size of a large reply
 	isChanging   bool       // they are changes
@@ -71,9 +73,7 @@ func (s *session) serve(ctx context.Context) {
 		}
 		line, isChange, code := s.sort(line, code)
 		if code != "" {
-			s.add(s.request(nil)).answer(wire.Refusal(code))
-			s.freeTurn()
-			etcd.Pause(ctx, floodPause) // a refused line needs no regd, so there is no turn for it
+			s.refuse(ctx, code)
 			continue
 		}
 		if (isChange != s.isChanging || s.isFresh) && !s.writeAnswers(ctx, 0) {
@@ -84,6 +84,13 @@ func (s *session) serve(ctx context.Context) {
 		}
 	}
 	s.writeAnswers(ctx, 0)
+}
+
+// refuse answers a line with a code, and pauses: a refused line needs no regd, so there is no turn for it.
+func (s *session) refuse(ctx context.Context, code string) {
+	s.add(s.request(nil)).answer(wire.Refusal(code))
+	s.freeTurn()
+	etcd.Pause(ctx, floodPause)
 }
 
 // sort returns what regd gets for a line, and whether it goes through the log, or the code with which it is refused. A
@@ -126,7 +133,7 @@ func (s *session) hasLine() bool {
 
 // waitForLine waits until a line begins to arrive, and limits the time for the rest of it.
 func (s *session) waitForLine() bool {
-	if !s.readFor(s.options.Limits.Idle) {
+	if !s.readUntil(time.Now().Add(s.options.Limits.Idle)) {
 		return false
 	}
 	if _, err := s.in.Peek(1); err != nil {
@@ -135,12 +142,13 @@ func (s *session) waitForLine() bool {
 	}
 	s.endStreak()
 	runtime.Gosched() // a caller that always has lines doesn't keep a processor
-	return s.readFor(s.options.Limits.Line)
+	s.lineEnd = time.Now().Add(s.options.Limits.Line)
+	return s.readUntil(s.lineEnd)
 }
 
-// readFor limits the time for reading. It returns false if nothing is to be read, because the gateway shuts down.
-func (s *session) readFor(long time.Duration) bool {
-	s.conn.SetReadDeadline(time.Now().Add(long))
+// readUntil limits the time for reading. It returns false if nothing is to be read, because the gateway shuts down.
+func (s *session) readUntil(end time.Time) bool {
+	s.conn.SetReadDeadline(end)
 	if !s.isStopping.Load() { // asked last, since Shutdown ends the time of those that were not stopping before
 		return true
 	}
@@ -155,12 +163,15 @@ func (s *session) noteLate(err error, reason string) {
 	}
 }
 
-// takeSlot waits for one of the slots for lines that are longer than the buffer. It returns false if there is none for too long.
+// takeSlot waits for one of the slots for lines that are longer than the buffer. It returns false if there is none for
+// too long. The time in which it waits is not the caller's.
 func (s *session) takeSlot(ctx context.Context) bool {
+	began := time.Now()
 	select {
 	case s.long <- struct{}{}:
 		s.isLong = true
-		return s.readFor(s.options.Limits.Line)
+		s.lineEnd = s.lineEnd.Add(time.Since(began))
+		return s.readUntil(s.lineEnd)
 	case <-time.After(s.options.Limits.Answer):
 		s.longWait.Error("too many long lines wait", "limit", cap(s.long))
 	case <-ctx.Done():
@@ -280,23 +291,18 @@ func (s *session) query(ctx context.Context, line []byte) bool {
 	q := s.request(line)
 	q.isQuery = true
 	if s.isFresh { // these are asked one at a time, and need no turn
-		late, cancel := context.WithTimeout(ctx, s.options.Limits.Answer)
-		defer cancel()
-		w := s.waits(s.options.Limits.Answer)
-		defer w.timer.Stop()
-		_, before := s.board.read()
-		head, err := s.freshHead(late)
-		if err != nil || head < before.Entry { // less after a restore
-			return false
-		}
-		if !s.waitForBoard(ctx, &w, head, 0) {
-			w.noteEnd()
+		if !s.waitForHead(ctx) {
 			return false
 		}
 	} else if !s.takeTurn(ctx) {
 		return false
 	}
-	_, state := s.board.read()
+	r, state := s.board.read()
+	hasReplica := r != nil
+	if hasReplica && !s.isFresh && s.isOutdated(state.Entry) {
+		s.refuse(ctx, wire.Outdated)
+		return true
+	}
 	if after := wire.After(line); after > state.Place {
 		if !s.writeAnswers(ctx, 0) {
 			return false
@@ -312,6 +318,23 @@ func (s *session) query(ctx context.Context, line []byte) bool {
 	s.progress = time.Now() // the time for the answer doesn't begin before
 	s.ask(s.add(q))
 	return true
+}
+
+// waitForHead waits until the replica has executed what was in the log when it was called. It returns false if the
+// session ends.
+func (s *session) waitForHead(ctx context.Context) bool {
+	late, cancel := context.WithTimeout(ctx, s.options.Limits.Answer)
+	defer cancel()
+	w := s.waits(s.options.Limits.Answer)
+	defer w.timer.Stop()
+	defer w.noteEnd()
+	_, before := s.board.read()
+	head, err := s.freshHead(late)
+	if errors.Is(late.Err(), context.DeadlineExceeded) {
+		w.reason = isOver
+	}
+	isSameLog := err == nil && head >= before.Entry && !s.isLogLost.Load() // less after a restore
+	return isSameLog && s.waitForBoard(ctx, &w, head, 0)
 }
 
 // ask sends a query to the replica. The reply is nil if there is no replica.
@@ -432,18 +455,13 @@ func (s *session) isOld(q *request, reply []byte) bool {
 	return !wire.IsRefusal(reply) && (place < s.place || place < q.place || wire.Code(reply) == "W1" && place < state.Place)
 }
 
-// flush writes what is in out. A caller that doesn't read has less time for it while the replies to all callers take much room.
+// flush writes what is in out.
 func (s *session) flush() bool {
 	if len(s.out) == 0 {
 		return !s.isBroken
 	}
 	s.freeTurn()
-	long := s.options.Limits.Write
-	if s.held.Load() > s.options.Limits.ReplyBytes/2 {
-		long /= 10
-	}
-	s.conn.SetWriteDeadline(time.Now().Add(long))
-	if _, err := s.conn.Write(s.out); err != nil {
+	if err := s.write(s.out); err != nil {
 		s.isBroken = true
 		s.noteLate(err, "write")
 	}
@@ -453,6 +471,28 @@ func (s *session) flush() bool {
 		s.out = nil
 	}
 	return !s.isBroken
+}
+
+// write writes a text in pieces, each of which has the time limit. So a caller that reads is not cut off in the middle of
+// a large reply. It has less time while the replies to all callers take much room.
+func (s *session) write(text []byte) error {
+	for len(text) > 0 {
+		piece := text
+		if len(piece) > pieceSize {
+			piece = piece[:pieceSize]
+		}
+		long := s.options.Limits.Write
+		if s.held.Load() > s.options.Limits.ReplyBytes/2 {
+			long /= 10
+		}
+		s.conn.SetWriteDeadline(time.Now().Add(long))
+		count, err := s.conn.Write(piece)
+		if err != nil {
+			return err
+		}
+		text = text[count:]
+	}
+	return nil
 }
 
 // A request is a line of a caller.

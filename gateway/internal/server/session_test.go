@@ -190,8 +190,8 @@ func TestFreshAnswersDoNotWait(t *testing.T) {
 	conn, in := s.dial(fresh)
 	fmt.Fprintf(conn, "%s\n%s\n", show, show)
 	within(t, "no request", func() bool {
-		g.fresh.mu.Lock()
-		defer g.fresh.mu.Unlock()
+		g.fresh.asks <- struct{}{}
+		defer func() { <-g.fresh.asks }()
 		return g.fresh.answered == 1
 	})
 	time.Sleep(300 * time.Millisecond)
@@ -484,7 +484,7 @@ func TestFreshHead(t *testing.T) {
 	short, cancel := context.WithTimeout(s.ctx, 500*time.Millisecond)
 	defer cancel()
 	heads, failed := make(chan uint64, 20), make(chan error, 1)
-	g.fresh.mu.Lock() // so that all wait before the first request begins, which fails
+	g.fresh.asks <- struct{}{} // so that all wait before the first request begins, which fails
 	go func() { _, err := g.freshHead(short); failed <- err }()
 	time.Sleep(100 * time.Millisecond)
 	for i := 0; i < 20; i++ {
@@ -497,7 +497,7 @@ func TestFreshHead(t *testing.T) {
 		}()
 	}
 	time.Sleep(100 * time.Millisecond)
-	g.fresh.mu.Unlock()
+	<-g.fresh.asks
 	if err := <-failed; err != context.DeadlineExceeded {
 		t.Errorf("got %v", err)
 	}
@@ -509,6 +509,26 @@ func TestFreshHead(t *testing.T) {
 	}
 	if count := g.fresh.begun.Load(); count > 4 { // a failed one, one for most, and few for those that came late
 		t.Errorf("%d requests", count)
+	}
+}
+
+// TestFreshHeadLeaves lets a fresh query wait for the request of another one, which has no answer yet. Its time is over
+// first, and it doesn't wait any longer.
+func TestFreshHeadLeaves(t *testing.T) {
+	s := newSite(t)
+	g := New(s.log, Options{Limits: s.limits})
+	g.fresh.asks <- struct{}{}
+	short, cancel := context.WithTimeout(s.ctx, 50*time.Millisecond)
+	defer cancel()
+	ended := make(chan error, 1)
+	go func() { _, err := g.freshHead(short); ended <- err }()
+	select {
+	case err := <-ended:
+		if !errors.Is(err, context.DeadlineExceeded) {
+			t.Errorf("got %v", err)
+		}
+	case <-time.After(20 * time.Second):
+		t.Error("it waits for the other request")
 	}
 }
 

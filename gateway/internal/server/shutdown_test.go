@@ -132,7 +132,7 @@ func TestShutdownRead(t *testing.T) {
 		t.Fatal(err)
 	}
 	made := &session{Gateway: g, conn: conn}
-	if !made.readFor(time.Hour) {
+	if !made.readUntil(time.Now().Add(time.Hour)) {
 		t.Error("nothing is to be read")
 	}
 	go io.Copy(io.Discard, in)
@@ -141,7 +141,7 @@ func TestShutdownRead(t *testing.T) {
 		t.Error("it takes too long")
 	}
 	made.conn, _ = net.Pipe()
-	if made.readFor(time.Hour) {
+	if made.readUntil(time.Now().Add(time.Hour)) {
 		t.Error("more is to be read")
 	}
 	if _, err := made.conn.Read(make([]byte, 1)); !errors.Is(err, os.ErrDeadlineExceeded) {

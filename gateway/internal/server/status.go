@@ -14,7 +14,8 @@ import (
 	"regd/gateway/internal/wire"
 )
 
-// silentLimit is how long etcd may be silent before a balancer should send changes to another gateway.
+// silentLimit is how long etcd may be silent before a balancer should send changes to another gateway. Limits has
+// that for queries.
 const silentLimit = 5 * time.Second
 
 // stats are what a gateway counts.
@@ -46,13 +47,28 @@ func (g *Gateway) Handler() http.Handler {
 
 // isReady returns true if queries can be answered.
 func (g *Gateway) isReady() bool {
-	r, _ := g.board.read()
-	return r != nil && !g.isStopping.Load()
+	r, state := g.board.read()
+	return r != nil && !g.isStopping.Load() && !g.isOutdated(state.Entry)
 }
 
-// silence returns for how long etcd has not said where the log ends. It is asked once a second.
+// isOutdated returns true if a book with this last entry may be older than queries of the usual port accept: etcd has
+// not said for too long where the log ends, or there are too many entries behind this one.
+func (g *Gateway) isOutdated(entry uint64) bool {
+	limits := g.options.Limits
+	isSilent := limits.Silent > 0 && g.silence() > limits.Silent
+	return isSilent || limits.Lag > 0 && g.lag(entry) > uint64(limits.Lag)
+}
+
+// silence returns for how long etcd has not said where the log ends. It is asked once a second. A clock that is set
+// makes no difference.
 func (g *Gateway) silence() time.Duration {
-	return time.Duration(time.Now().Unix()-g.headTime.Load()) * time.Second
+	return time.Since(g.started) - time.Duration(g.heardAfter.Load())
+}
+
+// hear takes note of where the log ends, as etcd has just said.
+func (g *Gateway) hear(head uint64) {
+	g.head.Store(head)
+	g.heardAfter.Store(int64(time.Since(g.started)))
 }
 
 // serveReady answers with 200 or 503.
@@ -84,7 +100,7 @@ func (g *Gateway) serveStatus(w http.ResponseWriter, _ *http.Request) {
 	r, state := g.board.read()
 	isReady := g.isReady()
 	status := map[string]any{
-		"name": g.options.Name, "program": g.options.Program, "ready": isReady, "disputed": g.isDisputed.Load(),
+		"name": g.options.Name, "program": g.options.Program, "ready": isReady, "disputed": g.isDisputed.Load(), "lost": g.isLogLost.Load(),
 		"entry": state.Entry, "place": state.Place, "sum": fmt.Sprintf("%x", state.Sum),
 		"head": g.head.Load(), "lag": g.lag(state.Entry), "silent": g.silence().Seconds(), "sessions": g.sessions.Load(), "etcd": g.members.Load(),
 		"stopping": g.isStopping.Load(), "skipped": g.skips.Load(), "failing": g.failing(state.Entry),
@@ -102,9 +118,8 @@ func (g *Gateway) serveStatus(w http.ResponseWriter, _ *http.Request) {
 // askHead keeps the end of the log, until the context ends.
 func (g *Gateway) askHead(ctx context.Context) error {
 	for ctx.Err() == nil {
-		if head, err := g.log.Head(ctx); err == nil {
-			g.head.Store(head)
-			g.headTime.Store(time.Now().Unix())
+		if head, err := g.log.Head(ctx); err == nil && !g.isLogLost.Load() { // of another log it would mean nothing
+			g.hear(head)
 		}
 		etcd.Pause(ctx, time.Second)
 	}
@@ -130,6 +145,7 @@ func (g *Gateway) serveMetrics(w http.ResponseWriter, _ *http.Request) {
 	p.Info(name+"info", "Names of the gateway and of its regd.", "name", g.options.Name, "program", g.options.Program)
 	p.Gauge(name+"ready", "1 if queries can be answered.", is[g.isReady()])
 	p.Gauge(name+"disputed", "1 if another gateway has another checksum.", is[g.isDisputed.Load()])
+	p.Gauge(name+"log_lost", "1 if the log was found empty, and the book is kept.", is[g.isLogLost.Load()])
 	p.Gauge(name+"connections", "Open connections of callers.", float64(g.sessions.Load()))
 	p.Counter(name+"connections_total", "Connections of callers.", &g.accepted)
 	p.Vector(name+"connections_ended_total", "Connections that the gateway ended, by reason.", "reason", &g.ended,
@@ -137,7 +153,8 @@ func (g *Gateway) serveMetrics(w http.ResponseWriter, _ *http.Request) {
 	p.Histogram(name+"change_duration_seconds", "Times from a line that may be a change to its answer.", &g.changed)
 	p.Histogram(name+"query_duration_seconds", "Times from any other line to its answer.", &g.queries)
 	p.Vector(name+"refusals_total", "Answers with a code, by code.", "code", &g.refusals,
-		wire.NotAllowed, wire.TooManyQueries, wire.NoRoom, wire.TooMany, wire.Busy, wire.TooLong, wire.Skipped)
+		wire.NotAllowed, wire.TooManyQueries, wire.NoRoom, wire.TooMany, wire.Busy, wire.TooLong, wire.Skipped,
+		wire.Outdated)
 	p.Histogram(name+"append_duration_seconds", "Times in which etcd accepted an entry of this gateway.", &g.appends)
 	p.Gauge(name+"reply_bytes", "Bytes of replies that are not yet sent.", float64(g.held.Load()))
 	p.Gauge(name+"changes_waiting", "Changes that wait to be appended.", float64(len(g.changes)))

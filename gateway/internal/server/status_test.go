@@ -14,6 +14,7 @@ import (
 
 	"regd/gateway/internal/etcd"
 	"regd/gateway/internal/metrics"
+	"regd/gateway/internal/wire"
 )
 
 // get returns the answer of a gateway to a request for its state.
@@ -34,10 +35,10 @@ func status(t *testing.T, g *Gateway) (int, map[string]any) {
 	return answer.Code, values
 }
 
-// heard lets a gateway have heard of the end of the log.
-func (g *Gateway) heard(head uint64) {
-	g.head.Store(head)
-	g.headTime.Store(time.Now().Unix())
+// heard lets a gateway have heard of the end of the log some time ago.
+func (g *Gateway) heard(head uint64, ago time.Duration) {
+	g.hear(head)
+	g.heardAfter.Add(-int64(ago))
 }
 
 func TestStatus(t *testing.T) {
@@ -50,14 +51,14 @@ func TestStatus(t *testing.T) {
 	g.isDisputed.Store(true)
 	within(t, "no connection", func() bool { return g.sessions.Load() == 1 })
 	within(t, "the log doesn't end at the head", func() bool { _, values := status(t, g); return values["head"] == 2.0 })
-	g.heard(5)
+	g.heard(5, 0)
 	r, state := g.board.read()
 	code, values := status(t, g)
 	silent, _ := values["silent"].(float64)
 	delete(values, "silent")
 	want := map[string]any{"name": "a", "program": "p", "ready": true, "disputed": true, "entry": float64(state.Entry), "place": 2.0,
 		"sum": fmt.Sprintf("%x", state.Sum), "head": 5.0, "lag": 3.0, "sessions": 1.0, "regd": float64(r.Pid()), "tokens": 1.0,
-		"stopping": false, "skipped": map[string]any{}, "failing": nil,
+		"stopping": false, "lost": false, "skipped": map[string]any{}, "failing": nil,
 		"etcd": []any{map[string]any{"url": s.store.URL, "bytes": 1048576.0, "used": 4096.0, "quota": 2097152.0}}}
 	if code != 200 || !reflect.DeepEqual(values, want) || silent > 5 {
 		t.Errorf("got %d, %v", code, values)
@@ -92,13 +93,81 @@ func TestReady(t *testing.T) {
 		t.Errorf("got %v", got)
 	}
 	s.store.Refuse(1 << 30)
-	g.headTime.Add(-int64(2 * silentLimit / time.Second))
+	g.heard(0, 2*silentLimit)
 	if got := codes(g); got != [2]int{200, 503} {
 		t.Errorf("while etcd is silent: got %v", got)
 	}
 	s.store.Refuse(0)
 	if got := codes(New(s.log, Options{})); got != [2]int{503, 503} {
 		t.Errorf("without a replica: got %v", got)
+	}
+}
+
+// TestOutdated checks that a gateway to which etcd doesn't answer for too long refuses the queries of its usual port, and is not ready.
+func TestOutdated(t *testing.T) {
+	t.Parallel()
+	s := newSite(t)
+	s.limits.Silent = 2 * time.Second
+	g, usual, _ := s.gateway("a")
+	isRefused := func() bool { return strings.Join(s.call(usual, show), "") == refusal(wire.Outdated, 1) }
+	s.expect("at first", s.call(usual, show), answered(1, 0))
+	s.store.Refuse(1 << 30)
+	within(t, "queries are answered", isRefused)
+	if code, values := status(t, g); code != 503 || values["ready"] != false || get(g, "/ready").Code != 503 {
+		t.Errorf("got %d, %v", code, values)
+	}
+	if got := samples(t, g)[`regd_gateway_refusals_total{code="G8"}`]; got < 1 {
+		t.Errorf("%v refusals", got)
+	}
+	s.store.Refuse(0)
+	within(t, "queries are refused", func() bool { return !isRefused() })
+	if code := get(g, "/ready").Code; code != 200 {
+		t.Errorf("afterwards: got %d", code)
+	}
+	g.options.Limits.Silent = 0
+	if g.heard(0, time.Hour); get(g, "/ready").Code != 200 {
+		t.Error("there is a limit although it is 0")
+	}
+}
+
+// TestLag holds the watch of a gateway while another one appends: the first one refuses queries while it is too far behind, and only then. Changes
+// and fresh queries wait.
+func TestLag(t *testing.T) {
+	t.Parallel()
+	s := newSite(t)
+	_, first, _ := s.gateway("a")
+	s.limits.Lag = 2
+	g, usual, fresh := s.gateway("b")
+	s.expect("changes", s.call(first, prune), committed(1, 1))
+	s.expect("a fresh query", s.call(fresh, show), answered(1, 1))
+	s.store.HoldWatch()
+	for place := 2; place <= 4; place++ {
+		if place == 4 {
+			within(t, "the end of the log is not known", func() bool { return g.head.Load() == 3 })
+			s.expect("not far behind", s.call(usual, show), answered(1, 1))
+		}
+		s.expect("a change", s.call(first, prune), committed(1, place))
+	}
+	within(t, "queries are answered", func() bool { return g.isOutdated(1) })
+	s.expect("far behind", s.call(usual, show, show), refusal(wire.Outdated, 1), refusal(wire.Outdated, 2))
+	s.expect("a fresh query far behind", s.call(fresh, show), answered(1, 4))
+	s.expect("afterwards", s.call(usual, show), answered(1, 4))
+	if g.options.Limits.Lag = 0; g.isOutdated(0) {
+		t.Error("there is a limit although it is 0")
+	}
+}
+
+// TestOutdatedReplay checks that a query waits while there is no replica, however much of the log isn't executed.
+func TestOutdatedReplay(t *testing.T) {
+	s := newSite(t)
+	made, conn := rowOf(s)
+	made.isChanging = false
+	made.heard(1<<40, time.Hour)
+	if !made.query(s.ctx, []byte(show)) || len(made.row) != 1 || conn.text != "" {
+		t.Errorf("%d queries wait, wrote %s", len(made.row), conn.text)
+	}
+	if q := made.row[0]; q.line == nil {
+		t.Error("it is refused")
 	}
 }
 
@@ -135,10 +204,14 @@ func TestMetrics(t *testing.T) {
 	within(t, "no connection", func() bool { return g.sessions.Load() == 1 })
 	s.store.Alarm("NOSPACE", "CORRUPT")
 	within(t, "no alarm", func() bool { return samples(t, g)["regd_gateway_etcd_alarms"] == 2 })
-	within(t, "the log doesn't end at the head", func() bool { return g.head.Load() == 2 })
+	head, err := s.log.Head(s.ctx) // changes that are sent together are one entry or several
+	if err != nil {
+		t.Fatal(err)
+	}
+	within(t, "not all entries are executed", func() bool { _, state := g.board.read(); return state.Entry == head })
+	within(t, "the log doesn't end at the head", func() bool { return g.head.Load() == head })
 	_, state := g.board.read()
-	g.heard(state.Entry + 4)
-	g.headTime.Add(-7)
+	g.heard(state.Entry+4, 7*time.Second)
 	g.isDisputed.Store(true)
 	got := samples(t, g)
 	for name, want := range map[string]float64{

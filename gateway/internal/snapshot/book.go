@@ -43,6 +43,38 @@ func (n names) note(line []byte) {
 	}
 }
 
+// told adds the names that regd shows in its reply to a change that it committed. It is regd's reading of the line, and
+// note is the gateway's. A reply that is repeated may show what an older snapshot no longer has.
+func (n names) told(shown []byte) error {
+	hasName := bytes.Contains(shown, []byte(`{"agent":`)) || bytes.Contains(shown, []byte(`{"bundle":`))
+	if !hasName || !wire.IsCommitted(shown) {
+		return nil
+	}
+	var answer struct{ Replies []reply }
+	if err := json.Unmarshal(shown, &answer); err != nil {
+		return fmt.Errorf("a reply of regd: %w", err)
+	}
+	for _, one := range answer.Replies {
+		if one.Agent != nil {
+			n[text(fields{"op": "show_agent", "agent": one.Agent.ID})] = true
+		}
+		if one.Bundle != nil {
+			n[text(fields{"op": "show_bundle", "domain": one.Bundle.Domain})] = true
+		}
+	}
+	return nil
+}
+
+// without returns a name that other names don't have, or "".
+func (n names) without(other names) string {
+	for name := range n {
+		if !other[name] {
+			return name
+		}
+	}
+	return ""
+}
+
 // A reply is that to a query for an agent, a bundle or a page.
 type reply struct {
 	Agent *struct {

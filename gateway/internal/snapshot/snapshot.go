@@ -140,7 +140,8 @@ func build(ctx context.Context, options replica.Options, names names, fill func(
 	return c, err
 }
 
-// replay makes a snapshot in an empty replica, and executes the entries after it up to the last one, but for skipped lines. It notes all names.
+// replay makes a snapshot in an empty replica, and executes the entries after it up to the last one, but for skipped
+// lines. It notes all names, and returns an error if regd has shown one that it has not noted: the snapshot would lose it.
 func replay(log *etcd.Log, old content, r *replica.Replica, names names, last uint64, skips etcd.Skips) error {
 	for _, line := range old.Lines {
 		names.note([]byte(line))
@@ -150,6 +151,7 @@ func replay(log *etcd.Log, old content, r *replica.Replica, names names, last ui
 	}
 	reading, stop := context.WithCancel(r.Context())
 	defer stop()
+	shown := showing{}
 	_, err := log.Follow(reading, old.Entry+1, old.Name, func(end uint64) {
 		if end < last { // etcd was restored from a backup
 			stop()
@@ -162,19 +164,54 @@ func replay(log *etcd.Log, old content, r *replica.Replica, names names, last ui
 		for _, line := range lines {
 			names.note(line)
 		}
-		if r.Apply(number, name, lines, func(i int) bool { return skips[etcd.Line{Entry: number, Number: i + 1}] != "" }, func(int, []byte) {}); number == last {
+		isSkipped := func(i int) bool { return skips[etcd.Line{Entry: number, Number: i + 1}] != "" }
+		r.Apply(number, name, lines, isSkipped, shown.take)
+		if number == last {
 			stop()
 		}
 	})
-	if r.Settle(); r.State().Entry != last {
+	r.Settle()
+	if r.State().Entry != last {
 		return fmt.Errorf("the replay ended at entry %d: %w", r.State().Entry, err)
 	}
-	return nil
+	return shown.check(names)
 }
 
-// verify makes a snapshot in another regd, and returns an error unless that makes the same book.
+// A showing has the names in replies of regd, or the error of one that can't be read.
+type showing struct {
+	names names
+	err   error
+}
+
+// take takes the names of a reply.
+func (s *showing) take(_ int, reply []byte) {
+	if s.names == nil {
+		s.names = names{}
+	}
+	if err := s.names.told(reply); err != nil {
+		s.err = err
+	}
+}
+
+// check returns an error if regd has shown a name that is not among the noted ones.
+func (s *showing) check(noted names) error {
+	if missed := s.names.without(noted); missed != "" {
+		return fmt.Errorf("a snapshot would lose what %s shows, which no line of the log is known to have set", missed)
+	}
+	return s.err
+}
+
+// verify makes a snapshot in another regd, as it is stored, and returns an error unless that makes the same book.
 func (c content) verify(ctx context.Context, options replica.Options, names names) error {
-	again, err := build(ctx, options, names, c.fill)
+	text, err := json.Marshal(c)
+	if err != nil {
+		return err
+	}
+	var stored content
+	if err := json.Unmarshal(text, &stored); err != nil {
+		return err
+	}
+	again, err := build(ctx, options, names, stored.fill)
 	if err == nil && !reflect.DeepEqual(again, c) {
 		err = fmt.Errorf("the snapshot of entry %d makes another book", c.Entry)
 	}

@@ -264,6 +264,59 @@ func TestNote(t *testing.T) {
 	}
 }
 
+// TestTold checks which names a reply shows: those of its agents and bundles.
+func TestTold(t *testing.T) {
+	shown := names{}
+	for _, reply := range []string{
+		`{"call":3,"place":1,"replies":[{"agent":{"id":"a","selectors":["x:1"]}},{"entry":null},{"agent":null}],"result":"committed"}`,
+		`{"call":4,"place":2,"replies":[{"bundle":{"domain":"b","sequence":0,"text":"{\"agent\":1}"}},{"bundle":null}],"result":"committed"}`,
+		`{"call":5,"place":3,"replies":[{"pruned":[]}],"result":"committed"}`, `{"code":"L2","line":9}`,
+		`{"call":6,"place":1,"replies":[{"agent":{"id":"dropped","selectors":[]}}],"result":"repeated"}`,
+	} {
+		if err := shown.told([]byte(reply)); err != nil {
+			t.Errorf("%s: %v", reply, err)
+		}
+	}
+	want := names{`{"agent":"a","op":"show_agent"}`: true, `{"domain":"b","op":"show_bundle"}`: true}
+	if !reflect.DeepEqual(shown, want) {
+		t.Errorf("got %v", shown)
+	}
+	if err := shown.told([]byte(`{"agent":,"result":"committed"}`)); err == nil {
+		t.Error("half a reply was read")
+	}
+	if shown.without(want) != "" || shown.without(names{}) == "" {
+		t.Error("names are compared wrongly")
+	}
+}
+
+// TestMissedName makes a snapshot of a log of which regd shows an agent that the gateway hasn't found in any line: there is none, and the log stays.
+func TestMissedName(t *testing.T) {
+	ctx, cancel := context.WithTimeout(context.Background(), time.Minute)
+	defer cancel()
+	options, store, log := miniature(t, ctx, 3)
+	if _, err := log.Append(ctx, 4, etcd.JoinEntry("4", [][]byte{[]byte(`{"ops":[{"op":"prune","hint":"AGENT"}]}`)})); err != nil {
+		t.Fatal(err)
+	}
+	before := strings.Join(store.Keys(), " ")
+	err := Make(ctx, log, options, 0)
+	if err == nil || !strings.Contains(err.Error(), `"agent":"a"`) || strings.Join(store.Keys(), " ") != before {
+		t.Errorf("got %v, %v", err, store.Keys())
+	}
+}
+
+// TestVerifyStored checks that a snapshot is verified as it is stored: JSON can't hold each text.
+func TestVerifyStored(t *testing.T) {
+	ctx, cancel := context.WithTimeout(context.Background(), time.Minute)
+	defer cancel()
+	options, _, _ := miniature(t, ctx, 0)
+	for name, isRight := range map[string]bool{"plain": true, "\xff": false} {
+		c := content{State: replica.State{Entry: 1, Name: name}, Tokens: []*replica.Kept{}}
+		if err := c.verify(ctx, options, names{}); (err == nil) != isRight {
+			t.Errorf("%q: got %v", name, err)
+		}
+	}
+}
+
 // TestShow checks that a regd that runs out of memory makes no snapshot, and neither does one of whose last commit the queries don't know yet.
 func TestShow(t *testing.T) {
 	ctx, cancel := context.WithTimeout(context.Background(), time.Minute)

@@ -23,6 +23,7 @@ const (
 	Busy           = "G5" // too many lines wait, replies take too much room, or a query takes too long
 	TooLong        = "G6" // the line is longer than this gateway accepts
 	Skipped        = "G7" // an operator has skipped the line
+	Outdated       = "G8" // the gateway's book may be too old for a query
 )
 
 // changes has the names of regd's operations, and whether they change the book.

@@ -8,9 +8,13 @@ import (
 
 var (
 	callKey, lineKey    = []byte(`{"call":`), []byte(`,"line":`)
-	placeKey, afterKey  = []byte(`"place":`), []byte(`"after":`)
+	placeKey, afterKey  = []byte(`"place":`), []byte(`"after"`)
+	colon               = []byte(":")
 	committed, repeated = []byte(`"result":"committed"}`), []byte(`"result":"repeated"}`)
 )
+
+// space is what JSON ignores between two parts of a line.
+const space = " \t\r"
 
 // IsRefusal returns true if regd refused the line before it ran it.
 func IsRefusal(reply []byte) bool { return !bytes.HasPrefix(reply, callKey) }
@@ -39,12 +43,29 @@ func AppendReply(to, reply []byte, call, line int) []byte {
 // Place returns the commit number in a reply, or 0. It precedes every text of a caller.
 func Place(reply []byte) uint64 { return numberAfter(reply, placeKey) }
 
-// After returns what follows the first key after in a line, or 0. It only decides how long a query waits.
-func After(line []byte) uint64 { return numberAfter(line, afterKey) }
+// After returns the number of the last key after in a line, or 0. It only decides how long a query waits.
+func After(line []byte) (number uint64) {
+	for {
+		_, rest, isThere := bytes.Cut(line, afterKey)
+		if !isThere {
+			return number
+		}
+		value := bytes.TrimLeft(rest, space)
+		if bytes.HasPrefix(value, colon) {
+			number = leadingNumber(bytes.TrimLeft(value[1:], space))
+		}
+		line = rest
+	}
+}
 
-func numberAfter(text, key []byte) (number uint64) {
+func numberAfter(text, key []byte) uint64 {
 	_, rest, _ := bytes.Cut(text, key)
-	for _, c := range bytes.TrimLeft(rest, " ") {
+	return leadingNumber(rest)
+}
+
+// leadingNumber returns the number that a text begins with, or 0.
+func leadingNumber(text []byte) (number uint64) {
+	for _, c := range text {
 		if c < '0' || c > '9' {
 			break
 		}

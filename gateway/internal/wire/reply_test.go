@@ -38,6 +38,14 @@ func TestReplyParts(t *testing.T) {
 	if Code(full) != "L6" || !IsRefusal(full) || Place(full) != 0 {
 		t.Error("full")
 	}
+	for line, want := range map[string]uint64{
+		`{"ops":[],"after":7}`: 7, `{"ops":[],"after": 7}`: 7, `{"ops":[],"after" :7}`: 7, `{"after" : 7,"ops":[]}`: 7, "{\"after\"\t:\t7}": 7, `{"after":x}`: 0,
+		`{"after":3,"ops":[],"after":7}`: 7, `{"ops":[{"op":"show","hint":"after"}],"after":7}`: 7, `{"ops":["after",5],"after":7}`: 7, `"after"`: 0, `"after":`: 0,
+	} {
+		if got := After([]byte(line)); got != want {
+			t.Errorf("%s: got %d", line, got)
+		}
+	}
 	if After([]byte(`{"ops":[],"after": 7}`)) != 7 || After([]byte(`{"ops":[]}`)) != 0 || After([]byte(`{"after":18446744073709551615`)) != 1<<64-1 {
 		t.Error("after")
 	}

@@ -95,6 +95,36 @@ def recorded(file):
                 yield event["line"].encode("utf-8", "surrogateescape"), event["reply"].encode("utf-8", "surrogateescape")
 
 
+def wrong_reads(program, domain, replayed, base, snapshot, events):
+    """Returns how many queries have another answer than the reference gives at the commit number in the answer.
+
+    `replayed` is the log with its replies, and an event is that of a record with the times of all lines.
+    """
+    answers = collections.defaultdict(lambda: collections.defaultdict(collections.Counter))
+    for event in events:
+        if event.get("read") and event["place"] >= base:
+            answers[event["place"]][event["query"].encode()][plain.tail(event["answer"].encode())] += 1
+    lines, asked = [], []
+
+    def ask(place):
+        for query in answers.get(place, ()):
+            asked.append((len(lines), place, query))
+            lines.append(query)
+
+    ask(base)
+    for one in replayed:
+        lines.append(one.line)
+        if one.reply.endswith(b'"committed"}'):
+            ask(plain.place_of(one.reply))
+    with plain.Plain(program, domain) as reference:
+        list(reference.run(snapshot.lines if snapshot else []))
+        keeper = plain.Reference(reference, snapshot.tokens if snapshot else ())
+        keeper.place = base
+        replies = list(keeper.run(lines))
+    right = sum(answers[place][query][replies[at]] for at, place, query in asked)
+    return sum(sum(counts.values()) for queries in answers.values() for counts in queries.values()) - right
+
+
 def stale_reads(events):
     """Returns how many queries have an answer that no linearizable register of the commit number could give.
 

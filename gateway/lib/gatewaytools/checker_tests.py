@@ -34,6 +34,49 @@ def kinds(acknowledged, replayed, base=0):
     return [fault.kind for fault in auditing.faults(acknowledged, replayed, base)]
 
 
+class CountingPlain:
+    """In place of `regd plain`: each prune commits, and a query shows how often that was."""
+
+    def __init__(self, *_):
+        self.place = 0
+
+    def __enter__(self):
+        return self
+
+    def __exit__(self, *_):
+        pass
+
+    def run(self, lines):
+        replies = []
+        for line in lines:
+            self.place += b"prune" in line
+            replies.append(reply(self.place) if b"prune" in line else b'{"call":1,' + shown(self.place, self.place))
+        return replies
+
+
+def shown(place, book):
+    return b'"place":%d,"replies":["book %d"],"result":"answered"}' % (place, book)
+
+
+def read(place, book):
+    return {"read": True, "place": place, "query": '{"ops":[{"op":"show"}]}', "answer": '{"call":3,' + shown(place, book).decode()}
+
+
+class WrongReads(unittest.TestCase):
+    def wrong(self, *events):
+        with mock.patch.object(auditing.plain, "Plain", CountingPlain):
+            return auditing.wrong_reads("regd", "ex.org", log(1, 2, 3), 0, None, events)
+
+    def test_right_books(self):
+        self.assertEqual(self.wrong(read(0, 0), read(2, 2), read(2, 2), read(3, 3), {"place": 1, "line": "x", "reply": "y"}), 0)
+
+    def test_another_book_at_the_right_place(self):
+        self.assertEqual(self.wrong(read(1, 1), read(2, 1), read(2, 2), read(2, 3)), 2)
+
+    def test_a_place_that_the_log_does_not_have(self):
+        self.assertEqual(self.wrong(read(9, 9)), 1)
+
+
 class Faults(unittest.TestCase):
     def test_nothing_wrong(self):
         acknowledged = [(change(n), reply(n)) for n in (3, 1, 2)]

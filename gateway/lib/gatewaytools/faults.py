@@ -211,6 +211,15 @@ def checked(site, record="record"):
     return found, acknowledged
 
 
+def wrong_reads(site, events):
+    """Returns how many recorded queries have another answer than the reference at their commit."""
+    store = site.etcd.store()
+    snapshot = store.snapshot()
+    entries = [entry for entry in store.entries() if not snapshot or entry.number > snapshot.entry]
+    replayed, base, _ = auditing.replay(site.programs.regd, cluster.DOMAIN, entries, snapshot)
+    return auditing.wrong_reads(site.programs.regd, cluster.DOMAIN, replayed, base, snapshot, events)
+
+
 def sent_again(site, acknowledged):
     """Sends every acknowledged change again, and returns the faults: each has to be repeated with its first replies."""
     words = [site.programs.load, "-addresses", ",".join(f"127.0.0.1:{gateway.port}" for gateway in reversed(site.gateways)),
@@ -246,10 +255,12 @@ def run(programs, folder, name, callers=40, fresh=False):
         if fresh:
             with open(site.folder / "record") as file:
                 events = [json.loads(line) for line in file]
-            stale = auditing.stale_reads(events)
+            stale, wrong = auditing.stale_reads(events), wrong_reads(site, events)
             site.notes.append(f"{sum(bool(event.get('read')) for event in events)} reads")
             if stale:
                 found.append(f"{stale} stale reads")
+            if wrong:
+                found.append(f"{wrong} reads with another answer than the reference has at their commit")
         found += sent_again(site, acknowledged)
         found += [f"after the repeats: {fault}" for fault in checked(site)[0]]
         return len(acknowledged), seen, site.notes, found

@@ -43,7 +43,7 @@ class Lines:
             count = random.choice([0, 8, 20, 64, 65])
         batch = {"ops": [self.op() for _ in range(count)]}
         if random.random() < 0.01:  # about as many listings as a query may have
-            some = [op for op in (self.op() for _ in range(400)) if b'"%s"' % op["op"].encode() in rules.LISTINGS]
+            some = [op for op in (self.op() for _ in range(400)) if json.dumps(op.get("op")).encode() in rules.LISTINGS]
             batch["ops"] = some[:random.choice([rules.MOST_LISTINGS, rules.MOST_LISTINGS + 1])]
         if random.random() < 0.15:
             batch["after"] = random.choice([0, 1, random.randrange(10), None])

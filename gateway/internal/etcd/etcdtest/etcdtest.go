@@ -2,6 +2,7 @@
 package etcdtest
 
 import (
+	"context"
 	"encoding/json"
 	"fmt"
 	"net/http"
@@ -21,8 +22,10 @@ type Server struct {
 	changed  chan struct{} // closed and replaced at each of them
 
 	loseAnswers, refuse int
-	held                int      // the number of the watch that is held
-	told                []string // lines that all open watches got
+	isFull              bool
+	holding             chan struct{} // closed when answers are no longer held; nil if none are
+	held                int           // the number of the watch that is held
+	told                []string      // lines that all open watches got
 	alarms              []string
 	counts              Counts
 
@@ -71,6 +74,18 @@ func (s *Server) LoseAnswers(count int) { s.mu.Lock(); s.loseAnswers = count; s.
 
 // Refuse makes the server answer the next requests with an error.
 func (s *Server) Refuse(count int) { s.mu.Lock(); s.refuse = count; s.mu.Unlock() }
+
+// Fill makes the server refuse what needs space, or no longer.
+func (s *Server) Fill(isFull bool) { s.mu.Lock(); s.isFull = isFull; s.mu.Unlock() }
+
+// HoldAnswers makes the server execute transactions with a condition, and not answer them until the function that it returns is called.
+func (s *Server) HoldAnswers() (release func()) {
+	holding := make(chan struct{})
+	s.mu.Lock()
+	s.holding = holding
+	s.mu.Unlock()
+	return func() { s.mu.Lock(); s.holding = nil; s.mu.Unlock(); close(holding) }
+}
 
 // HoldWatch makes the watch that was opened last bring nothing more.
 func (s *Server) HoldWatch() { s.mu.Lock(); s.held = s.counts.Watches; s.mu.Unlock() }
@@ -170,6 +185,30 @@ type step struct {
 	Delete *request `json:"request_delete_range"`
 }
 
+// puts returns true if a transaction may need space. etcd doesn't look at its conditions.
+func (r *request) puts() bool {
+	for _, one := range append(r.Success, r.Failure...) {
+		if one.Put != nil {
+			return true
+		}
+	}
+	return false
+}
+
+// hold waits while answers are held. An answer that is short enough for the server's buffer is sent when its handler is over.
+func (s *Server) hold(ctx context.Context) {
+	s.mu.Lock()
+	holding := s.holding
+	s.mu.Unlock()
+	if holding == nil {
+		return
+	}
+	select {
+	case <-holding:
+	case <-ctx.Done():
+	}
+}
+
 func (s *Server) handler(handle func(*request) object) http.HandlerFunc {
 	return func(w http.ResponseWriter, r *http.Request) {
 		var in request
@@ -179,6 +218,9 @@ func (s *Server) handler(handle func(*request) object) http.HandlerFunc {
 		}
 		if r.URL.Path == "/v3/kv/txn" {
 			s.begin()
+		}
+		if len(in.Compare) > 0 {
+			defer s.hold(r.Context())
 		}
 		s.mu.Lock()
 		defer s.mu.Unlock()
@@ -192,6 +234,10 @@ func (s *Server) handler(handle func(*request) object) http.HandlerFunc {
 		if s.refuse > 0 {
 			s.refuse--
 			http.Error(w, "refused", http.StatusServiceUnavailable)
+			return
+		}
+		if s.isFull && in.puts() {
+			http.Error(w, "etcdserver: mvcc: database space exceeded", http.StatusTooManyRequests)
 			return
 		}
 		answer := handle(&in)

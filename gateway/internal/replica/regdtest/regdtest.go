@@ -4,9 +4,9 @@
 // make it misbehave: L5, L6, L7, L8 and O8 are replied as codes, KILL ends the process, HANG makes it answer nothing
 // more on this connection, and SLOW makes it take a tenth of a second. With WAIT a line takes a second, and with HALT
 // four seconds, in which the other connections are answered. LARGE makes a reply of 100 kB. With LATE a change is seen
-// by the other connections after two seconds. With DROP there is no reply, with TWICE it comes twice, and with SWAP
-// after that to the next line, as if regd were wrong. For the domain shared.org the connections number their calls
-// together, and for hung.org it never listens.
+// by the other connections after two seconds. With AGENT a prune shows an agent. With DROP there is no reply, with TWICE
+// it comes twice, and with SWAP after that to the next line, as if regd were wrong. For the domain shared.org the
+// connections number their calls together, and for hung.org it never listens.
 package regdtest
 
 import (
@@ -148,6 +148,9 @@ func (b *book) reply(text []byte, isWriter bool) (reply string, isCall bool) {
 		}
 		if op.Op == "prune" {
 			b.place++
+			if bytes.Contains(text, []byte("AGENT")) {
+				return fmt.Sprintf(`"place":%d,"replies":[{"agent":{"id":"a","selectors":[]}}],"result":"committed"`, b.place), true
+			}
 			return fmt.Sprintf(`"place":%d,"replies":[{"pruned":["%d"]}],"result":"committed"`, b.place, b.place), true
 		}
 	}
