@@ -7,5 +7,6 @@ pub mod Driver
 pub mod DriverPrivate
 pub mod Recorded
 pub mod RecordedPrivate
+pub mod Replays
 pub mod Schedules
 pub mod SchedulesPrivate
