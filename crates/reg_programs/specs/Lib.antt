@@ -1,3 +1,4 @@
+pub mod Alone
 pub mod Ends
 pub mod Programs
 pub mod Sessions

@@ -6,11 +6,14 @@ ghost use Rattle.reg_lines.specs.Refusals.{no_memory_json, refusal_json};
 ghost use Rattle.line_devices.specs.Stream.{Puts};
 ghost use Rattle.line_engines.specs.Answers.{as_line};
 ghost use Rattle.shared_registry.specs.Seated.{MaySeeFound, Seated};
+ghost use Rattle.reg_programs.specs.Alone.{SessionsAloneArePlain};
 ghost use Rattle.reg_programs.specs.Sessions.{AnswersCall, Grew, RunsSession, Session, SessionsGrow, no_answer_json, submit_json};
 ghost use Rattle.reg_programs.specs.SessionsPrivate.{HasText, IsPrinted, IsToAnswer, TakesRequestLine, found_json};
 
 use call_answers::CallAnswer;
+use commit_head::laws::journals;
 use entry_book::Batch;
+use entry_book::laws::histories;
 use line_devices::{Input, Output, Sink, Source};
 use line_engines::{LineHandler, RunFault, run_lines};
 use line_reading::{Ids, LineRefusal, Request, read_request};
@@ -295,3 +298,13 @@ fn outcome_of(call: u64, line: u64, outcome: Outcome) -> Taken
 pub fn sessions_law()
     ensures { SessionsGrow }
 {}
+
+/// A session through a new seat writes what `plain` writes with the same seed, if all commits that the seat has seen are its own:
+/// then nobody else has used the registry. A line that is answered L8 ends this, since `plain` has no such answer. This function
+/// does nothing at run time: its contract is the theorem.
+pub fn session_alone_law()
+    ensures { SessionsAloneArePlain }
+{
+    histories();
+    journals();
+}
