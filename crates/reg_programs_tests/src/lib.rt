@@ -4,8 +4,8 @@
 //!
 //! - `command_lines`: command lines and what `regd` writes about them, word for word.
 //! - `engine`: runs of the engines over memory, as tables, in the notation of `lines`. These use it: `story`, `operations`,
-//!   `refusals`, `ids`, `limits`, `pages`, `places`, `tokens`, `runs` (request lines), `schedules` (event lines), `records`,
-//!   `audits` and `spoiled` (recorded calls).
+//!   `refusals`, `ids`, `limits`, `pages`, `places`, `tokens`, `runs`, `replays` (request lines), `schedules` (event lines),
+//!   `records`, `audits` and `spoiled` (recorded calls).
 //! - `failing`: runs over a reader or a writer that fails.
 //! - `sessions`: the lines of one connection over memory.
 //! - `hosting`: a server over TCP and its clients, in one process, with a scripted listener and a runtime that counts (`staged`).
@@ -48,6 +48,8 @@ mod queueing;
 mod records;
 #[cfg(test)]
 mod refusals;
+#[cfg(test)]
+mod replays;
 #[cfg(test)]
 mod runs;
 #[cfg(test)]
