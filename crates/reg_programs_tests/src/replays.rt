@@ -99,11 +99,14 @@ fn replies_to_reads(
     seed: [u8; 32],
 ) -> Result<String, Fail> {
     let mut bytes = lines.to_vec(alloc)?;
-    let before = answers_with(rt, alloc, ("ex.org", seed), &bytes)?.len();
+    let before = answers_with(rt, alloc, ("ex.org", seed), &bytes)?;
     bytes.extend_from_slice(READS.as_bytes())?;
     let all = answers_with(rt, alloc, ("ex.org", seed), &bytes)?;
+    let behind = str::from_utf8(&all)?
+        .strip_prefix(str::from_utf8(&before)?)
+        .ok_or("other replies before the reads")?;
     let mut replies = String::new(alloc);
-    for line in str::from_utf8(&all[before..])?.lines() {
+    for line in behind.lines() {
         let (_, reply) = line.split_once(",").ok_or("no call number")?;
         replies.push_str(reply)?;
         replies.push_str("\n")?;
