@@ -1,4 +1,4 @@
--- A session of which nobody else uses the registry: it writes what the engine `plain` writes.
+-- A session that sees no commits but its own: it writes what the engine `plain` writes.
 use Rattle.std.specs.Prelude.{◌≡◌, ◌+◌, ◌≤◌, ◌++◌, ℕ, List, [], ◌∷◌, length}
 use Rattle.std.specs.List.{AllByRecursion}
 use Rattle.entry_book.specs.History.{books_of}
@@ -34,7 +34,7 @@ pub data RunsAsPlain (domain seed : List ℕ) (lines : List (List ℕ)) (last : 
   not_admitted : (before : List (List ℕ)) (line : List ℕ) (after : List (List ℕ)) (mid : Session) (front rest : List ℕ) → lines ≡ before ++ line ∷ after → IsRun (Answers domain) (plain_start seed) before (plain_state mid) front → text ≡ front ++ (as_line (seat_refusal_json (mid.lines + 1) NotAdmitted) ++ rest) → RunsAsPlain domain seed lines last text
 
 -- A session through a new seat, with the ids of a seed, runs as `plain` with this seed if all commits that the seat has seen at the
--- end are its own. No other condition says that nobody else uses the registry.
+-- end are its own.
 abbrev pub SessionsAloneArePlain : Type 0
 SessionsAloneArePlain = (domain : Bytes) (seed : List ℕ) (seat : Seated) (lines : List (List ℕ)) (last : Session) (text : List ℕ) → IsNewSeat seat → length lines ≤ most_lines
     → IsRun (AnswersRequest domain) (session_start seat (first_ids seed)) lines last text → SawItsOwn last.seat → RunsAsPlain domain seed lines last text

@@ -5,7 +5,7 @@ use Rattle.shared_registry.specs.OneList.{AreOneList}
 use Rattle.shared_registry.specs.Seated.{Seated}
 use Rattle.reg_programs.specs.Sessions.{Grew}
 
--- There are as many seats at the end as at the start, and each is the one at its index at the start, after sessions.
+-- There are as many seats at the end as at the start, and each has grown from the one at its index at the start.
 pub record EachGrew (domain : Bytes) (start end : List Seated) : Type 0 where
   pub count : length end ≡ length start
   pub grew : (i : ℕ) (s t : Seated) → i < length start → Grew domain (get_or start i s) (get_or end i t)

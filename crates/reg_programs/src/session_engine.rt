@@ -300,8 +300,8 @@ pub fn sessions_law()
 {}
 
 /// A session through a new seat writes what `plain` writes with the same seed, if all commits that the seat has seen are its own:
-/// then nobody else has used the registry. A line that is answered L8 ends this, since `plain` has no such answer. This function
-/// does nothing at run time: its contract is the theorem.
+/// then no commit of others decided an answer. A line that is answered L8 ends this, since `plain` has no such answer. This
+/// function does nothing at run time: its contract is the theorem.
 pub fn session_alone_law()
     ensures { SessionsAloneArePlain }
 {
