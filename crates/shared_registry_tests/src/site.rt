@@ -8,8 +8,8 @@ use crate::telling::{outcome_text, seat_text};
 use crate::turnstile::TURNS;
 use entry_book::Batch;
 use shared_registry::{
-    Answer, ClosedRegistry, Gate, NewHistory, OpenGate, Outcome, Receipt, Registry, RegistryId, Seat, commits_law,
-    one_list_of_receipts, one_list_with_receipt,
+    Answer, ClosedRegistry, Gate, NewHistory, OpenGate, Outcome, Receipt, Registry, RegistryId,
+    Seat, commits_law, one_list_of_receipts, one_list_with_receipt,
 };
 use spiffe_name::TrustDomain;
 use std::alloc::Global;
