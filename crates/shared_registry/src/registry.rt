@@ -12,9 +12,8 @@ ghost use Rattle.shared_registry.specs.Seated.{AfterCall, CaughtUp, DuringCall, 
 ghost use Rattle.shared_registry.specs.SeatCalls.{AllBelow, calls_of};
 ghost use Rattle.shared_registry.specs.Works.{IsRead};
 
-use crate::closed::ClosedRegistry;
 use crate::gate::{Gate, Point};
-use crate::history::{NewHistory, RegistryId};
+use crate::history::{History, NewHistory, RegistryId};
 use crate::outcome::Outcome;
 use crate::recent::Replaced;
 use crate::run::discard;
@@ -66,6 +65,7 @@ fn settled<J: RegistryId>(seat: &Seat<J>, work: Work) -> Outcome
 /// A reader takes no lock: it looks once at the published state, and runs its batch on it. A writer takes the lock only for
 /// its commit. A function with `rt` may wait, and no clause says that it returns.
 pub struct Registry<J: RegistryId> {
+    history: History<J>,
     state: Mutex<WriterState<J>>,
 }
 
@@ -97,11 +97,10 @@ impl<J: RegistryId> Registry<J> {
         requires domain { domain ≡ J.domain }
         requires seats { 0 < seats }
     {
-        let Some(history) = new_history.named::<J>() else {
-            return Err(AllocError);
-        };
-        let state = WriterState::new(alloc, domain, history, seats.min(MOST_SEATS))?;
+        let (history, prefix) = new_history.named::<J>();
+        let state = WriterState::new(alloc, domain, prefix, seats.min(MOST_SEATS))?;
         Ok(Registry {
+            history,
             state: Mutex::new(state),
         })
     }
@@ -253,7 +252,7 @@ impl<J: RegistryId> Registry<J> {
     {
         let mut state = self.state.lock(rt);
         gate.pass(Point::BeforeCommit, seat.number(), seat.calls());
-        let (decided, replaced) = state.commit(rt, seat, work);
+        let (decided, replaced) = state.commit(rt, &self.history, seat, work);
         MutexGuard::unlock(state);
         (decided, replaced)
     }
@@ -285,10 +284,10 @@ impl<J: RegistryId> Registry<J> {
         kept
     }
 
-    /// Ends the registry, whose writer can't be dropped otherwise, and returns what was published last. It waits for the
-    /// readers that are inside, and no clause says that it returns.
-    pub fn close<R: Wait>(self, rt: &R) -> ClosedRegistry<J> {
-        let Registry { state } = self;
-        state.into_inner().close(rt)
+    /// Ends the registry, whose writer can't be dropped otherwise. It waits for the readers that are inside, and no clause
+    /// says that it returns.
+    pub fn close<R: Wait>(self, rt: &R) {
+        let Registry { history: _, state } = self;
+        state.into_inner().close(rt);
     }
 }

@@ -1,14 +1,13 @@
 //! Which state does the registry's writer lock guard?
 
-ghost use Rattle.std.specs.Prelude.{◌≡◌, [], IfErr, IfOk, MatchResult};
+ghost use Rattle.std.specs.Prelude.{◌≡◌, [], IfOk, MatchResult};
 ghost use mathlib.Core.List.{IsPrefix};
 ghost use Rattle.batch_work.specs.Working.{status_of};
-ghost use Rattle.shared_registry.specs.OutcomesPrivate.{HandsOut, IsCommitOutcome, IsMisnumbered};
+ghost use Rattle.shared_registry.specs.OutcomesPrivate.{HandsOut, IsCommitOutcome};
 ghost use Rattle.shared_registry.specs.Seated.{DuringCall};
 ghost use Rattle.shared_registry.specs.SeatCalls.{AllBelow};
 ghost use Rattle.shared_registry.specs.Works.{IsRead};
 
-use crate::closed::ClosedRegistry;
 use crate::commit::{checkpoint_if_full, decide};
 use crate::history::{History, HistoryPrefix, RegistryId};
 use crate::published::{PublishedValue, opening};
@@ -32,9 +31,8 @@ pub(crate) type PublishedWriter<J> = Writer<PublishedValue, PublishedValue, View
 pub struct NoSeat;
 
 /// State guarded by the registry's writer lock: the head, the writer, the published states of the last commits, the items of the
-/// last checkpoint that are still to be dropped, the number of seats given, that of all seats, and the history with the right to
-/// append to it. The model in contracts is the list of all items of the history. Whenever nobody holds the lock, all of them are
-/// published.
+/// last checkpoint that are still to be dropped, the number of seats given, that of all seats, and the prefix of the journal
+/// that is published. The model in contracts is this prefix.
 pub(crate) struct WriterState<J: RegistryId> {
     alloc: Global,
     head: Head,
@@ -44,7 +42,7 @@ pub(crate) struct WriterState<J: RegistryId> {
     seats: usize,
     most: usize,
     start: HistoryPrefix<J>,
-    history: History<J>,
+    last: HistoryPrefix<J>,
 }
 
 impl<J: RegistryId> Model for WriterState<J> {
@@ -54,9 +52,9 @@ impl<J: RegistryId> Model for WriterState<J> {
 
     ghost Value = { List Item };
 
-    ghost view = { λ c. c.history };
+    ghost view = { λ c. c.last };
 
-    ghost invariant = { λ c. IsTied J.domain c.history c.head × (64 ≤ vec_capacity c.older) × (c.most ≤ 32) × (c.start ≡ []) × IsSome c.writer × IfSome c.writer (λ w. IsPublished J.history J.domain c.history w.desk.shown.value × (drop w.behind w.log.items ≡ [])) };
+    ghost invariant = { λ c. IsTied J.domain c.last c.head × (64 ≤ vec_capacity c.older) × (c.most ≤ 32) × (c.start ≡ []) × IsSome c.writer × IfSome c.writer (λ w. IsPublished J.history J.domain c.last w.desk.shown.value × (drop w.behind w.log.items ≡ [])) };
 }
 
 impl<J: RegistryId> WriterState<J> {
@@ -66,17 +64,16 @@ impl<J: RegistryId> WriterState<J> {
     pub(crate) fn new(
         alloc: Global,
         domain: TrustDomain,
-        history: History<J>,
+        prefix: HistoryPrefix<J>,
         most: usize,
     ) -> Result<WriterState<J>, AllocError>
-        requires history { history ≡ [] }
+        requires prefix { prefix ≡ [] }
         requires domain { domain ≡ J.domain }
         requires most { (0 < most) × (most ≤ 32) }
         ensures { IfOk result (λ c. c ≡ []) }
     {
         let head = Head::new(alloc, domain)?;
-        let start = history.prefix();
-        let first = opening(alloc, &start, &head)?;
+        let first = opening(alloc, &prefix, &head)?;
         let second = first.again()?;
         let recent = Recent::none(alloc)?;
         let older = Vec::with_capacity(alloc, 64)?;
@@ -89,8 +86,8 @@ impl<J: RegistryId> WriterState<J> {
             older,
             seats: 0,
             most,
-            start,
-            history,
+            start: prefix.again(),
+            last: prefix,
         })
     }
 
@@ -124,17 +121,14 @@ impl<J: RegistryId> WriterState<J> {
         ensures own { seat.new.own ≡ seat.old.own }
         ensures seen_learnt { IfOk result (λ _. IsPrefix seat.old.learnt seat.new.seen) }
         ensures seen { MatchResult result (λ r. (r ≡ seat.new.seen) × (r ≡ self.old)) (λ _. seat.new.seen ≡ seat.old.seen) }
-        ensures no_entry { IfErr result (λ _. IsMisnumbered self.old seat.old) }
     {
         let Some(writer) = &self.writer else {
             unreachable!()
         };
-        self.history.has_all(seat.prefix());
-        self.history.has_all(seat.learnt());
-        if !seat.has_own(writer.published()) {
+        if !seat.fits(writer.published()) {
             return Err(NoEntry);
         }
-        seat.see(self.history.prefix());
+        seat.see(self.last.again());
         Ok(seat.receipt())
     }
 
@@ -143,6 +137,7 @@ impl<J: RegistryId> WriterState<J> {
     pub(crate) fn commit<R: Wait>(
         &mut self,
         rt: &R,
+        history: &History<J>,
         seat: &mut Seat<J>,
         work: &Work,
     ) -> (Result<Commit, NoEntry>, Option<Replaced>)
@@ -160,8 +155,9 @@ impl<J: RegistryId> WriterState<J> {
         let (writer, decided, before) = decide(
             rt,
             self.alloc,
-            &mut self.history,
+            history,
             &mut self.head,
+            &mut self.last,
             writer,
             seat,
             work,
@@ -183,10 +179,8 @@ impl<J: RegistryId> WriterState<J> {
         self.head.kept()
     }
 
-    /// Ends the writer, and returns what was published last, with the history.
-    pub(crate) fn close<R: Wait>(self, rt: &R) -> ClosedRegistry<J>
-        ensures { result ≡ self }
-    {
+    /// Ends the writer.
+    pub(crate) fn close<R: Wait>(self, rt: &R) {
         let WriterState {
             alloc: _,
             head: _,
@@ -196,9 +190,13 @@ impl<J: RegistryId> WriterState<J> {
             seats: _,
             most: _,
             start: _,
-            history,
+            last: _,
         } = self;
-        let Some(writer) = writer else { unreachable!() };
-        ClosedRegistry::of(history, writer.take(rt))
+        match writer {
+            Some(writer) => {
+                let _last = writer.take(rt);
+            }
+            None => {}
+        }
     }
 }

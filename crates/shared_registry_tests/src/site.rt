@@ -8,8 +8,8 @@ use crate::telling::{outcome_text, seat_text};
 use crate::turnstile::TURNS;
 use entry_book::Batch;
 use shared_registry::{
-    Answer, ClosedRegistry, Gate, NewHistory, OpenGate, Outcome, Receipt, Registry, RegistryId,
-    Seat, commits_law, one_list_of_receipts, one_list_with_receipt,
+    Answer, Gate, NewHistory, OpenGate, Outcome, Receipt, Registry, RegistryId, Seat, commits_law,
+    one_list_of_receipts, one_list_with_receipt,
 };
 use spiffe_name::TrustDomain;
 use std::alloc::Global;
@@ -160,14 +160,7 @@ impl<'a, J: RegistryId, R: Wait + Clock> Site<'a, J, R> {
         }
     }
 
-    /// What one more seat, if any is left, sees of the registry in the end, and the receipt of that.
-    pub fn last_news(&self) -> Option<(Seat<J>, Receipt<J>)> {
-        let mut seat = self.registry.seat(self.rt).ok()?;
-        let receipt = self.registry.news(self.rt, &mut seat).ok()?;
-        Some((seat, receipt))
-    }
-
-    pub fn close(self) -> ClosedRegistry<J> {
+    pub fn close(self) {
         let Site {
             rt,
             alloc: _,
@@ -175,7 +168,7 @@ impl<'a, J: RegistryId, R: Wait + Clock> Site<'a, J, R> {
             domain: _,
             mailboxes: _,
         } = self;
-        registry.close(rt)
+        registry.close(rt);
     }
 
     pub fn seat(&self) -> Result<Seat<J>, Failed> {
