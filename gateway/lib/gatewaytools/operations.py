@@ -14,7 +14,8 @@ import threading
 import time
 
 from gatewaytools import balancer, cluster, faults, scenarios, tools
-from gatewaytools.scenarios import Wrong, expect, script
+from gatewaytools.scenarios import script
+from regdtools.wrong import Wrong, expect
 from regdtools import guides
 
 DEPLOY = tools.TOP / "deploy"

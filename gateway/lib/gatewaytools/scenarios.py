@@ -13,18 +13,10 @@ import threading
 import time
 
 from gatewaytools import cluster, differential, faults, plain, rules
+from regdtools.wrong import Wrong, expect
 
 AGENT = "spiffe://ex.org/spire/agent/n1"
 OTHER = "spiffe://ex.org/spire/agent/n2"
-
-
-class Wrong(Exception):
-    """What a scenario shows is not what is expected."""
-
-
-def expect(got, wanted, what):
-    if got != wanted:
-        raise Wrong(f"{what}: got {got!r}, expected {wanted!r}")
 
 
 def script(path, text):

@@ -1,6 +1,13 @@
-"""Modules that the scripts under scripts/, tests/ and bench/ share.
+"""Modules that the scripts under scripts/, tests/, bench/ and gateway/ share.
 
-A script finds this package from any folder of the repository by one line:
+A script finds this package by one line. Python puts the script's own folder at the front of sys.path, and the line makes it the folder of
+this package; below tests/ it is
 
-    sys.path.insert(0, next(str(top / "tests/lib") for top in pathlib.Path(__file__).resolve().parents if (top / "HANDLES").exists()))
+    sys.path[0] += "/../lib"
+
+and elsewhere "/../tests/lib". This package then finds gateway/lib, so a script that needs `gatewaytools` imports `regdtools` before.
 """
+import pathlib
+import sys
+
+sys.path.append(str(pathlib.Path(__file__).resolve().parents[3] / "gateway/lib"))

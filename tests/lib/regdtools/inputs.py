@@ -6,8 +6,10 @@ import re
 from regdtools.program import ROOT
 
 LIBRARY = ROOT / "tests/lib"
+GATEWAY = ROOT / "gateway/lib"
 # a text that can be the path of a file of the repository
 PATH = re.compile(r"[\w.-]+(/[\w.-]+)+")
+NAME = re.compile(r"[\w-]+\.\w+")
 
 
 def is_python(file):
@@ -15,21 +17,21 @@ def is_python(file):
     return file.suffix == ".py" or "python3" in file.read_text(errors="replace").partition("\n")[0]
 
 
-def modules(folder, names):
-    """Returns the files of the modules and packages among these names, which are looked up in a folder."""
-    paths = [folder / name.replace(".", "/") for name in names if name]
+def modules(folders, names):
+    """Returns the files of the modules and packages among these names, which are looked up in some folders."""
+    paths = [folder / name.replace(".", "/") for folder in folders for name in names if name]
     return [file for path in paths for file in (path.with_suffix(".py"), path / "__init__.py") if file.exists()]
 
 
-def read_by(file):
-    """Yields what a file in Python reads itself: the modules of tests/lib that it imports, and the files whose paths are texts in it."""
+def read_by(file, *libraries):
+    """Yields what a file in Python reads itself: the modules of these folders that it imports, and the files whose paths are texts in it."""
     for node in ast.walk(ast.parse(file.read_text())):
         if isinstance(node, ast.Import):
-            yield from modules(LIBRARY, [alias.name for alias in node.names])
+            yield from modules(libraries, [alias.name for alias in node.names])
         elif isinstance(node, ast.ImportFrom):
             prefix = f"{node.module}." if node.module else ""
             names = [node.module, *(f"{prefix}{alias.name}" for alias in node.names)]
-            yield from modules(file.parent if node.level else LIBRARY, names)
+            yield from modules([file.parent] if node.level else libraries, names)
         elif isinstance(node, ast.Constant) and isinstance(node.value, str) and PATH.fullmatch(node.value) and (ROOT / node.value).is_file():
             yield ROOT / node.value
 
@@ -44,5 +46,5 @@ def files_of(*scripts):
         file = left.pop()
         if file not in found:
             found.add(file)
-            left += read_by(file) if is_python(file) else []
+            left += read_by(file, LIBRARY) if is_python(file) else []
     return sorted(str(path.relative_to(ROOT)) for path in found)

@@ -11,15 +11,12 @@ import re
 import subprocess
 
 from regdtools.program import program
+from regdtools.wrong import Wrong
 
 HEAD = re.compile(rb'\{"call":(\d+),(?:"code":"(\w\d)",(?:"detail":"[^"]*",)?(?:"op":\d+,)?)?"place":(\d+),')
 KINDS = ["committed", "answered", "refused", "repeated", "conflict"]
 TAILS = {f'"result":"{kind}"}}\n'.encode(): kind for kind in KINDS}
 COMMITTED, ANSWERED, REFUSED, REPEATED, CONFLICT = range(5)
-
-
-class Wrong(Exception):
-    """A reply or a state of the server that is not the expected one."""
 
 
 class Recorder:

@@ -11,6 +11,7 @@ import json
 import subprocess
 
 from regdtools.program import program
+from regdtools.wrong import Wrong
 
 IN_FLIGHT = 6
 MOST_BUNDLES = 1024
@@ -28,10 +29,6 @@ QUERIES = "show show_agent show_bundle children page page authorised trust".spli
 EVENTS = ["invoke", "begin", "step", "commit", "reply"]
 # the event that the state of a call permits; None is the state before the invoke
 NEXT_EVENT = {None: "invoke", "new": "begin", "running": "step", "ready": "commit", "settled": "reply", "decided": "reply"}
-
-
-class Wrong(Exception):
-    """An answer of the program that is not the expected one."""
 
 
 @functools.cache

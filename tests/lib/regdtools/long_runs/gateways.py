@@ -9,7 +9,7 @@ import time
 
 from gatewaytools import auditing, cluster, faults, tools
 from regdtools.long_runs import shrinking
-from regdtools.long_runs.pieces import Wrong
+from regdtools.wrong import Wrong
 from regdtools.program import program
 
 # faults with the seconds that each takes under load
@@ -67,12 +67,12 @@ class Run:
         """Checks what the callers saw, and adds their record to that of the site."""
         events = record.read_text().splitlines()
         if seen["back"] or seen["refused"]:
-            raise Wrong(f"{seen['back']} commit numbers went back on a connection, {seen['refused']} changes were refused", None)
+            raise Wrong(f"{seen['back']} commit numbers went back on a connection, {seen['refused']} changes were refused")
         if fresh:
             values = [json.loads(line) for line in events]
             self.counts["linearizable reads"] += sum(bool(value.get("read")) for value in values)
             if stale := auditing.stale_reads(values):
-                raise Wrong(f"{stale} stale reads", None)
+                raise Wrong(f"{stale} stale reads")
         with open(self.site.folder / "record", "a") as whole:
             whole.writelines(line + "\n" for line in events)
         self.changes += sum('"line":' in line for line in events)
@@ -84,7 +84,7 @@ class Run:
         found += faults.sent_again(self.site, acknowledged)
         found += [f"after the repeats: {fault}" for fault in faults.checked(self.site)[0]]
         if found:
-            raise Wrong("; ".join(found), None)
+            raise Wrong("; ".join(found))
         self.counts["acknowledged changes"] += len(acknowledged)
 
 

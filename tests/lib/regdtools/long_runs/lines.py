@@ -6,7 +6,7 @@ import subprocess
 import threading
 
 from regdtools.long_runs import drawing, shrinking
-from regdtools.long_runs.pieces import Wrong
+from regdtools.wrong import Wrong
 from regdtools.malformed import parsing, tables
 from regdtools.program import program
 from regdtools.server import Server
@@ -105,7 +105,7 @@ def exchange(engines, data, count, is_end=False):
     try:
         return [[engine.line() for _ in range(count)] for engine in engines]
     except OSError:
-        raise Wrong("a session ended", None) from None
+        raise Wrong("a session ended") from None
     finally:
         clock.cancel()
         for thread in senders:
@@ -141,20 +141,20 @@ class Comparison:
     def check(self, line, plain, session):
         self.lines += 1
         if plain != session:
-            raise Wrong(f"line {self.lines}: plain answers {plain[:500]!r}, the session {session[:500]!r}", None)
+            raise Wrong(f"line {self.lines}: plain answers {plain[:500]!r}, the session {session[:500]!r}")
         head = HEAD.match(plain)
         if not head:
-            raise Wrong(f"line {self.lines}: unexpected answer {plain[:500]!r}", None)
+            raise Wrong(f"line {self.lines}: unexpected answer {plain[:500]!r}")
         try:
             parsing.read_request(line)
         except parsing.Refused as refused:
             expected = refused.line(self.lines).encode() + b"\n"
             if plain != expected:
-                raise Wrong(f"line {self.lines}: expected {expected!r}, got {plain[:500]!r}", None) from None
+                raise Wrong(f"line {self.lines}: expected {expected!r}, got {plain[:500]!r}") from None
         else:
             self.calls += 1
             if head[1] is None or int(head[1]) != self.calls:
-                raise Wrong(f"line {self.lines}: expected the answer to call {self.calls}, got {plain[:500]!r}", None)
+                raise Wrong(f"line {self.lines}: expected the answer to call {self.calls}, got {plain[:500]!r}")
         result = head[2] or plain[plain.rfind(b'"result":"') + 10 :].removesuffix(b'"}\n')
         self.counts[result.decode()] += 1
 
@@ -166,7 +166,7 @@ class Comparison:
         last = [engine.line() for engine in self.engines]
         statuses = [engine.status() for engine in self.engines]
         if last != [b"", b""] or statuses != [0, 0]:
-            raise Wrong(f"at the end plain and the session print {last}, their statuses are {statuses}", None)
+            raise Wrong(f"at the end plain and the session print {last}, their statuses are {statuses}")
 
 
 class LongLines:

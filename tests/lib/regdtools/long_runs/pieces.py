@@ -12,15 +12,9 @@ import sys
 import time
 import traceback
 
+from regdtools.wrong import Wrong
+
 EVERY = 10.0
-
-
-class Wrong(Exception):
-    """What a piece found, and the items of the input that led to it."""
-
-    def __init__(self, reason, items):
-        super().__init__(reason)
-        self.reason, self.items = reason, items
 
 
 # what a piece found: its number, the counts, and the reason and the items of its failure, if it failed

@@ -4,7 +4,7 @@ import subprocess
 
 from regdtools import schedules
 from regdtools.long_runs import shrinking
-from regdtools.long_runs.pieces import Wrong
+from regdtools.wrong import Wrong
 from regdtools.schedules import Recorded, executable, text
 
 SECONDS = 120
@@ -28,9 +28,9 @@ class Played(Recorded):
         try:
             return super().play(event)
         except BrokenPipeError:
-            raise schedules.Wrong(f"the program ended before {event}") from None
+            raise Wrong(f"the program ended before {event}") from None
         except json.JSONDecodeError as error:
-            raise schedules.Wrong(f"{event} has the answer {error.doc[:500]!r}") from None
+            raise Wrong(f"{event} has the answer {error.doc[:500]!r}") from None
 
 
 def output(words, lines):
@@ -44,10 +44,10 @@ def check_records(events, order):
     records, status = output(["schedule", "--record"], "".join(text(event) + "\n" for event in events).encode())
     recorded = [json.loads(line)["call"] for line in records.splitlines()]
     if status or recorded != order:
-        raise schedules.Wrong(f"the records are of the calls {recorded}, the order is {order}, the status {status}")
+        raise Wrong(f"the records are of the calls {recorded}, the order is {order}, the status {status}")
     verdict, status = output(["audit"], records)
     if verdict != b'{"audit":"yes","calls":%d}\n' % len(order) or status:
-        raise schedules.Wrong(f"the audit prints {verdict!r} with status {status}")
+        raise Wrong(f"the audit prints {verdict!r} with status {status}")
 
 
 def check(run, order):
@@ -66,7 +66,7 @@ class Replayed(schedules.Schedule):
         printed, status = output(["schedule"], "".join(text(event) + "\n" for event in events).encode())
         lines = printed.splitlines()
         if status or len(lines) != len(events) + 1:
-            raise schedules.Wrong(f"{len(events)} events have {len(lines)} answers with the order, the status is {status}")
+            raise Wrong(f"{len(events)} events have {len(lines)} answers with the order, the status is {status}")
         for event, line in zip(events, lines):
             self.take(event, line)
         self.order = json.loads(lines[-1])["order"]
@@ -85,8 +85,8 @@ class LongSchedules:
                 try:
                     self.draw_all(draw, run)
                     check(run, run.end())
-                except schedules.Wrong as wrong:
-                    raise Wrong(str(wrong), run.events) from None
+                except Wrong as wrong:
+                    raise Wrong(wrong.reason, run.events) from None
             is_full = len(run.events) > 1_000 and run.counts["W5"]
             counts.update({ON_FULL_BOOK: run.counts["W5"]} if is_full else {key: run.counts[key] for key in run.counts if key})
             counts["events"] += len(run.events)
@@ -125,8 +125,8 @@ class LongSchedules:
         try:
             run = Replayed(events)
             check(run, run.order)
-        except schedules.Wrong as wrong:
-            return str(wrong)
+        except Wrong as wrong:
+            return wrong.reason
         except (KeyError, TypeError):
             return None  # no schedule: the search for a smaller one left out a key
         return None

@@ -13,6 +13,7 @@ import tempfile
 
 from regdtools import program, schedules
 from regdtools.long_runs import pieces, shrinking
+from regdtools.wrong import Wrong, expect
 
 # it imports little, since a search starts it hundreds of times
 PLANTED = """#!{python} -ISE
@@ -44,15 +45,6 @@ sys.exit(os.waitstatus_to_exitcode(os.wait()[1]))
 """
 # the longest search on a busy machine
 SECONDS = 300
-
-
-class Unexpected(Exception):
-    """A search with another result than the expected one."""
-
-
-def expect(got, expected, what):
-    if got != expected:
-        raise Unexpected(f"{what}: got {got!r}, expected {expected!r}")
 
 
 def search_lists():
@@ -94,9 +86,9 @@ def failing(kind, amount):
         found = pieces.run_piece(kind, "self-test", piece, amount)
         if found.reason:
             if found.items is None:
-                raise Unexpected(found.reason)
+                raise Wrong(found.reason)
             return found
-    raise Unexpected(f"{kind.name}: no piece shows the planted fault")
+    raise Wrong(f"{kind.name}: no piece shows the planted fault")
 
 
 def requests_in(kind, items):
@@ -133,8 +125,8 @@ def run(kinds):
             for kind, amount in kinds:
                 kind.attempts = 1  # the planted fault doesn't depend on time
                 print(search_planted(kind, amount), flush=True)
-    except Unexpected as unexpected:
-        print(f"self-test: {unexpected}")
+    except Wrong as wrong:
+        print(f"self-test: {wrong}")
         return False
     finally:
         os.environ.pop("REGD")

@@ -11,7 +11,7 @@ import uuid
 
 from regdtools import one_list
 from regdtools.long_runs import drawing, shrinking
-from regdtools.long_runs.pieces import Wrong
+from regdtools.wrong import Wrong
 from regdtools.malformed import parsing
 from regdtools.mixed_requests import Pool, changes, line_of
 from regdtools.server import Server
@@ -137,7 +137,7 @@ class Connection:
                 continue
             refused = refusal_of(line)
             if not refused or reply != refused.line(self.numbers).encode() + b"\n":
-                raise one_list.Wrong(f"the server answers {line!r} by {reply!r}")
+                raise Wrong(f"the server answers {line!r} by {reply!r}")
         self.recorder.take(lines, replies, self.known)
         self.sent = []
 
@@ -165,7 +165,7 @@ def talk(connections, source, round):
             source.newest = max(source.newest, connection.recorder.place)
             idle.append((busy.pop(connection), connection))
         if busy and not idle:
-            raise one_list.Wrong(f"no reply within {SECONDS:.0f} seconds")
+            raise Wrong(f"no reply within {SECONDS:.0f} seconds")
 
 
 def play(source, folder, counts):
@@ -193,7 +193,7 @@ def play(source, folder, counts):
                 else:
                     connection.close()
         if server.end(SECONDS) != 0:
-            raise one_list.Wrong(f"the server ended with status {server.process.returncode}")
+            raise Wrong(f"the server ended with status {server.process.returncode}")
     for recorder in recorders:
         recorder.close()
     counts["replies older than a commit number that was known"] += sum(recorder.older for recorder in recorders)
@@ -201,13 +201,13 @@ def play(source, folder, counts):
 
 
 def check(source, counts):
-    """Plays and explains the replies. Raises one_list.Wrong."""
+    """Plays and explains the replies. Raises Wrong."""
     memory = pathlib.Path("/dev/shm")
     with tempfile.TemporaryDirectory(dir=memory if memory.is_dir() else None) as folder:
         try:
             transcript = play(source, pathlib.Path(folder), counts)
         except (OSError, RuntimeError) as error:
-            raise one_list.Wrong(f"{type(error).__name__}: {error}") from None
+            raise Wrong(f"{type(error).__name__}: {error}") from None
         counts.update({one_list.KINDS[kind]: count for kind, count in transcript.counts.items()})
         transcript.check()
 
@@ -225,8 +225,8 @@ class LongServe:
         source = Drawn(draw, amount)
         try:
             check(source, counts)
-        except one_list.Wrong as wrong:
-            raise Wrong(str(wrong), source.items) from None
+        except Wrong as wrong:
+            raise Wrong(wrong.reason, source.items) from None
         counts[self.unit] += amount
 
     def fails(self, items):
@@ -234,8 +234,8 @@ class LongServe:
         for _ in range(self.attempts):
             try:
                 check(Repeated(items), collections.Counter())
-            except one_list.Wrong as wrong:
-                return str(wrong)
+            except Wrong as wrong:
+                return wrong.reason
         return None
 
     @staticmethod
