@@ -7,6 +7,7 @@ import tempfile
 import unittest
 from unittest import mock
 
+from regdtools import operations as table
 from gatewaytools import auditing, operations, rules, tools
 
 TOKEN = "00000000-0000-4000-8000-00000000000"
@@ -156,6 +157,10 @@ class Go(unittest.TestCase):
 
 
 class Rules(unittest.TestCase):
+    def test_operations(self):
+        self.assertEqual(rules.CHANGES, {*table.CHANGES})
+        self.assertEqual(rules.QUERIES, {*table.QUERIES})
+
     def test_own_code(self):
         query, prune = b'{"op":"show"}', b'{"op":"prune"}'
         for line, code in (

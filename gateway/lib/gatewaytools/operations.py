@@ -13,10 +13,10 @@ import sys
 import threading
 import time
 
+from regdtools import guides
+from regdtools.wrong import Wrong, expect
 from gatewaytools import balancer, cluster, faults, scenarios, tools
 from gatewaytools.scenarios import script
-from regdtools.wrong import Wrong, expect
-from regdtools import guides
 
 DEPLOY = tools.TOP / "deploy"
 # how many callers of each kind make a crowd of 2,000

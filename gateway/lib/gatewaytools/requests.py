@@ -1,14 +1,23 @@
 """Random request lines: valid ones in unusual spellings, lines with tokens that come again, and damaged ones."""
+import functools
 import json
 
+from regdtools import operations
 from gatewaytools import rules
 
-AGENTS = [f"spiffe://ex.org/spire/agent/n{n}" for n in range(4)]
-PARENTS = [*AGENTS, "spiffe://ex.org/spire/server", "spiffe://ex.org/node/a", "spiffe://ex.org/w1"]
-IDENTITIES = [f"spiffe://ex.org/w{n}" for n in range(5)] + ["spiffe://ex.org/node/a"]
+AGENTS = [operations.agent(n) for n in range(4)]
+PARENTS = [*AGENTS, operations.SERVER, f"{operations.HOME}/node/a", operations.workload(1)]
+IDENTITIES = [operations.workload(n) for n in range(5)] + [f"{operations.HOME}/node/a"]
 DOMAINS = ["b.org", "c.org", "d.org"]
 SELECTORS = ["u:1", "u:2", "x:1", "unix:uid:1000"]
 IDS = [f"00000000-0000-4000-8000-00000000000{n:x}" for n in range(12)]
+# how often each operation is drawn
+WEIGHTS = operations.weighted({"create": 2, "update": 1, "delete": 1, "set_agent": 2, "drop_agent": 1, "set_bundle": 1, "drop_bundle": 1, "prune": 1},
+                              operations.OPERATIONS)
+NAMES = [name for name, weight in WEIGHTS.items() for _ in range(weight)]
+# how often an optional key is there; one that isn't listed never is
+CHANCES = {"hint": 0.2, "domains": 0.2, "expiry": 0.2, "x509_svid_ttl": 0.2, "jwt_svid_ttl": 0.2, "revision": 0.3, "mode": 0.6}
+CHANCES_OF_PAGE = {"from": 0.15, "parent": 0.15, "identity": 0.15, "domain": 0.15, "at": 0.15, "selectors": 0.15}
 WRONG = [None, 7, -1, 1.5, "", "x", [], {}, True, 1 << 64, "spiffe://other.org/x", ["u"], "\u00e9", "a" * 600]
 
 
@@ -57,43 +66,25 @@ class Lines:
             batch[random.choice(["zz", "Ops", 'a"b'])] = 1
         return batch
 
+    def values(self, name):
+        """Returns for each key of an operation a function that draws its value."""
+        random = self.random
+        count = {"set_agent": lambda: random.randrange(3), "page": lambda: 1}.get(name, lambda: random.choice([1, 1, 2]))
+        values = {"id": IDS, "agent": AGENTS, "size": [1, 2, 500], "from": IDS, "parent": PARENTS, "identity": IDENTITIES, "domain": DOMAINS,
+                  "at": range(400), "selectors": [], "hint": ["", "h", "\u00e9\"\\"], "domains": [[], ["b.org"], ["c.org", "b.org"]],
+                  "expiry": [0, 5, 1 << 40], "x509_svid_ttl": [0, 60], "jwt_svid_ttl": [0, 60], "revision": range(3),
+                  "text": ["", "{}", "create", "line\n\u2028\t", "x" * 300], "mode": ["restrict", "delete", "dissociate", None],
+                  "match": ["exact", "any", "superset", "subset", None], "before": [0, 6, 1 << 41]}
+        functions = {key: functools.partial(random.choice, some) for key, some in values.items()}
+        return functions | {"selectors": lambda: random.sample(SELECTORS, count())}
+
     def op(self):
         random = self.random
-        name = random.choice(["create", "create", "update", "delete", "set_agent", "set_agent", "drop_agent", "set_bundle", "drop_bundle", "prune",
-                              "show", "show_agent", "show_bundle", "children", "page", "authorised", "trust"])
-        op = {"op": name}
-        if name in ("create", "update"):
-            op |= {"id": random.choice(IDS), "parent": random.choice(PARENTS), "identity": random.choice(IDENTITIES),
-                   "selectors": random.sample(SELECTORS, random.choice([1, 1, 2]))}
-            for key, values in {"hint": ["", "h", "\u00e9\"\\"], "domains": [[], ["b.org"], ["c.org", "b.org"]], "expiry": [0, 5, 1 << 40],
-                                "x509_svid_ttl": [0, 60], "jwt_svid_ttl": [0, 60]}.items():
-                if random.random() < 0.2:
-                    op[key] = random.choice(values)
-        elif name in ("delete", "show"):
-            op["id"] = random.choice(IDS)
-        elif name in ("show_agent", "drop_agent", "authorised", "trust"):
-            op["agent"] = random.choice(AGENTS)
-        elif name == "set_agent":
-            op |= {"agent": random.choice(AGENTS), "selectors": random.sample(SELECTORS, random.randrange(3))}
-        elif name in ("set_bundle", "show_bundle", "drop_bundle"):
-            op["domain"] = random.choice(DOMAINS)
-            if name == "set_bundle":
-                op["text"] = random.choice(["", "{}", "create", "line\n\u2028\t", "x" * 300])
-            if name == "drop_bundle" and random.random() < 0.6:
-                op["mode"] = random.choice(["restrict", "delete", "dissociate", None])
-        elif name == "children":
-            op["parent"] = random.choice(PARENTS)
-        elif name == "prune":
-            op["before"] = random.choice([0, 6, 1 << 41])
-        else:
-            op["size"] = random.choice([1, 2, 500])
-            for key, values in {"from": IDS, "parent": PARENTS, "identity": IDENTITIES, "domain": DOMAINS, "at": range(400)}.items():
-                if random.random() < 0.15:
-                    op[key] = random.choice(values)
-            if random.random() < 0.15:
-                op |= {"selectors": random.sample(SELECTORS, 1), "match": random.choice(["exact", "any", "superset", "subset", None])}
-        if name in ("update", "delete") and random.random() < 0.3:
-            op["revision"] = random.randrange(3)
+        name = random.choice(NAMES)
+        chances = CHANCES_OF_PAGE if name == "page" else CHANCES
+        op = operations.drawn(name, self.values(name), lambda key: key in chances and random.random() < chances[key])
+        if name == "page" and "selectors" in op:
+            op["match"] = self.values(name)["match"]()
         if random.random() < 0.03:
             op[random.choice([*op, "zz"])] = random.choice(WRONG)
         if name == "create" and not isinstance(op.get("id"), str):

@@ -1,6 +1,7 @@
 """The rules of the gateway, written again in Python: how regd compares operations, and which lines the gateway refuses.
 
-The tests compare the gateway with them, so they share no code with it.
+The tests compare the gateway with them, so they share no code with it. Nor do they share the table of regdtools.operations, from which the
+random lines are drawn: checker_tests compares the names.
 """
 import json
 import uuid

@@ -12,8 +12,8 @@ import sys
 import threading
 import time
 
-from gatewaytools import cluster, differential, faults, plain, rules
 from regdtools.wrong import Wrong, expect
+from gatewaytools import cluster, differential, faults, plain, rules
 
 AGENT = "spiffe://ex.org/spire/agent/n1"
 OTHER = "spiffe://ex.org/spire/agent/n2"

@@ -10,22 +10,25 @@ import itertools
 import json
 import subprocess
 
+from regdtools import operations
 from regdtools.program import program
 from regdtools.wrong import Wrong
 
 IN_FLIGHT = 6
 MOST_BUNDLES = 1024
 IDS = [f"00000000-0000-0000-0000-{n:012d}" for n in range(10)]
-AGENTS = [f"spiffe://ex.org/spire/agent/n{n}" for n in range(5)]
-PARENTS = AGENTS + [f"spiffe://ex.org/w{n}" for n in range(5)]
-IDENTITIES = [f"spiffe://ex.org/w{n}" for n in range(10)]
-DOMAINS = [f"b{n}.org" for n in range(10)]
+AGENTS = [operations.agent(n) for n in range(5)]
+IDENTITIES = [operations.workload(n) for n in range(10)]
+PARENTS = AGENTS + IDENTITIES[:5]
+DOMAINS = [operations.partner(n) for n in range(10)]
 TOKENS = [f"10000000-0000-0000-0000-{n:012d}" for n in range(3)]
 SELECTORS = ["u:1", "u:2", "g:1"]
-WRITES = (
-    "create create create create update update delete prune set_bundle set_bundle set_bundle drop_bundle set_agent set_agent drop_agent"
-).split()
-QUERIES = "show show_agent show_bundle children page page authorised trust".split()
+# how often each operation is drawn
+WEIGHTS = operations.weighted({"create": 4, "update": 2, "delete": 1, "prune": 1, "set_bundle": 3, "drop_bundle": 1, "set_agent": 2, "drop_agent": 1,
+                               "show": 1, "show_agent": 1, "show_bundle": 1, "children": 1, "page": 2}, operations.OPERATIONS)
+NAMES = [name for name, weight in WEIGHTS.items() for _ in range(weight)]
+# how often an optional key is there; one that isn't listed never is
+CHANCES = {"domains": 0.4, "expiry": 0.3, "revision": 0.3, "at": 0.4}
 EVENTS = ["invoke", "begin", "step", "commit", "reply"]
 # the event that the state of a call permits; None is the state before the invoke
 NEXT_EVENT = {None: "invoke", "new": "begin", "running": "step", "ready": "commit", "settled": "reply", "decided": "reply"}
@@ -54,65 +57,47 @@ def selectors(draw):
     return draw.sample(SELECTORS, draw.randint(1, 2)) if draw.random() < 0.3 else SELECTORS[:1]
 
 
-def entry(draw):
-    """Returns the keys of an entry without its id."""
-    keys = {
-        "parent": pick(draw, PARENTS),
-        "identity": pick(draw, IDENTITIES),
-        "selectors": selectors(draw),
+def values(draw, commits, id, agent=None, domain=None):
+    """Returns for each key a function that draws its value, or returns this one. `commits` is the number of batches committed so far."""
+    return {
+        "id": lambda: id,
+        "agent": lambda: agent,
+        "domain": lambda: domain,
+        "parent": lambda: pick(draw, PARENTS),
+        "identity": lambda: pick(draw, IDENTITIES),
+        "selectors": lambda: selectors(draw),
+        "domains": lambda: sorted({pick(draw, DOMAINS), pick(draw, DOMAINS)}),
+        "expiry": lambda: draw.randint(1, 20),
+        "revision": lambda: draw.randint(0, 1),
+        "before": lambda: draw.randint(1, 20),
+        "text": lambda: draw.choice(["{}", "[]"]),
+        "mode": lambda: draw.choice(["restrict", "delete", "dissociate"]),
+        "size": lambda: draw.randint(1, 3),
+        "at": lambda: draw.randint(0, commits + 1),
     }
-    if draw.random() < 0.4:
-        keys["domains"] = sorted({pick(draw, DOMAINS), pick(draw, DOMAINS)})
-    if draw.random() < 0.3:
-        keys["expiry"] = draw.randint(1, 20)
-    return keys
 
 
-def revision(draw):
-    return {"revision": draw.randint(0, 1)} if draw.random() < 0.3 else {}
+def is_there(draw, key):
+    """Draws whether an optional key is there. A bundle is always dropped with a mode."""
+    return key == "mode" or key in CHANCES and draw.random() < CHANCES[key]
 
 
 def operation(draw, commits):
-    """Returns an operation of any kind. `commits` is the number of batches committed so far."""
-    id, agent, domain = pick(draw, IDS), pick(draw, AGENTS), pick(draw, DOMAINS)
-    kind = draw.choice(WRITES + QUERIES)
-    keys = {"op": kind}
-    if kind in ("create", "update", "delete", "show"):
-        keys["id"] = id
-    if kind in ("create", "update"):
-        keys.update(entry(draw))
-    if kind in ("update", "delete"):
-        keys.update(revision(draw))
-    if kind == "prune":
-        keys["before"] = draw.randint(1, 20)
-    if kind in ("set_bundle", "drop_bundle", "show_bundle"):
-        keys["domain"] = domain
-    if kind == "set_bundle":
-        keys["text"] = draw.choice(["{}", "[]"])
-    if kind == "drop_bundle":
-        keys["mode"] = draw.choice(["restrict", "delete", "dissociate"])
-    if kind in ("set_agent", "drop_agent", "show_agent", "authorised", "trust"):
-        keys["agent"] = agent
-    if kind == "set_agent":
-        keys["selectors"] = selectors(draw)
-    if kind == "children":
-        keys["parent"] = pick(draw, PARENTS)
-    if kind == "page":
-        keys["size"] = draw.randint(1, 3)
-        if draw.random() < 0.4:
-            keys["at"] = draw.randint(0, commits + 1)
-    return keys
+    """Returns an operation of any kind."""
+    drawn = values(draw, commits, pick(draw, IDS), pick(draw, AGENTS), pick(draw, DOMAINS))
+    return operations.drawn(draw.choice(NAMES), drawn, lambda key: is_there(draw, key))
 
 
 def entry_with_bundle(draw):
     """Returns two operations: one sets a bundle, the other creates an entry that names it."""
     domain = pick(draw, DOMAINS)
     bundle = {"op": "set_bundle", "domain": domain, "text": "{}"}
-    return [bundle, {"op": "create", "id": pick(draw, IDS), **entry(draw), "domains": [domain]}]
+    create = operations.drawn("create", values(draw, 0, pick(draw, IDS)), lambda key: is_there(draw, key))
+    return [bundle, {**create, "domains": [domain]}]
 
 
 def is_query(operation):
-    return operation["op"] in QUERIES
+    return operations.OPERATIONS[operation["op"]].is_query
 
 
 def batch(draw, commits, earlier):

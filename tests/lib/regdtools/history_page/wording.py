@@ -3,10 +3,14 @@ import collections
 import json
 import re
 
+from regdtools.operations import OPERATIONS
+
 from .reading import Number
 
 UUID = re.compile(r"[0-9a-f]{8}(-[0-9a-f]{4}){3}-[0-9a-f]{12}\Z")
 ID = re.compile(r"spiffe://([^/]+)(/.+)\Z", re.DOTALL)
+# a key in the wording of an operation
+KEY = re.compile(r"\{(\w+)\}")
 MOST_SHOWN = 2000
 
 CODES = {
@@ -41,23 +45,6 @@ KINDS = {
     "waiting": "no reply",
     "missing": "not recorded",
     "other": "other",
-}
-# What follows the name of an operation: text, and keys in braces.
-REQUESTS = {
-    "create": "{id} {identity} under {parent}, {selectors}",
-    "update": "{id} {identity} under {parent}, {selectors}",
-    "delete": "{id}",
-    "show": "{id}",
-    "show_agent": "{agent}",
-    "show_bundle": "{domain}",
-    "children": "{parent}",
-    "authorised": "{agent}",
-    "trust": "{agent}",
-    "prune": "before {before}",
-    "set_agent": "{agent}, {selectors}",
-    "drop_agent": "{agent}",
-    "set_bundle": "{domain}",
-    "drop_bundle": "{domain}, {mode}",
 }
 
 
@@ -143,10 +130,10 @@ def short_text(value, names):
 
 def request_of(op, names):
     """Returns the short text of an operation, without its name."""
-    if op["op"] == "page":
-        filters = [f"{key} {short_text(it, names)}" for key, it in op.items() if key not in ("op", "size", "match")]
-        return " ".join([f"of {short_text(op.get('size'), names)}", *filters])
-    return re.sub(r"\{(\w+)\}", lambda found: key_text(op, found.group(1), names), REQUESTS.get(op["op"], ""))
+    wording = OPERATIONS[op["op"]].wording if op["op"] in OPERATIONS else ""
+    named = KEY.findall(wording)
+    others = "".join(f" {key} {short_text(it, names)}" for key, it in op.items() if key not in ("op", "match", *named))
+    return KEY.sub(lambda found: others if found[1] == "others" else key_text(op, found[1], names), wording)
 
 
 def key_text(op, key, names):

@@ -1,16 +1,15 @@
-"""Draws request lines for long runs, from the table of operations and keys in regdtools.malformed.tables.
+"""Draws request lines for long runs, with the operations, keys and values of regdtools.operations.
 
 Each piece draws its own habits first: how often each operation occurs, how many ids and tokens there are, how many values are wrong. So the
 pieces differ more from one another than the lines of one piece do.
 """
 import collections
 
-from gatewaytools.requests import Lines as Spelling
-from regdtools.malformed import generating, tables
+from regdtools import operations
+from regdtools.malformed import generating
 from regdtools.malformed.parsing import compact
+from gatewaytools.requests import Lines as Spelling
 
-CHANGES = [name for name in tables.OPERATIONS if name not in tables.QUERIES]
-SERVER = tables.SERVER
 WRONG = [value for value in generating.WRONG if not isinstance(value, generating.Raw)]
 TTLS = [0, 60, 2**64 - 1]
 MOST_ENTRIES, MOST_AGENTS, MOST_BUNDLES, MOST_TOKENS = 16_384, 4_096, 1_024, 65_536
@@ -35,7 +34,7 @@ class Habits:
 
     def __init__(self, draw, size):
         ids, agents, identities, domains = {"small": (8, 3, 4, 3), "medium": (300, 20, 40, 12), "large": (40_000, 4_200, 600, 1_040)}[size]
-        self.weights = {name: draw.choice([0, 1, 1, 2, 5]) for name in tables.OPERATIONS}
+        self.weights = {name: draw.choice([0, 1, 1, 2, 5]) for name in operations.OPERATIONS}
         self.weights["create"] += 1
         self.names = [name for name, weight in self.weights.items() for _ in range(weight)]
         self.wrong = draw.choice([0, 0, 0.01, 0.1])
@@ -51,13 +50,13 @@ class Habits:
         self.damage = draw.choice([0, 0, 2, 20])
         self.tokens = draw.choice([30, 1_000, 100_000])
         self.ids = ids
-        agents = [f"{tables.HOME}{tables.AGENTS}n{number}" for number in range(agents)]
-        workloads = [f"{tables.HOME}/w{number}" for number in range(identities)]
-        domains = [f"b{number}.org" for number in range(domains)]
+        agents = [operations.agent(number) for number in range(agents)]
+        workloads = [operations.workload(number) for number in range(identities)]
+        domains = [operations.partner(number) for number in range(domains)]
         small = draw.choice([5, 50, 2**40])
         self.pool = {
             "agent": agents,
-            "parent": [*agents, SERVER, *workloads[: len(workloads) // 2]],
+            "parent": [*agents, operations.SERVER, *workloads[: len(workloads) // 2]],
             "identity": [*workloads, *agents[:2]],
             "domain": domains,
             "x509_svid_ttl": TTLS,
@@ -108,7 +107,7 @@ class Lines:
         else:
             count = draw.randint(1, habits.most_ops) if not self.chance(0.01) else draw.choice([0, 20, 63, 64, 65])
             batch = {"ops": [self.operation(draw.choice(habits.names)) for _ in range(count)]}
-            is_query = all(op.get("op") in tables.QUERIES for op in batch["ops"])
+            is_query = all(op.get("op") in operations.QUERIES for op in batch["ops"])
             if self.chance(habits.with_token * (0.05 if is_query else 1)):
                 batch["token"] = token(draw.randrange(habits.tokens))
                 self.sent.append(batch)
@@ -116,7 +115,7 @@ class Lines:
             batch = {**batch, "after": max(0, self.newest + draw.randint(-3, 3))}
         if self.chance(0.02):
             batch = {**batch, "tries": draw.choice([1, 16])}
-        return self.spoiled(batch, tables.REQUEST) if self.chance(habits.wrong) else batch
+        return self.spoiled(batch, operations.REQUEST) if self.chance(habits.wrong) else batch
 
     def past(self):
         """Returns a commit number near those that a page can read."""
@@ -125,14 +124,14 @@ class Lines:
     def operation(self, name):
         """Returns an operation, with all its required keys and some of the others."""
         op = {"op": name}
-        for key in tables.OPERATIONS[name]:
+        for key in operations.OPERATIONS[name].keys:
             if key.drawn:
                 is_absent = self.chance(self.habits.without_id)
             else:
                 is_absent = key.optional and not self.chance(0.03 if key.name == "at" else self.habits.optional)
-            if not is_absent and op.get(tables.NEEDS.get(key.name, "op")) is not None:
+            if not is_absent and op.get(operations.NEEDS.get(key.name, "op")) is not None:
                 op[key.name] = self.value(key)
-        return self.spoiled(op, tables.OP + tables.OPERATIONS[name]) if self.chance(self.habits.wrong) else op
+        return self.spoiled(op, operations.OP + operations.OPERATIONS[name].keys) if self.chance(self.habits.wrong) else op
 
     def value(self, key):
         """Returns a valid value of a key."""
@@ -162,7 +161,7 @@ class Lines:
         if fault == "missing":
             return {name: value for name, value in members.items() if name != key.name}
         if fault == "unknown":
-            return {**members, draw.choice([*generating.UNKNOWN, *tables.KINDS]): draw.choice(WRONG)}
+            return {**members, draw.choice([*generating.UNKNOWN, *operations.KINDS]): draw.choice(WRONG)}
         bad = [value for value in generating.all_bad(key.kind) if is_usual(value) or self.chance(0.02)]
         return {**members, key.name: draw.choice(bad if bad and fault == "bad" else WRONG)}
 

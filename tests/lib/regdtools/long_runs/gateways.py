@@ -7,10 +7,10 @@ import subprocess
 import tempfile
 import time
 
-from gatewaytools import auditing, cluster, faults, tools
 from regdtools.long_runs import shrinking
-from regdtools.wrong import Wrong
 from regdtools.program import program
+from regdtools.wrong import Wrong
+from gatewaytools import auditing, cluster, faults, tools
 
 # faults with the seconds that each takes under load
 LENGTHS = {"killed_regds": 7, "killed_gateways": 8, "killed_leader": 10, "killed_follower": 5, "lost_majority": 9, "stopped_members": 14,

@@ -5,11 +5,12 @@ import re
 import subprocess
 import threading
 
+from regdtools import operations
 from regdtools.long_runs import drawing, shrinking
-from regdtools.wrong import Wrong
-from regdtools.malformed import parsing, tables
+from regdtools.malformed import parsing
 from regdtools.program import program
 from regdtools.server import Server
+from regdtools.wrong import Wrong
 
 CHUNK = 256
 SECONDS = 300.0
@@ -21,7 +22,7 @@ class Plain:
     """A running `regd plain`."""
 
     def __init__(self):
-        words = [program(), "plain", "--domain", tables.DOMAIN]
+        words = [program(), "plain", "--domain", operations.DOMAIN]
         self.process = subprocess.Popen(words, stdin=subprocess.PIPE, stdout=subprocess.PIPE)
 
     def __enter__(self):

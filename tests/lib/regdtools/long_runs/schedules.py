@@ -4,8 +4,8 @@ import subprocess
 
 from regdtools import schedules
 from regdtools.long_runs import shrinking
-from regdtools.wrong import Wrong
 from regdtools.schedules import Recorded, executable, text
+from regdtools.wrong import Wrong
 
 SECONDS = 120
 # one schedule of this many starts from a book that is full of bundles

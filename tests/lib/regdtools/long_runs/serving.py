@@ -11,10 +11,10 @@ import uuid
 
 from regdtools import one_list
 from regdtools.long_runs import drawing, shrinking
-from regdtools.wrong import Wrong
 from regdtools.malformed import parsing
 from regdtools.mixed_requests import Pool, changes, line_of
 from regdtools.server import Server
+from regdtools.wrong import Wrong
 
 SECONDS = 120.0
 MOST_BYTES = 4_000

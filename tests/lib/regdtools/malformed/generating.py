@@ -1,10 +1,10 @@
-"""Generates malformed lines from the tables: each key of each object gets each value that can be wrong for it."""
+"""Generates malformed lines from regdtools.operations: each key of each object gets each value that can be wrong for it."""
 import dataclasses
 import itertools
 import json
 
-from . import tables
-from .tables import MOST_BYTES, MOST_CALLS, MOST_DEEP, SHOW, SHOWN
+from regdtools import operations
+from regdtools.operations import MOST_BYTES, MOST_CALLS, MOST_DEEP, SHOW, SHOWN
 
 
 class Raw(str):
@@ -98,7 +98,7 @@ def whole_object(valid, keys):
     optional = {key.name for key in keys if key.optional or key.drawn}
     yield None, Object([(key, value) for key, value in valid if key not in optional])
     yield None, Object([(key, None if key in optional else value) for key, value in valid])
-    strange = [(name, tables.KINDS[name].valid) for name in tables.KINDS if name not in dict(valid)]
+    strange = [(name, operations.KINDS[name].valid) for name in operations.KINDS if name not in dict(valid)]
     for further in [*strange, *((name, value) for name in UNKNOWN for value in (1, None))]:
         yield None, Object([further, *valid])
         yield None, Object([*valid, further])
@@ -114,12 +114,12 @@ def objects(name, valid, keys):
 
 def valid_op(name):
     """Returns an operation with all its keys."""
-    return Object([("op", name), *((key.name, key.kind.valid) for key in tables.OPERATIONS[name])])
+    return Object([("op", name), *((key.name, key.kind.valid) for key in operations.OPERATIONS[name].keys)])
 
 
 def with_refused_later(name):
     """Yields the operation with each value that no batch may have."""
-    for key in tables.OPERATIONS[name]:
+    for key in operations.OPERATIONS[name].keys:
         for value in refused_later(key):
             yield replaced(valid_op(name), key.name, value)
 
@@ -127,17 +127,17 @@ def with_refused_later(name):
 def lists_of_ops():
     """Yields lists of operations with one fault: the faulty operation alone, or after a valid one."""
     turn = itertools.cycle([[], [SHOW]])
-    for name, keys in tables.OPERATIONS.items():
-        for about, op in objects(name, valid_op(name), tables.OP + keys):
+    for name, operation in operations.OPERATIONS.items():
+        for about, op in objects(name, valid_op(name), operations.OP + operation.keys):
             yield about, [*next(turn), op]
 
 
 def batches():
     """Yields lists of operations with several faults, and lists with a token."""
-    bad = [next(with_refused_later(name), valid_op(name)) for name in tables.OPERATIONS]
+    bad = [next(with_refused_later(name), valid_op(name)) for name in operations.OPERATIONS]
     for one, other in itertools.product(bad, bad):
         yield [one, other], None
-    for name in tables.OPERATIONS:
+    for name in operations.OPERATIONS:
         op = valid_op(name)
         yield [op, op], None
         yield [op], SHOWN
@@ -156,7 +156,7 @@ def as_batch(ops, token=None):
 class Requests:
     """Lines of `regd plain`."""
 
-    batch_keys = tables.REQUEST
+    batch_keys = operations.REQUEST
     others = {}
 
     def wrap(self, batch):
@@ -172,8 +172,8 @@ class Requests:
 class Events:
     """Lines of `regd schedule`. Each valid invoke has a call number of its own."""
 
-    batch_keys = tables.BATCH
-    others = {word: tables.EVENT for word in tables.KINDS["event"].others} | {"invoke": tables.INVOKE}
+    batch_keys = operations.BATCH
+    others = {word: operations.EVENT for word in operations.KINDS["event"].others} | {"invoke": operations.INVOKE}
 
     def __init__(self):
         self.calls = itertools.count(1_000_000)
@@ -184,7 +184,7 @@ class Events:
     def frames(self):
         # before the first call
         for word, keys in self.others.items():
-            valid = Object([("event", word), ("call", 7)]) if keys is tables.EVENT else self.wrap(as_batch([SHOW]))
+            valid = Object([("event", word), ("call", 7)]) if keys is operations.EVENT else self.wrap(as_batch([SHOW]))
             yield from objects(word, valid, keys)
 
     def more(self):
@@ -203,8 +203,8 @@ class Events:
 class Records:
     """Lines of `regd audit`, each the second line of its input."""
 
-    batch_keys = tables.BATCH
-    others = {"record": tables.RECORD}
+    batch_keys = operations.BATCH
+    others = {"record": operations.RECORD}
     reply = {"call": 2, "place": 0, "replies": [{"entry": None}], "result": "answered"}
     first = {"batch": {"ops": [SHOW]}, "call": 1, "invoked": 5, "replied": 9, "reply": reply | {"call": 1}}
 
@@ -213,7 +213,7 @@ class Records:
         return Object([("batch", batch), *stamps])
 
     def frames(self):
-        yield from objects("record", self.wrap(as_batch([SHOW])), tables.RECORD)
+        yield from objects("record", self.wrap(as_batch([SHOW])), operations.RECORD)
 
     def more(self):
         """Yields false records, with each combination of causes."""

@@ -1,9 +1,9 @@
-"""Which refusal does a line get, if any? The first one in the order of docs/LINES.md, computed from the tables alone."""
+"""Which refusal does a line get, if any? The first one in the order of docs/LINES.md, computed from regdtools.operations alone."""
 import json
 import math
 
-from . import tables
-from .tables import MOST_BYTES, MOST_DEEP, MOST_OPS, MOST_WHOLE
+from regdtools import operations
+from regdtools.operations import MOST_BYTES, MOST_DEEP, MOST_OPS, MOST_WHOLE
 
 
 class Refused(Exception):
@@ -106,7 +106,7 @@ def read_keys(given, keys, op=None, ids_drawn=True):
         if absent and (key.optional or key.drawn and ids_drawn):
             continue
         code = "L5" if key.name not in given else key.kind.grammar(given[key.name])
-        needed = tables.NEEDS.get(key.name)
+        needed = operations.NEEDS.get(key.name)
         if not code and needed and given.get(needed) is None:
             code = "L5"
         if code:
@@ -125,15 +125,15 @@ def read_ops(batch, ids_drawn):
     for index, op in enumerate(batch["ops"]):
         if not isinstance(op, dict):
             raise Refused("L5", "ops", index)
-        read_keys(op, tables.OP, index)
-        keys = tables.OPERATIONS[op["op"]]
+        read_keys(op, operations.OP, index)
+        keys = operations.OPERATIONS[op["op"]].keys
         read_keys(op, keys, index, ids_drawn and batch.get("token") is None)
-        no_others(op, tables.OP + keys, index)
+        no_others(op, operations.OP + keys, index)
 
 
 def op_codes(op):
     """Returns the codes of the values of an operation that no batch may have."""
-    values = [(key, op.get(key.name)) for key in tables.OPERATIONS[op["op"]]]
+    values = [(key, op.get(key.name)) for key in operations.OPERATIONS[op["op"]].keys]
     return [code for key, value in values if value is not None for code in key.kind.batch_codes(value)]
 
 
@@ -150,15 +150,15 @@ def read_batch(batch):
     for index, op in enumerate(ops):
         if len(ops) > 1 and op["op"] == "page" and op.get("at") is not None:
             raise Refused("B13", op=index)
-    if batch.get("token") is not None and all(op["op"] in tables.QUERIES for op in ops):
+    if batch.get("token") is not None and all(op["op"] in operations.QUERIES for op in ops):
         raise Refused("B14")
 
 
 def read_request(line):
     """Returns the object of a request line."""
     request = object_of(line)
-    read_keys(request, tables.REQUEST)
-    no_others(request, tables.REQUEST)
+    read_keys(request, operations.REQUEST)
+    no_others(request, operations.REQUEST)
     read_ops(request, True)
     read_batch(request)
     return request
@@ -166,8 +166,8 @@ def read_request(line):
 
 def read_within(batch, ids_drawn):
     """Checks the batch of an event or a record whose own keys are valid."""
-    read_keys(batch, tables.BATCH)
-    no_others(batch, tables.BATCH)
+    read_keys(batch, operations.BATCH)
+    no_others(batch, operations.BATCH)
     read_ops(batch, ids_drawn)
     read_batch(batch)
 
@@ -175,8 +175,8 @@ def read_within(batch, ids_drawn):
 def read_event(line):
     """Returns the object of an event line."""
     event = object_of(line)
-    read_keys(event, tables.EVENT)
-    keys = tables.INVOKE if event["event"] == "invoke" else tables.EVENT
+    read_keys(event, operations.EVENT)
+    keys = operations.INVOKE if event["event"] == "invoke" else operations.EVENT
     read_keys(event, keys)
     no_others(event, keys)
     if "batch" in event:
@@ -187,7 +187,7 @@ def read_event(line):
 def read_record(line):
     """Returns the object of a record."""
     record = object_of(line)
-    read_keys(record, tables.RECORD)
-    no_others(record, tables.RECORD)
+    read_keys(record, operations.RECORD)
+    no_others(record, operations.RECORD)
     read_within(record["batch"], False)
     return record

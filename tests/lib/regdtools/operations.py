@@ -1,6 +1,14 @@
-"""What may a line contain? Each operation and each frame with its keys in order, and each kind of value with its rules.
+"""The operations, for everything in Python that reads, draws or shows them: `OPERATIONS` has each with its keys in order, whether it is a
+query or a change, and the words of the history page. `KINDS` has the values of a key: the grammar that accepts them, valid and invalid ones,
+and the rule of a batch. The frames around operations are at the end.
 
-To test a new key, add it to `OPERATIONS`. If its values are of a new kind, add the kind to `KINDS`.
+A new operation is a line in `OPERATIONS`, with a kind in `KINDS` for each new key. From these follow the malformed lines
+(regdtools.malformed), random schedules (regdtools.schedules), mixed requests for servers (regdtools.mixed_requests), long runs
+(regdtools.long_runs.drawing), the random lines for a gateway (gatewaytools.requests), and the history page. A generator lists how often it
+draws an operation and which values of a key, where it has reasons for that; an operation that it doesn't list is drawn as often as the
+rarest ones, and a key that it doesn't list gets the valid value of its kind, or is left out if it is optional.
+
+The rules of the gateway (gatewaytools.rules) have names and defaults of their own, so that a mistake here shows there.
 """
 import dataclasses
 import re
@@ -293,26 +301,46 @@ def keys(text):
     return found
 
 
-OPERATIONS = {
-    "create": "id~ parent identity=workload selectors hint? domains? expiry? x509_svid_ttl? jwt_svid_ttl?",
-    "update": "id parent identity=workload selectors hint? domains? expiry? x509_svid_ttl? jwt_svid_ttl? revision?",
-    "delete": "id revision?",
-    "show": "id",
-    "show_agent": "agent",
-    "show_bundle": "domain",
-    "children": "parent",
-    "page": "size at? from? parent? identity? domain? selectors? match?",
-    "authorised": "agent",
-    "trust": "agent",
-    "prune": "before",
-    "set_agent": "agent selectors=proofs",
-    "drop_agent": "agent",
-    "set_bundle": "domain=partner text",
-    "drop_bundle": "domain=partner mode?",
-}
-OPERATIONS = {name: keys(text) for name, text in OPERATIONS.items()}
+@dataclasses.dataclass
+class Operation:
+    """An operation: its name, its keys, whether it only reads, and what the history page says of it after its name, with keys in braces."""
+
+    name: str
+    keys: list
+    is_query: bool
+    wording: str
+
+
+def query(name, keys_text, wording):
+    return Operation(name, keys(keys_text), True, wording)
+
+
+def change(name, keys_text, wording):
+    return Operation(name, keys(keys_text), False, wording)
+
+
+ENTRY = "parent identity=workload selectors hint? domains? expiry? x509_svid_ttl? jwt_svid_ttl?"
+# {others} is replaced by each further key with its value
+OPERATIONS = {operation.name: operation for operation in (
+    change("create", f"id~ {ENTRY}", "{id} {identity} under {parent}, {selectors}"),
+    change("update", f"id {ENTRY} revision?", "{id} {identity} under {parent}, {selectors}"),
+    change("delete", "id revision?", "{id}"),
+    query("show", "id", "{id}"),
+    query("show_agent", "agent", "{agent}"),
+    query("show_bundle", "domain", "{domain}"),
+    query("children", "parent", "{parent}"),
+    query("page", "size at? from? parent? identity? domain? selectors? match?", "of {size}{others}"),
+    query("authorised", "agent", "{agent}"),
+    query("trust", "agent", "{agent}"),
+    change("prune", "before", "before {before}"),
+    change("set_agent", "agent selectors=proofs", "{agent}, {selectors}"),
+    change("drop_agent", "agent", "{agent}"),
+    change("set_bundle", "domain=partner text", "{domain}"),
+    change("drop_bundle", "domain=partner mode?", "{domain}, {mode}"),
+)}
 KINDS["op"] = words(*OPERATIONS)
-QUERIES = "show show_agent show_bundle children page authorised trust".split()
+QUERIES = [name for name, operation in OPERATIONS.items() if operation.is_query]
+CHANGES = [name for name in OPERATIONS if name not in QUERIES]
 # a key that is refused if another one is missing
 NEEDS = {"match": "selectors"}
 
@@ -322,3 +350,35 @@ BATCH = keys("ops after? token?")
 EVENT = keys("event call")
 INVOKE = keys("event call batch")
 RECORD = keys("batch call invoked replied reply")
+
+
+# ---- drawing valid operations
+
+
+def agent(number):
+    return f"{HOME}{AGENTS}n{number}"
+
+
+def workload(number):
+    return f"{HOME}/w{number}"
+
+
+def partner(number):
+    return f"b{number}.org"
+
+
+def weighted(weights, names):
+    """Returns these weights of names, in their order, and then 1 for each name that they don't list."""
+    return weights | {name: 1 for name in names if name not in weights}
+
+
+def drawn(name, values, is_there):
+    """Returns an operation with all its required keys, and those optional ones for which `is_there(key)` is true.
+
+    `values` has for each key a function that returns a value. The keys are drawn and stored in its order.
+    """
+    op, keys_of_op = {"op": name}, {key.name: key for key in OPERATIONS[name].keys}
+    for key in [*filter(keys_of_op.get, values), *(key for key in keys_of_op if key not in values and not keys_of_op[key].optional)]:
+        if not keys_of_op[key].optional or is_there(key):
+            op[key] = values[key]() if key in values else keys_of_op[key].kind.valid
+    return op
