@@ -3,7 +3,7 @@ import functools
 import json
 
 from regdtools import operations
-from gatewaytools import rules
+from regdtools.spelling import WRONG, Spelling
 
 AGENTS = [operations.agent(n) for n in range(4)]
 PARENTS = [*AGENTS, operations.SERVER, f"{operations.HOME}/node/a", operations.workload(1)]
@@ -12,21 +12,20 @@ DOMAINS = ["b.org", "c.org", "d.org"]
 SELECTORS = ["u:1", "u:2", "x:1", "unix:uid:1000"]
 IDS = [f"00000000-0000-4000-8000-00000000000{n:x}" for n in range(12)]
 # how often each operation is drawn
-WEIGHTS = operations.weighted({"create": 2, "update": 1, "delete": 1, "set_agent": 2, "drop_agent": 1, "set_bundle": 1, "drop_bundle": 1, "prune": 1},
-                              operations.OPERATIONS)
+WEIGHTS = operations.weighted({"create": 2, "update": 1, "delete": 1, "set_agent": 2, "drop_agent": 1, "set_bundle": 1, "drop_bundle": 1,
+                               "prune": 1}, operations.OPERATIONS)
 NAMES = [name for name, weight in WEIGHTS.items() for _ in range(weight)]
 # how often an optional key is there; one that isn't listed never is
 CHANCES = {"hint": 0.2, "domains": 0.2, "expiry": 0.2, "x509_svid_ttl": 0.2, "jwt_svid_ttl": 0.2, "revision": 0.3, "mode": 0.6}
 CHANCES_OF_PAGE = {"from": 0.15, "parent": 0.15, "identity": 0.15, "domain": 0.15, "at": 0.15, "selectors": 0.15}
-WRONG = [None, 7, -1, 1.5, "", "x", [], {}, True, 1 << 64, "spiffe://other.org/x", ["u"], "\u00e9", "a" * 600]
 
 
-class Lines:
+class Lines(Spelling):
     """Random lines, each from the random numbers of `random`."""
 
     def __init__(self, random, damage):
-        self.random, self.damage = random, damage
-        self.tokens = [f"00000000-0000-4000-9000-{n:012x}" for n in range(40)]
+        super().__init__(random)
+        self.damage = damage
         self.sent = []  # lines with a token
 
     def line(self):
@@ -70,8 +69,9 @@ class Lines:
         """Returns for each key of an operation a function that draws its value."""
         random = self.random
         count = {"set_agent": lambda: random.randrange(3), "page": lambda: 1}.get(name, lambda: random.choice([1, 1, 2]))
-        values = {"id": IDS, "agent": AGENTS, "size": [1, 2, 500], "from": IDS, "parent": PARENTS, "identity": IDENTITIES, "domain": DOMAINS,
-                  "at": range(400), "selectors": [], "hint": ["", "h", "\u00e9\"\\"], "domains": [[], ["b.org"], ["c.org", "b.org"]],
+        values = {"id": IDS, "agent": AGENTS, "size": [1, 2, 500], "from": IDS, "parent": PARENTS, "identity": IDENTITIES,
+                  "domain": DOMAINS, "at": range(400), "selectors": [],
+                  "hint": ["", "h", "\u00e9\"\\"], "domains": [[], ["b.org"], ["c.org", "b.org"]],
                   "expiry": [0, 5, 1 << 40], "x509_svid_ttl": [0, 60], "jwt_svid_ttl": [0, 60], "revision": range(3),
                   "text": ["", "{}", "create", "line\n\u2028\t", "x" * 300], "mode": ["restrict", "delete", "dissociate", None],
                   "match": ["exact", "any", "superset", "subset", None], "before": [0, 6, 1 << 41]}
@@ -90,62 +90,3 @@ class Lines:
         if name == "create" and not isinstance(op.get("id"), str):
             op["id"] = IDS[0]  # regd plain would draw another id than the gateway
         return op
-
-    def spell(self, batch):
-        """Returns a text of the batch: keys in any order, with spaces, escapes, repeated keys and other forms of UUIDs."""
-        random = self.random
-
-        def member(key, value):
-            return text(key) + random.choice([":", ":", ": ", " :\t"]) + spelled(value, key)
-
-        def text(value):
-            made = json.dumps(value, ensure_ascii=random.random() < 0.5)
-            if len(made) > 2 and random.random() < 0.02:
-                at = random.randrange(1, len(made) - 1)
-                if made[at].isalnum() and "\\" not in made:
-                    made = made[:at] + f"\\u{ord(made[at]):04x}" + made[at + 1 :]
-            return made
-
-        def spelled(value, key=""):
-            if isinstance(value, dict):
-                pairs = list(value.items())
-                if random.random() < 0.3:
-                    random.shuffle(pairs)
-                members = [member(key, inner) for key, inner in pairs]
-                if pairs and random.random() < 0.02:
-                    key = random.choice(pairs)[0]
-                    members.insert(0, member(key, random.choice(WRONG)))
-                return "{" + random.choice([",", ",", " , "]).join(members) + random.choice(["", "", " "]) + "}"
-            if isinstance(value, list):
-                return "[" + ",".join(spelled(inner) for inner in value) + "]"
-            if isinstance(value, str):
-                if key in ("id", "from", "token") and len(value) == 36 and random.random() < 0.1:
-                    value = random.choice([value.upper(), value.replace("-", ""), "{%s}" % value, f"urn:uuid:{value}", f"URN:UUID:{value}"])
-                return text(value)
-            return json.dumps(value)
-
-        return random.choice(["", "", "", " "]).encode() + spelled(batch).encode("utf-8", "surrogatepass") + random.choice([b"", b"", b"", b" ", b"\r"])
-
-    def damaged(self, text):
-        """Returns the text with bytes changed, dropped or added."""
-        random, made = self.random, bytearray(text)
-        for _ in range(random.choice([1, 1, 2, 5])):
-            at = random.randrange(len(made) + 1)
-            kind = random.randrange(5)
-            if kind == 0 and at < len(made):
-                made[at] = random.choice(b'\\"{}[],:0 xu\x00\xff\xc3e-.')
-            elif kind == 1 and at < len(made):
-                del made[at]
-            elif kind == 2:
-                made[at:at] = random.choice([b"\\", b'"', b"}", b"{", b",", b"1e400", b"\\ud800", b"[" * 130, b"null", b'"op":"prune"', b"\xef\xbb\xbf"])
-            elif kind == 3:
-                del made[at:]
-            else:
-                made[at:at] = made[random.randrange(len(made) + 1) :][:20]
-        return bytes(made).replace(b"\n", b" ")
-
-    def long_line(self):
-        """Returns a line about as long as a line may be."""
-        made = self.spell({"ops": [{"op": "prune", "before": 0}], **({"token": self.random.choice(self.tokens)} if self.random.random() < 0.5 else {})})
-        size = rules.MOST_BYTES + self.random.choice([-70, -65, -64, -63, -40, 0, 1, 100])
-        return made + b" " * (size - len(made))

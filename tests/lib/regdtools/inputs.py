@@ -24,7 +24,7 @@ def modules(folders, names):
 
 
 def read_by(file, *libraries):
-    """Yields what a file in Python reads itself: the modules of these folders that it imports, and the files whose paths are texts in it."""
+    """Yields what a file in Python reads: the modules of these folders that it imports, and the files whose paths are texts in it."""
     for node in ast.walk(ast.parse(file.read_text())):
         if isinstance(node, ast.Import):
             yield from modules(libraries, [alias.name for alias in node.names])

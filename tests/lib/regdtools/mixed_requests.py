@@ -19,8 +19,8 @@ REVISED = "update with revision"
 # how often each operation is drawn
 QUERIES = operations.weighted({"show": 50, "authorised": 20, "children": 10, "show_agent": 8, "show_bundle": 6, "trust": 4, "page": 2},
                               operations.QUERIES)
-CHANGES = operations.weighted({"update": 30, REVISED: 4, "create": 25, "delete": 6, "set_agent": 15, "set_bundle": 15, "drop_bundle": 2, "prune": 2,
-                               "drop_agent": 1}, operations.CHANGES)
+CHANGES = operations.weighted({"update": 30, REVISED: 4, "create": 25, "delete": 6, "set_agent": 15, "set_bundle": 15, "drop_bundle": 2,
+                               "prune": 2, "drop_agent": 1}, operations.CHANGES)
 # how often an optional key is there; one that isn't listed never is
 CHANCES = {"domains": 0.2, "expiry": 0.1, "hint": 0.3}
 

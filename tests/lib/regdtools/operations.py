@@ -1,6 +1,6 @@
 """The operations, for everything in Python that reads, draws or shows them: `OPERATIONS` has each with its keys in order, whether it is a
-query or a change, and the words of the history page. `KINDS` has the values of a key: the grammar that accepts them, valid and invalid ones,
-and the rule of a batch. The frames around operations are at the end.
+query or a change, and the words of the history page. `KINDS` has the values of a key: the grammar that accepts them, valid and invalid
+ones, and the rule of a batch. The frames around operations follow.
 
 A new operation is a line in `OPERATIONS`, with a kind in `KINDS` for each new key. From these follow the malformed lines
 (regdtools.malformed), random schedules (regdtools.schedules), mixed requests for servers (regdtools.mixed_requests), long runs

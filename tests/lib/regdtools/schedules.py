@@ -24,8 +24,9 @@ DOMAINS = [operations.partner(n) for n in range(10)]
 TOKENS = [f"10000000-0000-0000-0000-{n:012d}" for n in range(3)]
 SELECTORS = ["u:1", "u:2", "g:1"]
 # how often each operation is drawn
-WEIGHTS = operations.weighted({"create": 4, "update": 2, "delete": 1, "prune": 1, "set_bundle": 3, "drop_bundle": 1, "set_agent": 2, "drop_agent": 1,
-                               "show": 1, "show_agent": 1, "show_bundle": 1, "children": 1, "page": 2}, operations.OPERATIONS)
+WEIGHTS = operations.weighted({"create": 4, "update": 2, "delete": 1, "prune": 1, "set_bundle": 3, "drop_bundle": 1, "set_agent": 2,
+                               "drop_agent": 1, "show": 1, "show_agent": 1, "show_bundle": 1, "children": 1, "page": 2},
+                              operations.OPERATIONS)
 NAMES = [name for name, weight in WEIGHTS.items() for _ in range(weight)]
 # how often an optional key is there; one that isn't listed never is
 CHANCES = {"domains": 0.4, "expiry": 0.3, "revision": 0.3, "at": 0.4}

@@ -8,7 +8,7 @@ import collections
 from regdtools import operations
 from regdtools.malformed import generating
 from regdtools.malformed.parsing import compact
-from gatewaytools.requests import Lines as Spelling
+from regdtools.spelling import Spelling
 
 WRONG = [value for value in generating.WRONG if not isinstance(value, generating.Raw)]
 TTLS = [0, 60, 2**64 - 1]
@@ -78,7 +78,7 @@ class Lines:
 
     def __init__(self, draw, size):
         self.draw, self.habits = draw, Habits(draw, size)
-        self.spelling = Spelling(draw, 0)
+        self.spelling = Spelling(draw)
         self.sent = collections.deque(maxlen=200)
         self.newest, self.found = 0, collections.deque(maxlen=50)
 
