@@ -1,7 +1,5 @@
-"""Removes one feature of the gateway after another in a copy of its sources. A unit test has to fail each time.
-
-FEATURES lists them: the feature, its file, the text that makes it, the text in its place, and the test that notices. Some take away a bound, a
-retry, a refusal or a check; others take a wrong value, or the wrong order.
+"""Tries the mutants of the gateway in copies of its sources: most take away a bound, a retry, a refusal or a check, others take a wrong
+value or the wrong order. A unit test has to fail with each. regdtools.mutants says how they are written.
 """
 import concurrent.futures
 import contextlib
@@ -13,6 +11,7 @@ import shutil
 import signal
 import subprocess
 
+from regdtools import mutants
 from gatewaytools import tools
 
 SERVER, REPLICA, LOG, CLIENT, WIRE, SNAPSHOT = (f"internal/{name}" for name in (
@@ -717,45 +716,52 @@ FEATURES = [
 ]
 
 
-def changed(folder, feature):
-    """Removes a feature in a folder of sources. Returns what undoes it, or raises ValueError if the text is not there once."""
-    what, name, old, new, _ = feature
-    path = pathlib.Path(folder) / name
-    text = path.read_text()
-    if text.count(old) != 1:
-        raise ValueError(f"{what}: {name} has the text {text.count(old)} times")
-    path.write_text(text.replace(old, new))
-    return lambda: path.write_text(text)
+def all_mutants():
+    """Returns the mutants of the gateway."""
+    return [mutants.mutant_of(mutants.GATEWAY, written) for written in mutants.mutants_of(mutants.GATEWAY)]
 
 
-def run(regd, folder, jobs=2):
-    """Tries all features in copies of the sources. Yields each with the tests that notice its removal, or with what went wrong."""
+def run(regd, folder, some, jobs=2):
+    """Tries mutants in copies of the sources. Yields each with the tests that fail, or with what went wrong."""
     copies = queue.SimpleQueue()
     for number in range(jobs):
         copy = pathlib.Path(folder) / str(number)
         shutil.copytree(tools.SOURCES, copy)
         copies.put(copy)
 
-    def tried(feature):
+    def tried(mutant):
         copy = copies.get()
         try:
-            return feature, noticed(copy, feature, {"REGD": regd}), None
+            return mutant, [] if mutant.fault else noticed(copy, mutant, {"REGD": regd}), mutant.fault
         except ValueError as error:
-            return feature, [], str(error)
+            return mutant, [], str(error)
         finally:
             copies.put(copy)
 
     with concurrent.futures.ThreadPoolExecutor(jobs) as pool:
-        yield from pool.map(tried, FEATURES)
+        yield from pool.map(tried, some)
 
 
-def noticed(folder, feature, env):
-    """Removes a feature in a folder of sources. Returns the tests that fail then."""
-    package = next(file.parent for file in sorted(folder.rglob("*_test.go")) if f"func {feature[4]}(" in file.read_text())
-    undo = changed(folder, feature)
-    words = ["test", "-count=1", "-vet=off", "-ldflags=-s -w", "-timeout", "70s", "-run", f"^{feature[4]}$", f"./{package.relative_to(folder)}"]
-    with tools.started_go(*words, cwd=folder, env=env, stdout=subprocess.PIPE, stderr=subprocess.STDOUT, text=True, errors="replace",
-                          start_new_session=True) as process:
+@contextlib.contextmanager
+def changed(folder, mutant):
+    """Has a mutant in a folder of sources for a time."""
+    originals = {path: (folder / path).read_text() for path in mutant.texts}
+    try:
+        for path, text in mutant.texts.items():
+            (folder / path).write_text(text)
+        yield
+    finally:
+        for path, text in originals.items():
+            (folder / path).write_text(text)
+
+
+def noticed(folder, mutant, env):
+    """Runs the test of a mutant with it in a folder of sources. Returns the tests that fail then."""
+    [test] = mutant.test
+    package = next(file.parent for file in sorted(folder.rglob("*_test.go")) if f"func {test}(" in file.read_text())
+    words = ["test", "-count=1", "-vet=off", "-ldflags=-s -w", "-timeout", "70s", "-run", f"^{test}$", f"./{package.relative_to(folder)}"]
+    with changed(folder, mutant), tools.started_go(*words, cwd=folder, env=env, stdout=subprocess.PIPE, stderr=subprocess.STDOUT, text=True,
+                                                   errors="replace", start_new_session=True) as process:
         try:
             printed, _ = process.communicate(timeout=150)
         except subprocess.TimeoutExpired:  # the command waits for a regd which a test that ran out of time has left behind
@@ -763,8 +769,7 @@ def noticed(folder, feature, env):
         finally:
             with contextlib.suppress(ProcessLookupError):
                 os.killpg(process.pid, signal.SIGKILL)
-            undo()
     if "[build failed]" in printed or "[setup failed]" in printed:
-        raise ValueError(f"{feature[0]}: it does not compile: {printed[-500:]}")
+        raise ValueError(f"it does not compile: {printed[-500:]}")
     failed = re.findall(r"--- FAIL: (\w+)", printed) or re.findall(r"panic: (.{1,60})", printed)
     return failed if process.wait() else []

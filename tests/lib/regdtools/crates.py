@@ -1,8 +1,8 @@
-"""The crates of the repository and their mutants."""
+"""The crates of the repository."""
 
 import hashlib
 
-from regdtools.program import CRATES, ROOT, sources_of
+from regdtools.program import ROOT, sources_of
 
 
 def listed(root=ROOT):
@@ -18,12 +18,6 @@ def below(crates, root=ROOT):
         if crate in found:
             found.update(libraries[crate])
     return [crate for crate in libraries if any(crate in libraries[other] for other in found if other in libraries)]
-
-
-def mutants_of(crate, word=""):
-    """Returns the files of the crate's mutants whose names contain the word: those of must-fail/, then those of edits/."""
-    folders = [CRATES / crate / part for part in ("must-fail", "edits")]
-    return [file for folder in folders for file in sorted(folder.glob("*.edit")) if word in file.stem]
 
 
 def checksum(names, toolchain, root=ROOT):
