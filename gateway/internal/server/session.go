@@ -330,7 +330,7 @@ func (s *session) waitForHead(ctx context.Context) bool {
 	defer w.noteEnd()
 	_, before := s.board.read()
 	head, err := s.freshHead(late)
-	if errors.Is(late.Err(), context.DeadlineExceeded) {
+	if errors.Is(err, context.DeadlineExceeded) {
 		w.reason = isOver
 	}
 	isSameLog := err == nil && head >= before.Entry && !s.isLogLost.Load() // less after a restore

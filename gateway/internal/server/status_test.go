@@ -157,6 +157,17 @@ func TestLag(t *testing.T) {
 	}
 }
 
+// TestOutdatedFresh checks that fresh queries are answered also while those of the usual port are refused: they ask etcd
+// themselves.
+func TestOutdatedFresh(t *testing.T) {
+	t.Parallel()
+	s := newSite(t)
+	s.limits.Silent = time.Nanosecond
+	_, usual, fresh := s.gateway("a")
+	s.expect("a query", s.call(usual, show), refusal(wire.Outdated, 1))
+	s.expect("a fresh query", s.call(fresh, show), answered(1, 0))
+}
+
 // TestOutdatedReplay checks that a query waits while there is no replica, however much of the log isn't executed.
 func TestOutdatedReplay(t *testing.T) {
 	s := newSite(t)

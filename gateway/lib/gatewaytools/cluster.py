@@ -204,7 +204,7 @@ class Gateway:
             return {"ready": False, "entry": 0}
 
     def kill_regd(self):
-        os.kill(wait_for(lambda: self.status().get("regd"), 20, "a replica"), signal.SIGKILL)
+        os.kill(wait_for(lambda: self.status().get("regd"), 60, "a replica"), signal.SIGKILL)
 
     def call(self, *lines, fresh=False, seconds=60):
         """Sends lines on a new connection and returns the answers."""
