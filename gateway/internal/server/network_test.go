@@ -11,8 +11,8 @@ import (
 	"regd/gateway/internal/etcd"
 )
 
-// A network is a way to a store over which bytes may be held, in one direction or both, or arrive late. Nothing of it is an error: a side that waits
-// can't tell it from a store that is slow.
+// A network is a way to a store over which bytes may be held, in one direction or both, or arrive late. Nothing of it
+// is an error: a side that waits can't distinguish it from a slow store.
 type network struct {
 	mu       sync.Mutex
 	changed  chan struct{} // closed and replaced when the network changes
