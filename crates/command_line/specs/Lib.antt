@@ -3,3 +3,4 @@ pub mod CommandLinePrivate
 pub mod CommandLine
 pub mod Conversions
 pub mod Laws
+pub mod Versions

@@ -15,6 +15,9 @@ pub enum LineFault {
     /// The command-line parser refuses the words, or they ask for help. The text is the parser's.
     #[error(transparent)]
     Refused(clap::Error),
+    /// The words ask for the version by `--version` or `-V`.
+    #[error("version")]
+    Version,
     /// The value of `--domain` is not a trust domain, for this reason.
     #[error("domain {}", .0.code())]
     Domain(IdRefusal),
@@ -27,6 +30,9 @@ pub enum LineFault {
     /// A number is out of its range. The command-line parser refuses it first.
     #[error("number")]
     Number,
+    /// The word after `explain` isn't a code that `regd` prints.
+    #[error("explain: no code has this name")]
+    Code,
     /// A word isn't UTF-8.
     #[error("a word isn't UTF-8")]
     NotText,
@@ -49,6 +55,7 @@ impl From<clap::Error> for LineFault {
     fn from(error: clap::Error) -> LineFault {
         match error.kind() {
             ErrorKind::OutOfMemory => LineFault::NoMemory,
+            ErrorKind::DisplayVersion => LineFault::Version,
             _ => LineFault::Refused(error),
         }
     }

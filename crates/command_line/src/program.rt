@@ -13,11 +13,17 @@ pub enum Program {
     Audit,
     /// Serves connections with a shared registry.
     Serve,
+    /// Prints what a code means: `explain`.
+    Explain,
+    /// Prints the version: `version`.
+    Version,
+    /// Prints the help: `help`.
+    Help,
 }
 
 impl Program {
     ghost use Rattle.std.specs.Prelude.{◌≡◌};
-    ghost use Rattle.command_line.specs.CommandLine.{program_name};
+    ghost use Rattle.command_line.specs.CommandLine.{has_book, program_name};
 
     /// Returns the word for it on a command line. `Record` has that of `Schedule`.
     pub fn name(self) -> &'static str
@@ -28,6 +34,23 @@ impl Program {
             Program::Schedule | Program::Record => "schedule",
             Program::Audit => "audit",
             Program::Serve => "serve",
+            Program::Explain => "explain",
+            Program::Version => "version",
+            Program::Help => "help",
+        }
+    }
+
+    /// Returns true if it has a book, and so requires a trust domain.
+    pub fn has_book(self) -> bool
+        ensures { result ≡ has_book self }
+    {
+        match self {
+            Program::Plain
+            | Program::Schedule
+            | Program::Record
+            | Program::Audit
+            | Program::Serve => true,
+            Program::Explain | Program::Version | Program::Help => false,
         }
     }
 }

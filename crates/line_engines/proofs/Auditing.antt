@@ -17,7 +17,7 @@ use Rattle.call_audit.specs.Verdicts.{verdict_by, verdict_of_lines, verdict_from
 use Rattle.line_engines.specs.Answers.{as_line}
 use Rattle.line_engines.specs.Audited.{AnswersRecord, Audited, ClosesWithVerdict, HasNoFault, LeavesBehind, RunsAudit, WritesVerdict, denied, is_audit_over, run_end_by, past, audit_start, taken, audit_verdict_in, audit_verdict_over, lacks_memory_now}
 use Rattle.line_engines.specs.AuditedPrivate.{AuditKept, AuditsLine, AuditRepresents, run_end_of}
-use Rattle.line_engines.specs.Driver.{AnswersKept, AppendsClosed, ClosesAs, AnswersBeforeEnd, LeavesLines, RunsOver, StepsUntilEnd, TakesSoFar, TakesUntilEnd}
+use Rattle.line_engines.specs.Driver.{AfterSomeLines, AnswersKept, AppendsClosed, ClosesAs, AnswersBeforeEnd, LeavesLines, RunsOver, StepsUntilEnd, TakesSoFar, TakesUntilEnd}
 use Rattle.line_engines.specs.declared.audit_engine.Over.{Over}
 use Rattle.line_engines.specs.declared.audit_engine.Over.TheVariants.{Denied, NoMemory}
 use Rattle.line_engines.specs.declared.fault.RunFault.{RunFault}
@@ -49,30 +49,30 @@ of_kept domain now line next reply is (past over e n p) = past over e n p
 answers_kept : (domain : List ℕ) (now : Audited) (bytes : List ℕ) (next : Audited) (reply : List ℕ) → AnswersRecord domain now bytes next reply → (line : List ℕ) → IsLine line → bytes ≡ stored_part line → AnswersRecord domain now line next reply
 answers_kept domain now bytes next reply a line is k = of_kept domain now line next reply is (subst (λ x. AnswersRecord domain now x next reply) k a)
 
-audited_by : (domain : List ℕ) (after : AuditKept) (now : Audited) (bytes : List ℕ) (out : OutputState) (over : Option Over) → now.over ≡ None → after.over ≡ over → AuditsLine domain now.records bytes after.auditor over → AnswersKept (AnswersRecord domain) is_audit_over (AuditRepresents after) now bytes out out (is_none over)
-audited_by domain after now bytes out None e is a =
+audited_by : (domain : List ℕ) (after : AuditKept) (number : ℕ) (now : Audited) (bytes : List ℕ) (out : OutputState) (over : Option Over) → now.over ≡ None → number ≡ length now.records + 1 → after.over ≡ over → AuditsLine domain now.records bytes after.auditor over → AnswersKept (AnswersRecord domain) is_audit_over (AuditRepresents after number) now bytes out out (is_none over)
+audited_by domain after number now bytes out None e n is a =
     let next : Audited = record { records = now.records ++ a.0 ∷ []; over = None } in
-    (next, [], answers_kept domain now bytes next [] (taken e a.0 a.1 refl refl), Puts-nil out, record { over = sym is; preserves = λ h. a.2 }, refl)
-audited_by domain after now bytes out (Some (Denied number cause)) e is a =
+    (next, [], answers_kept domain now bytes next [] (taken e a.0 a.1 refl refl), Puts-nil out, record { over = sym is; preserves = λ h. a.2; counted = λ h. length-append now.records (a.0 ∷ []) ∙ sym n }, refl)
+audited_by domain after number now bytes out (Some (Denied line cause)) e n is a =
     let next : Audited = record { records = now.records; over = Some (Denied (length now.records + 1) cause) } in
     let same : Some (Denied (length now.records + 1) cause) ≡ after.over = ap (λ n. Some (Denied n cause)) (sym a.0) ∙ sym is in
-    (next, [], answers_kept domain now bytes next [] (denied e cause a.1 refl refl), Puts-nil out, record { over = same; preserves = λ h. absurd (none_some (sym h ∙ is)) }, refl)
-audited_by domain after now bytes out (Some NoMemory) e is a =
+    (next, [], answers_kept domain now bytes next [] (denied e cause a.1 refl refl), Puts-nil out, record { over = same; preserves = λ h. absurd (none_some (sym h ∙ is)); counted = λ h. absurd (none_some (sym h ∙ is)) }, refl)
+audited_by domain after number now bytes out (Some NoMemory) e n is a =
     let next : Audited = record { records = now.records; over = Some NoMemory } in
-    (next, [], answers_kept domain now bytes next [] (lacks_memory_now e refl refl), Puts-nil out, record { over = sym is; preserves = λ h. absurd (none_some (sym h ∙ is)) }, refl)
+    (next, [], answers_kept domain now bytes next [] (lacks_memory_now e refl refl), Puts-nil out, record { over = sym is; preserves = λ h. absurd (none_some (sym h ∙ is)); counted = λ h. absurd (none_some (sym h ∙ is)) }, refl)
 
 -- a line was audited
-pub audited : (domain : List ℕ) (before after : AuditKept) (now : Audited) (bytes : List ℕ) (out : OutputState) → AuditRepresents before now → before.over ≡ None → AuditsLine domain now.records bytes after.auditor after.over → AnswersKept (AnswersRecord domain) is_audit_over (AuditRepresents after) now bytes out out (is_none after.over)
-audited domain before after now bytes out s e a = audited_by domain after now bytes out after.over (s.over ∙ e) refl a
+pub audited : (domain : List ℕ) (before after : AuditKept) (lines number : ℕ) (now : Audited) (bytes : List ℕ) (out : OutputState) → AuditRepresents before lines now → before.over ≡ None → number ≡ length now.records + 1 → AuditsLine domain now.records bytes after.auditor after.over → AnswersKept (AnswersRecord domain) is_audit_over (AuditRepresents after number) now bytes out out (is_none after.over)
+audited domain before after lines number now bytes out s e n a = audited_by domain after number now bytes out after.over (s.over ∙ e) n refl a
 
 -- a line after the end
-left_out_by : (domain : List ℕ) (before after : AuditKept) (now : Audited) (bytes : List ℕ) (out : OutputState) (over : Option Over) → before.over ≡ over → is_some over ≡ true → AuditRepresents before now → after.over ≡ before.over → AnswersKept (AnswersRecord domain) is_audit_over (AuditRepresents after) now bytes out out false
-left_out_by domain before after now bytes out None e b s f = absurd (true_false (sym b))
-left_out_by domain before after now bytes out (Some over) e b s f =
-    (now, [], answers_kept domain now bytes now [] (past over (s.over ∙ e) refl refl), Puts-nil out, record { over = s.over ∙ sym f; preserves = λ h. absurd (none_some (sym h ∙ (f ∙ e))) }, ap is_some (s.over ∙ e))
+left_out_by : (domain : List ℕ) (before after : AuditKept) (lines number : ℕ) (now : Audited) (bytes : List ℕ) (out : OutputState) (over : Option Over) → before.over ≡ over → is_some over ≡ true → AuditRepresents before lines now → after.over ≡ before.over → AnswersKept (AnswersRecord domain) is_audit_over (AuditRepresents after number) now bytes out out false
+left_out_by domain before after lines number now bytes out None e b s f = absurd (true_false (sym b))
+left_out_by domain before after lines number now bytes out (Some over) e b s f =
+    (now, [], answers_kept domain now bytes now [] (past over (s.over ∙ e) refl refl), Puts-nil out, record { over = s.over ∙ sym f; preserves = λ h. absurd (none_some (sym h ∙ (f ∙ e))); counted = λ h. absurd (none_some (sym h ∙ (f ∙ e))) }, ap is_some (s.over ∙ e))
 
-pub left_out : (domain : List ℕ) (before after : AuditKept) (now : Audited) (bytes : List ℕ) (out : OutputState) → is_some before.over ≡ true → AuditRepresents before now → after.over ≡ before.over → AnswersKept (AnswersRecord domain) is_audit_over (AuditRepresents after) now bytes out out false
-left_out domain before after now bytes out b s f = left_out_by domain before after now bytes out before.over refl b s f
+pub left_out : (domain : List ℕ) (before after : AuditKept) (lines number : ℕ) (now : Audited) (bytes : List ℕ) (out : OutputState) → is_some before.over ≡ true → AuditRepresents before lines now → after.over ≡ before.over → AnswersKept (AnswersRecord domain) is_audit_over (AuditRepresents after number) now bytes out out false
+left_out domain before after lines number now bytes out b s f = left_out_by domain before after lines number now bytes out before.over refl b s f
 
 not_not : (a : Bool) → not (not a) ≡ a
 not_not true = refl
@@ -151,17 +151,17 @@ outcome_is (Some (Denied line cause)) n v e = ap run_end_by (of_some (No line ca
 outcome_is (Some NoMemory) n v e = absurd (none_some e)
 
 -- the end of an audit: the verdict on the lines is written, and the outcome is that of the verdict
-writes_verdict : (domain : List ℕ) (stored_part : AuditKept) (lines : List (List ℕ)) (a b : Option (List ℕ)) (reported : RunEnd) → reported ≡ run_end_of stored_part.over → AppendsClosed (StepsUntilEnd is_audit_over (AnswersRecord domain)) (ClosesAs ClosesWithVerdict (AuditRepresents stored_part)) audit_start lines a b → WritesVerdict (verdict_of_lines domain lines) reported a b
+writes_verdict : (domain : List ℕ) (stored_part : AuditKept) (lines : List (List ℕ)) (a b : Option (List ℕ)) (reported : RunEnd) → reported ≡ run_end_of stored_part.over → AppendsClosed (StepsUntilEnd is_audit_over (AnswersRecord domain)) (ClosesAs ClosesWithVerdict (AfterSomeLines (AuditRepresents stored_part))) audit_start lines a b → WritesVerdict (verdict_of_lines domain lines) reported a b
 writes_verdict domain stored_part lines a b reported o w =
     let last = w.1.0 in
     let closed = w.1.4 in
     let v = closed.0.0 in
     let c = comes domain lines audit_start last w.1.1 v refl w.1.3 closed.0.1 in
     let text : w.0 ≡ as_line (verdict_json (verdict_of_lines domain lines)) = w.1.5 ∙ (ap (λ r. r ++ w.1.2) c.none ∙ (closed.0.2 ∙ ap (λ x. as_line (verdict_json x)) c.is)) in
-    let mine : reported ≡ run_end_by (verdict_of_lines domain lines) = o ∙ (sym (ap run_end_of closed.1.over) ∙ (outcome_is last.over (length last.records) v closed.0.1 ∙ ap run_end_by c.is)) in
+    let mine : reported ≡ run_end_by (verdict_of_lines domain lines) = o ∙ (sym (ap run_end_of closed.1.1.over) ∙ (outcome_is last.over (length last.records) v closed.0.1 ∙ ap run_end_by c.is)) in
     (subst (λ t. Appends a b t) text w.2, mine)
 
-pub writes_verdict_all : (domain : List ℕ) (stored_part : AuditKept) (left a b : Option (List ℕ)) (reported : RunEnd) → reported ≡ run_end_of stored_part.over → IfSome left (λ bytes. AppendsClosed (StepsUntilEnd is_audit_over (AnswersRecord domain)) (ClosesAs ClosesWithVerdict (AuditRepresents stored_part)) audit_start (first_lines most_lines bytes) a b) → IfSome left (λ bytes. WritesVerdict (verdict_of_lines domain (first_lines most_lines bytes)) reported a b)
+pub writes_verdict_all : (domain : List ℕ) (stored_part : AuditKept) (left a b : Option (List ℕ)) (reported : RunEnd) → reported ≡ run_end_of stored_part.over → IfSome left (λ bytes. AppendsClosed (StepsUntilEnd is_audit_over (AnswersRecord domain)) (ClosesAs ClosesWithVerdict (AfterSomeLines (AuditRepresents stored_part))) audit_start (first_lines most_lines bytes) a b) → IfSome left (λ bytes. WritesVerdict (verdict_of_lines domain (first_lines most_lines bytes)) reported a b)
 writes_verdict_all domain stored_part None a b reported o w = tt
 writes_verdict_all domain stored_part (Some bytes) a b reported o w = writes_verdict domain stored_part (first_lines most_lines bytes) a b reported o w
 
@@ -216,25 +216,25 @@ ran domain (line ∷ lines) first last text e run =
     ran_by domain line lines first run.0 last run.1 run.2 run.3.1 e (λ o. ran domain lines run.0 last run.2 o run.5) run.5
 
 -- the verdict that was written is that of the stored state
-reported_by : (domain : List ℕ) (stored_part : AuditKept) (lines : List (List ℕ)) (a b : Option (List ℕ)) → AppendsClosed (StepsUntilEnd is_audit_over (AnswersRecord domain)) (ClosesAs ClosesWithVerdict (AuditRepresents stored_part)) audit_start lines a b → (last : Audited) × (stored_part.over ≡ last.over) × (audit_verdict_over stored_part.over (length last.records) ≡ Some (verdict_of_lines domain lines))
+reported_by : (domain : List ℕ) (stored_part : AuditKept) (lines : List (List ℕ)) (a b : Option (List ℕ)) → AppendsClosed (StepsUntilEnd is_audit_over (AnswersRecord domain)) (ClosesAs ClosesWithVerdict (AfterSomeLines (AuditRepresents stored_part))) audit_start lines a b → (last : Audited) × (stored_part.over ≡ last.over) × (audit_verdict_over stored_part.over (length last.records) ≡ Some (verdict_of_lines domain lines))
 reported_by domain stored_part lines a b w =
     let last = w.1.0 in
     let closed = w.1.4 in
     let v = closed.0.0 in
     let c = comes domain lines audit_start last w.1.1 v refl w.1.3 closed.0.1 in
-    (last, sym closed.1.over, ap (λ o. audit_verdict_over o (length last.records)) (sym closed.1.over) ∙ (closed.0.1 ∙ ap Some c.is))
+    (last, sym closed.1.1.over, ap (λ o. audit_verdict_over o (length last.records)) (sym closed.1.1.over) ∙ (closed.0.1 ∙ ap Some c.is))
 
-left_by : (domain : List ℕ) (stored_part : AuditKept) (over : Option Over) (n : ℕ) (bytes : List ℕ) (left : Option (List ℕ)) (v : AuditVerdict) → stored_part.over ≡ over → audit_verdict_over over n ≡ Some v → TakesUntilEnd is_audit_over (AnswersRecord domain) (AuditRepresents stored_part) audit_start bytes left → LeavesBehind v bytes left
+left_by : (domain : List ℕ) (stored_part : AuditKept) (over : Option Over) (n : ℕ) (bytes : List ℕ) (left : Option (List ℕ)) (v : AuditVerdict) → stored_part.over ≡ over → audit_verdict_over over n ≡ Some v → TakesUntilEnd is_audit_over (AnswersRecord domain) (AfterSomeLines (AuditRepresents stored_part)) audit_start bytes left → LeavesBehind v bytes left
 left_by domain stored_part None n bytes left v k h t = subst (λ x. LeavesBehind x bytes left) (of_some (Yes n) v h) tt
 left_by domain stored_part (Some (Denied line cause)) n bytes left v k h t =
-    let is : (t.last).over ≡ Some (Denied line cause) = (t.represented).over ∙ k in
+    let is : (t.last).over ≡ Some (Denied line cause) = (t.represented).1.over ∙ k in
     let at = (ran domain (first_lines t.count bytes) audit_start t.last t.text refl t.run).number line cause is in
     let counted = t.counted in
     let same : t.count ≡ line = omega arith in
     subst (λ x. LeavesBehind x bytes left) (of_some (No line cause) v h) (subst (λ x. LeavesLines x bytes left) same (t.ended (ap is_some is)))
 left_by domain stored_part (Some NoMemory) n bytes left v k h t = absurd (none_some h)
 
-pub left_behind : (domain : List ℕ) (stored_part : AuditKept) (all left a b : Option (List ℕ)) → IfSome all (λ bytes. AppendsClosed (StepsUntilEnd is_audit_over (AnswersRecord domain)) (ClosesAs ClosesWithVerdict (AuditRepresents stored_part)) audit_start (first_lines most_lines bytes) a b) → IfSome all (λ bytes. TakesUntilEnd is_audit_over (AnswersRecord domain) (AuditRepresents stored_part) audit_start bytes left) → IfSome all (λ bytes. LeavesBehind (verdict_of_lines domain (first_lines most_lines bytes)) bytes left)
+pub left_behind : (domain : List ℕ) (stored_part : AuditKept) (all left a b : Option (List ℕ)) → IfSome all (λ bytes. AppendsClosed (StepsUntilEnd is_audit_over (AnswersRecord domain)) (ClosesAs ClosesWithVerdict (AfterSomeLines (AuditRepresents stored_part))) audit_start (first_lines most_lines bytes) a b) → IfSome all (λ bytes. TakesUntilEnd is_audit_over (AnswersRecord domain) (AfterSomeLines (AuditRepresents stored_part)) audit_start bytes left) → IfSome all (λ bytes. LeavesBehind (verdict_of_lines domain (first_lines most_lines bytes)) bytes left)
 left_behind domain stored_part None left a b w t = tt
 left_behind domain stored_part (Some bytes) left a b w t =
     let v = reported_by domain stored_part (first_lines most_lines bytes) a b w in

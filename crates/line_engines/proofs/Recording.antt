@@ -36,7 +36,7 @@ use Rattle.line_devices.proofs.Puts.{Puts-nil}
 use Rattle.reg_lines.specs.declared.printing.records.CallRecord.{CallRecord}
 use Rattle.line_engines.specs.Answers.{as_line}
 use Rattle.line_devices.specs.Lines.{most_lines}
-use Rattle.line_engines.specs.Driver.{AnswersKept, AppendsClosed, Closes, ClosesAs, RunsOver}
+use Rattle.line_engines.specs.Driver.{AfterSomeLines, AnswersKept, AppendsClosed, Closes, ClosesAs, RunsOver}
 use Rattle.line_engines.specs.Recorded.{AppendsAllRecords, AppendsRecords, RecordedAreLegal, AreRecords, ClosesRecording, ClosesWithRecords, HasStamps, IsEnded, IsEndedAt, IsNotPast, IsRecordOf, IsWritten, Recorded, Recording, RecordsLine, RunsRecord, StampsInOrder, WritesRecords, events_by, events_of, first_recording, record_line, was_lost, was_taken}
 use Rattle.line_engines.specs.RecordedPrivate.{RecordRepresents, RecordKept}
 use Rattle.line_engines.specs.declared.fault.RunFault.{RunFault}
@@ -369,7 +369,7 @@ went domain (line ∷ lines) first last text run z =
 
 -- ---- the end of a run
 
-records_alone : (domain seed : List ℕ) (kept : RecordKept) (lines : List (List ℕ)) (old new : Option (List ℕ)) → AppendsClosed (RecordsLine domain) (ClosesAs (ClosesRecording domain) (RecordRepresents kept)) (first_recording domain seed) lines old new → AppendsRecords domain seed lines kept.lost old new
+records_alone : (domain seed : List ℕ) (kept : RecordKept) (lines : List (List ℕ)) (old new : Option (List ℕ)) → AppendsClosed (RecordsLine domain) (ClosesAs (ClosesRecording domain) (AfterSomeLines (RecordRepresents kept))) (first_recording domain seed) lines old new → AppendsRecords domain seed lines kept.lost old new
 records_alone domain seed kept lines old new a =
     let run = a.1 in
     let none = nothing_reported domain (first_recording domain seed) run.0 lines run.1 run.3 in
@@ -377,7 +377,7 @@ records_alone domain seed kept lines old new a =
       run.0,
       run.2,
       subst (λ (x : List ℕ). IsRun (RecordsLine domain) (first_recording domain seed) lines run.0 x) none run.3,
-      run.4.1.1,
+      run.4.1.1.1,
       run.4.0,
       subst (λ (x : List ℕ). Appends old new x) text a.2,
     )
@@ -395,7 +395,7 @@ all_records domain seed lines lost old new a z =
       appends = a.5;
     }
 
-pub alone : (domain seed : List ℕ) (kept : RecordKept) (lost : ℕ) (left : Option (List ℕ)) (old new : Option (List ℕ)) → lost ≡ kept.lost → IfSome left (λ bytes. AppendsClosed (RecordsLine domain) (ClosesAs (ClosesRecording domain) (RecordRepresents kept)) (first_recording domain seed) (first_lines most_lines bytes) old new) → IfSome left (λ bytes. AppendsRecords domain seed (first_lines most_lines bytes) lost old new)
+pub alone : (domain seed : List ℕ) (kept : RecordKept) (lost : ℕ) (left : Option (List ℕ)) (old new : Option (List ℕ)) → lost ≡ kept.lost → IfSome left (λ bytes. AppendsClosed (RecordsLine domain) (ClosesAs (ClosesRecording domain) (AfterSomeLines (RecordRepresents kept))) (first_recording domain seed) (first_lines most_lines bytes) old new) → IfSome left (λ bytes. AppendsRecords domain seed (first_lines most_lines bytes) lost old new)
 alone domain seed kept lost None old new e h = tt
 alone domain seed kept lost (Some bytes) old new e h =
     subst (λ n. AppendsRecords domain seed (first_lines most_lines bytes) n old new) (sym e) (records_alone domain seed kept (first_lines most_lines bytes) old new h)
@@ -417,15 +417,17 @@ counted false n = n
 abbrev pub recorded_as_lost : ScheduleKept → ℕ → Bool → RecordKept
 recorded_as_lost schedule before lost = record { schedule = schedule; lost = counted lost before }
 
-pub recorded_line : (domain : List ℕ) (before after : RecordKept) (schedule : ScheduleKept) (now : Recording) (bytes text : List ℕ) (lost : Bool) (out : OutputState) → RecordRepresents before now → TakesKept domain schedule now.scheduled bytes text lost → after ≡ recorded_as_lost schedule before.lost lost → AnswersKept (RecordsLine domain) (λ _. false) (RecordRepresents after) now bytes out out true
-recorded_line domain before after schedule now bytes text true out preserves t e =
+pub recorded_line : (domain : List ℕ) (before after : RecordKept) (schedule : ScheduleKept) (lines number : ℕ) (now : Recording) (bytes text : List ℕ) (lost : Bool) (out : OutputState) → RecordRepresents before lines now → number ≡ lines + 1 → TakesKept domain schedule number now.scheduled bytes text lost → after ≡ recorded_as_lost schedule before.lost lost → AnswersKept (RecordsLine domain) (λ _. false) (RecordRepresents after number) now bytes out out true
+recorded_line domain before after schedule lines number now bytes text true out preserves n t e =
     let next : Recording = record { scheduled = t.0; lost = now.lost + 1 } in
-    let kept : RecordRepresents (recorded_as_lost schedule before.lost true) next = (t.2, ap (λ n. n + 1) preserves.1) in
-    (next, [], (λ line is k. was_lost (t.1 line is k).1 refl refl), Puts-nil out, subst (λ r. RecordRepresents r next) (sym e) kept, refl)
-recorded_line domain before after schedule now bytes text false out preserves t e =
+    let few : before.lost + 1 ≤ number = omega (arith, n, preserves.2) in
+    let kept : RecordRepresents (recorded_as_lost schedule before.lost true) number next = (t.2, ap (λ n. n + 1) preserves.1, few) in
+    (next, [], (λ line is k. was_lost (t.1 line is k).1 refl refl), Puts-nil out, subst (λ r. RecordRepresents r number next) (sym e) kept, refl)
+recorded_line domain before after schedule lines number now bytes text false out preserves n t e =
     let next : Recording = record { scheduled = t.0; lost = now.lost } in
-    let kept : RecordRepresents (recorded_as_lost schedule before.lost false) next = (t.2, preserves.1) in
-    (next, [], (λ line is k. was_taken (t.1 line is k).1 refl refl), Puts-nil out, subst (λ r. RecordRepresents r next) (sym e) kept, refl)
+    let few : before.lost ≤ number = omega (arith, n, preserves.2) in
+    let kept : RecordRepresents (recorded_as_lost schedule before.lost false) number next = (t.2, preserves.1, few) in
+    (next, [], (λ line is k. was_taken (t.1 line is k).1 refl refl), Puts-nil out, subst (λ r. RecordRepresents r number next) (sym e) kept, refl)
 
 -- the records were put after what was put before
 pub closed_with_records : (own_domain : List ℕ) (now : Scheduled) (m : MachineState) (order : List ℕ) → now.machine ≡ m → Runs (first_machine own_domain) now.events now.answers now.machine → AreFor own_domain now.events → IsOrder m order → ((own_domain : List ℕ) (events : List Event) (answers : List EventAnswer) → Runs (first_machine own_domain) events answers m → Headline (accepted events answers) order) → ((own_domain : List ℕ) (events : List Event) (answers : List EventAnswer) → Runs (first_machine own_domain) events answers m → HoldReplies m.calls first_books order) → (a b : OutputState) → ((records : List Recorded) → AreRecords m.calls order records → Puts a b (flat_map record_line records)) → ((records : List Recorded) → AreRecords m.calls order records → AllByRecursion IsWritten records) → Closes (ClosesWithRecords own_domain) now a b

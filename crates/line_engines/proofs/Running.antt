@@ -1,5 +1,5 @@
 -- What the engine `plain` replies to one line.
-use Rattle.std.proofs.Common.{◌≡◌, ◌+◌, ℕ, List, true, false, refl, ap, subst, sym, ◌∙◌}
+use Rattle.std.proofs.Common.{◌≡◌, ◌+◌, ◌≤◌, ℕ, List, true, false, refl, ap, subst, sym, ◌∙◌}
 use Rattle.rand_chacha.specs.ChaCha.{ChaCha}
 use Rattle.entry_book.specs.Book.{Book}
 use Rattle.line_devices.specs.Lines.{stored_part, IsLine}
@@ -25,10 +25,10 @@ of_kept domain now line next reply is (not_read n r) = not_read n r
 of_kept domain now line next reply is (not_run request ids e n r) = not_run request ids (sym (kept_spells domain now.ids line is) ∙ e) n r
 
 -- the line of which these bytes are kept was answered
-pub reported : (domain : List ℕ) (before after : PlainKept) (now : Running) (bytes : List ℕ) (old out : OutputState) → PlainRepresents before now → AnswersLine domain (record { books = now.books; ids = before.ids; calls = before.calls; lines = before.lines }) bytes old out after.book after.ids after.calls → after.lines ≡ before.lines + 1 → AnswersKept (Answers domain) (λ _. false) (PlainRepresents after) now bytes old out true
-reported domain before after now bytes old out s a l =
-    let e = same_state (record { books = now.books; ids = before.ids; calls = before.calls; lines = before.lines }) now refl (sym s.1) (sym s.2) (sym s.3) in
+pub reported : (domain : List ℕ) (before after : PlainKept) (lines number : ℕ) (now : Running) (bytes : List ℕ) (old out : OutputState) → PlainRepresents before lines now → AnswersLine domain (record { books = now.books; ids = before.ids; calls = before.calls; lines = lines }) bytes old out after.book after.ids after.calls → number ≡ lines + 1 → after.calls ≤ number → AnswersKept (Answers domain) (λ _. false) (PlainRepresents after number) now bytes old out true
+reported domain before after lines number now bytes old out s a l few =
+    let e = same_state (record { books = now.books; ids = before.ids; calls = before.calls; lines = lines }) now refl (sym s.1) (sym s.2) (sym s.3) in
     let P : Running → Type 0 = λ r. AnswersLine domain r bytes old out after.book after.ids after.calls in
     let b = subst P e a in
     let Q : (x : List ℕ) → Type 0 = λ x. Answers domain now x b.0 b.1 in
-    (b.0, b.1, (λ line is k. of_kept domain now line b.0 b.1 is (subst Q k b.2)), b.3, (b.4, b.5, b.6, b.7 ∙ (ap (λ n. n + 1) s.3 ∙ sym l)), refl)
+    (b.0, b.1, (λ line is k. of_kept domain now line b.0 b.1 is (subst Q k b.2)), b.3, (b.4, b.5, b.6, b.7 ∙ (ap (λ n. n + 1) s.3 ∙ sym l), few), refl)

@@ -97,10 +97,10 @@ both_kept lost domain now bytes next reply a line is k = (
   either_kept lost domain now line next is (subst (λ x. LosesOrTakes lost domain now x next) k a.1),
 )
 
-pub scheduled : (domain : List ℕ) (before after : ScheduleKept) (now : Scheduled) (bytes text : List ℕ) (lost : Bool) → before.machine.domain ≡ domain → ScheduleRepresents before now → TakesEventLine domain now bytes text lost after.machine after.ids → after.lines ≡ before.lines + 1 → TakesKept domain after now bytes text lost
-scheduled domain before after now bytes text lost of s a l =
+pub scheduled : (domain : List ℕ) (before after : ScheduleKept) (lines number : ℕ) (now : Scheduled) (bytes text : List ℕ) (lost : Bool) → before.machine.domain ≡ domain → ScheduleRepresents before lines now → TakesEventLine domain now bytes text lost after.machine after.ids → number ≡ lines + 1 → TakesKept domain after number now bytes text lost
+scheduled domain before after lines number now bytes text lost of s a l =
     let own_domain : before.machine.domain ≡ after.machine.domain = sym (a.domain_is ∙ ap (λ (m : MachineState). m.domain) s.machine) in
-    let represents : ScheduleRepresents after a.next = record {
+    let represents : ScheduleRepresents after number a.next = record {
       runs = subst (λ d. Runs (first_machine d) a.next.events a.next.answers a.next.machine) own_domain (a.runs (first_machine before.machine.domain) s.runs);
       made = subst (λ d. AreFor d a.next.events) (sym of ∙ own_domain) (a.made (subst (λ d. AreFor d now.events) of s.made));
       machine = a.machine_is;

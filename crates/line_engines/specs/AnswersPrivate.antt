@@ -1,5 +1,5 @@
 -- The state that the engine `plain` stores, and the answer to one line in terms of it. For this crate's own contracts.
-use Rattle.std.specs.Prelude.{◌≡◌, ◌⊎◌, ℕ, ◌+◌, List, refl}
+use Rattle.std.specs.Prelude.{◌≡◌, ◌⊎◌, ◌≤◌, ℕ, ◌+◌, List, refl}
 use Rattle.rand_chacha.specs.ChaCha.{ChaCha}
 use Rattle.entry_book.specs.Book.{Book}
 use Rattle.entry_book.specs.History.{PlainState, RepresentsBooks, books_after, reply_to}
@@ -27,8 +27,7 @@ pub record PlainKept : Type 0 where
   pub book : PlainState
   pub ids : ChaCha
   pub calls : ℕ
-  pub lines : ℕ
 
--- it represents this state of a run
-abbrev pub PlainRepresents : PlainKept → Running → Type 0
-PlainRepresents kept now = RepresentsBooks kept.book now.books × (now.ids ≡ kept.ids) × (now.calls ≡ kept.calls) × (now.lines ≡ kept.lines)
+-- it represents this state of a run after this number of lines; there are no more calls than lines
+abbrev pub PlainRepresents : PlainKept → ℕ → Running → Type 0
+PlainRepresents kept lines now = RepresentsBooks kept.book now.books × (now.ids ≡ kept.ids) × (now.calls ≡ kept.calls) × (now.lines ≡ lines) × (kept.calls ≤ lines)

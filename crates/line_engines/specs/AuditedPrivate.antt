@@ -25,13 +25,13 @@ run_end_of (Some NoMemory) = outcome.Done
 -- the state that the engine `audit` stores
 pub record AuditKept : Type 0 where
   pub auditor : AuditState
-  pub lines : ℕ
   pub over : Option Over
 
--- the auditor represents the records, unless the run is over
-pub record AuditRepresents (kept : AuditKept) (now : Audited) : Type 0 where
+-- The auditor represents the records, unless the run is over. So far, each of this number of lines was a record.
+pub record AuditRepresents (kept : AuditKept) (lines : ℕ) (now : Audited) : Type 0 where
   pub over : now.over ≡ kept.over
   pub preserves : kept.over ≡ None → RepresentsRecords kept.auditor now.records
+  pub counted : kept.over ≡ None → length now.records ≡ lines
 
 -- the result of auditing one line after these records; if memory runs out, nothing is said
 abbrev pub AuditsLine : List ℕ → List AuditRecord → List ℕ → AuditState → Option Over → Type 0

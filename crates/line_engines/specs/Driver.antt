@@ -16,6 +16,10 @@ StepsUntilEnd ends answers now line next reply = MatchBool (ends now) ((next ≡
 abbrev pub AnswersKept : {State : Type 0} → (State → List ℕ → State → List ℕ → Type 0) → (State → Bool) → (State → Type 0) → State → List ℕ → OutputState → OutputState → Bool → Type 0
 AnswersKept {State} answers ends represents now bytes old new continues = (next : State) × (reply : List ℕ) × StepsKept answers now bytes next reply × Puts old new reply × represents next × (ends next ≡ not continues)
 
+-- the state is represented, after some number of lines
+abbrev pub AfterSomeLines : {State : Type 0} → (ℕ → State → Type 0) → State → Type 0
+AfterSomeLines represents now = (lines : ℕ) × represents lines now
+
 -- a possible last text was put
 abbrev pub Closes : {State : Type 0} → (State → List ℕ → Type 0) → State → OutputState → OutputState → Type 0
 Closes closes now old new = (end : List ℕ) × closes now end × Puts old new end

@@ -1,5 +1,5 @@
 -- The state that the engine `record_schedule` stores. For this crate's own contracts.
-use Rattle.std.specs.Prelude.{◌≡◌, ◌+◌, ℕ, List, [], refl}
+use Rattle.std.specs.Prelude.{◌≡◌, ◌≤◌, ◌+◌, ℕ, List, [], refl}
 use Rattle.line_engines.specs.Schedules.{schedule_skips, unread}
 use Rattle.line_engines.specs.SchedulesPrivate.{ScheduleKept, ScheduleRepresents}
 use Rattle.line_engines.specs.Recorded.{Recording, RecordsLine, was_lost}
@@ -13,6 +13,6 @@ pub record RecordKept : Type 0 where
   pub schedule : ScheduleKept
   pub lost : ℕ
 
--- it represents this state of a run
-abbrev pub RecordRepresents : RecordKept → Recording → Type 0
-RecordRepresents kept now = ScheduleRepresents kept.schedule now.scheduled × (now.lost ≡ kept.lost)
+-- it represents this state of a run after this number of lines, of which no more can be lost
+abbrev pub RecordRepresents : RecordKept → ℕ → Recording → Type 0
+RecordRepresents kept lines now = ScheduleRepresents kept.schedule lines now.scheduled × (now.lost ≡ kept.lost) × (kept.lost ≤ lines)

@@ -27,16 +27,15 @@ an_event_answer domain now line = (schedule_skips now, as_line (no_memory_json (
 pub record ScheduleKept : Type 0 where
   pub machine : MachineState
   pub ids : ChaCha
-  pub lines : ℕ
 
--- it represents this state of a run
-pub record ScheduleRepresents (kept : ScheduleKept) (now : Scheduled) : Type 0 where
+-- it represents this state of a run after this number of lines
+pub record ScheduleRepresents (kept : ScheduleKept) (count : ℕ) (now : Scheduled) : Type 0 where
   pub runs : Runs (first_machine kept.machine.domain) now.events now.answers now.machine
   -- each batch is of the machine's trust domain
   pub made : AreFor kept.machine.domain now.events
   pub machine : now.machine ≡ kept.machine
   pub ids : now.ids ≡ kept.ids
-  pub lines : now.lines ≡ kept.lines
+  pub lines : now.lines ≡ count
 
 -- the answer to a line, as it is printed
 abbrev pub line_answer_json : LineAnswer → List ℕ
@@ -76,6 +75,7 @@ pub record TakesEventLine (domain : List ℕ) (now : Scheduled) (line : List ℕ
 abbrev pub AnswersOrLoses : Bool → List ℕ → Scheduled → List ℕ → Scheduled → List ℕ → Type 0
 AnswersOrLoses lost domain now line next reply = AnswersEvent domain now line next reply × LosesOrTakes lost domain now line next
 
--- every line of which these bytes are kept may be taken or lost like this, and the new value represents the state after it
-abbrev pub TakesKept : List ℕ → ScheduleKept → Scheduled → List ℕ → List ℕ → Bool → Type 0
-TakesKept domain kept now bytes text lost = (next : Scheduled) × StepsKept (AnswersOrLoses lost domain) now bytes next (as_line text) × ScheduleRepresents kept next
+-- every line of which these bytes are kept may be taken or lost like this, and the new value represents the state after it, which
+-- is the line of this number
+abbrev pub TakesKept : List ℕ → ScheduleKept → ℕ → Scheduled → List ℕ → List ℕ → Bool → Type 0
+TakesKept domain kept number now bytes text lost = (next : Scheduled) × StepsKept (AnswersOrLoses lost domain) now bytes next (as_line text) × ScheduleRepresents kept number next

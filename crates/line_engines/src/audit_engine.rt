@@ -1,6 +1,6 @@
 //! How is an input of records audited?
 
-ghost use Rattle.std.specs.Prelude.{◌≡◌, ◌+◌, ◌<◌, ◌^◌, [], List};
+ghost use Rattle.std.specs.Prelude.{◌≡◌, ◌+◌, [], List, length};
 ghost use Rattle.line_reading.specs.Records.{AuditRecord};
 ghost use Rattle.call_audit.specs.Represents.{RepresentsRecords};
 ghost use Rattle.line_engines.specs.Audited.{RunsAudit};
@@ -48,11 +48,10 @@ enum Over {
     NoMemory,
 }
 
-/// An auditor of lines, the number of lines that were answered, and why it accepts no more, if so.
+/// An auditor of lines, and why it accepts no more, if so.
 #[derive(Drop)]
 struct AuditRun {
     auditor: Auditor,
-    lines: u64,
     over: Option<Over>,
 }
 
@@ -61,30 +60,28 @@ impl Model for AuditRun {
 
     ghost Value = { AuditKept };
 
-    ghost view = { λ r. record { auditor = r.auditor; lines = r.lines; over = r.over } };
+    ghost view = { λ r. record { auditor = r.auditor; over = r.over } };
 }
 
 impl AuditRun {
-    ghost use Rattle.std.specs.Prelude.{◌≡◌, IfOk};
+    ghost use Rattle.std.specs.Prelude.{◌≡◌, ℕ, IfOk};
     ghost use Rattle.line_engines.specs.Audited.{Audited, audit_start, audit_verdict_in};
     ghost use Rattle.line_engines.specs.AuditedPrivate.{AuditRepresents, run_end_of};
 
     /// The state before the first line. The error is out of memory.
     fn new(alloc: Global, domain: TrustDomain) -> Result<AuditRun, AllocError>
-        ensures represents { IfOk result (λ run. AuditRepresents run audit_start) }
+        ensures represents { IfOk result (λ run. AuditRepresents run 0 audit_start) }
         ensures domain { IfOk result (λ run. run.auditor.book.domain ≡ domain) }
-        ensures lines { IfOk result (λ run. run.lines ≡ 0) }
     {
         Ok(AuditRun {
             auditor: Auditor::new(alloc, domain)?,
-            lines: 0,
             over: None,
         })
     }
 
     /// Returns the verdict after the lines so far. The error is that memory ran out for one of them.
     fn verdict(&self) -> Result<AuditVerdict, AllocError>
-        ensures { (now : Audited) → AuditRepresents self.now now → IfOk result (λ verdict. audit_verdict_in now ≡ Some verdict) }
+        ensures { (lines : ℕ) (now : Audited) → AuditRepresents self.now lines now → IfOk result (λ verdict. audit_verdict_in now ≡ Some verdict) }
     {
         match &self.over {
             None => Ok(AuditVerdict::Yes(self.auditor.count() as u64)),
@@ -117,8 +114,6 @@ impl LineHandler for AuditRun {
 
     ghost represents = { AuditRepresents };
 
-    ghost lines = { λ r. r.lines };
-
     ghost preserves = { λ _ _. ⊤ };
 
     ghost answers = { AnswersRecord };
@@ -132,12 +127,11 @@ impl LineHandler for AuditRun {
     ghost some_answer = { an_audit };
 
     /// Audits the line, which gets no reply of its own.
-    fn answer<K: Sink>(&mut self, _: Global, line: &[u8], _: &mut Output<K>) -> bool {
-        self.lines += 1;
+    fn answer<K: Sink>(&mut self, _: Global, number: u64, line: &[u8], _: &mut Output<K>) -> bool {
         if self.over.is_some() {
             return false;
         }
-        self.over = audit_line(&mut self.auditor, line);
+        self.over = audit_line(&mut self.auditor, number, line);
         self.over.is_none()
     }
 
@@ -149,13 +143,12 @@ impl LineHandler for AuditRun {
     }
 }
 
-/// Audits the next line, and returns why the audit is over, if it is.
-fn audit_line(auditor: &mut Auditor, line: &[u8]) -> Option<Over>
+/// Audits the line of this number, and returns why the audit is over, if it is.
+fn audit_line(auditor: &mut Auditor, number: u64, line: &[u8]) -> Option<Over>
     ensures domain { auditor.new.book.domain ≡ auditor.old.book.domain }
-    ensures line { (records : List AuditRecord) → RepresentsRecords auditor.old records
+    ensures line { (records : List AuditRecord) → RepresentsRecords auditor.old records → number ≡ length records + 1
         → AuditsLine auditor.old.book.domain records line.now auditor.new result }
 {
-    let number = auditor.count() as u64 + 1;
     match auditor.audit(line) {
         Ok(None) => None,
         Ok(Some(cause)) => Some(Over::Denied(number, cause)),

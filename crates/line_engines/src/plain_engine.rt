@@ -1,6 +1,6 @@
 //! How is an input of request lines answered on a plain book?
 
-ghost use Rattle.std.specs.Prelude.{◌≡◌, ◌+◌, ◌<◌, ◌≤◌, ◌^◌, [], List};
+ghost use Rattle.std.specs.Prelude.{◌≡◌, ◌+◌, ◌≤◌, [], List, ℕ};
 ghost use Rattle.entry_book.specs.Book.{Book};
 ghost use Rattle.entry_book.specs.History.{RepresentsBooks};
 ghost use Rattle.line_engines.specs.Answers.{RunsPlain};
@@ -38,24 +38,20 @@ pub fn plain<S: Source, K: Sink>(
     run_lines(alloc, &mut run, input, output)
 }
 
-/// A plain book that answers lines, the ids that it gives, and the numbers of calls that were run and of lines that were read.
+/// A plain book that answers lines, the ids that it gives, and the number of calls that were run.
 #[derive(Drop)]
 struct PlainRun {
     book: PlainBook,
     ids: Ids,
     calls: u64,
-    lines: u64,
 }
 
 impl Model for PlainRun {
-    ghost use Rattle.std.specs.Prelude.{◌≤◌};
     ghost use Rattle.line_engines.specs.AnswersPrivate.{PlainKept};
 
     ghost Value = { PlainKept };
 
-    ghost view = { λ r. record { book = r.book; ids = r.ids; calls = r.calls; lines = r.lines } };
-
-    ghost invariant = { λ r. r.calls ≤ r.lines };
+    ghost view = { λ r. record { book = r.book; ids = r.ids; calls = r.calls } };
 }
 
 impl PlainRun {
@@ -65,14 +61,13 @@ impl PlainRun {
 
     /// The state before the first line. The error is out of memory.
     fn new(alloc: Global, domain: TrustDomain, seed: [u8; 32]) -> Result<PlainRun, AllocError>
-        ensures represents { IfOk result (λ run. PlainRepresents run (plain_start seed)) }
+        ensures represents { IfOk result (λ run. PlainRepresents run 0 (plain_start seed)) }
         ensures domain { IfOk result (λ run. run.book.domain ≡ domain) }
     {
         Ok(PlainRun {
             book: PlainBook::new(alloc, domain)?,
             ids: Ids::of_seed(seed),
             calls: 0,
-            lines: 0,
         })
     }
 }
@@ -90,8 +85,6 @@ impl LineHandler for PlainRun {
 
     ghost represents = { PlainRepresents };
 
-    ghost lines = { λ r. r.lines };
-
     ghost preserves = { λ _ _. ⊤ };
 
     ghost answers = { Answers };
@@ -104,17 +97,22 @@ impl LineHandler for PlainRun {
 
     ghost some_answer = { an_answer };
 
-    fn answer<K: Sink>(&mut self, alloc: Global, line: &[u8], output: &mut Output<K>) -> bool {
+    fn answer<K: Sink>(
+        &mut self,
+        alloc: Global,
+        number: u64,
+        line: &[u8],
+        output: &mut Output<K>,
+    ) -> bool {
         self.calls = answer(
             alloc,
             &mut self.book,
             &mut self.ids,
             self.calls,
-            self.lines,
+            number,
             line,
             output,
         );
-        self.lines += 1;
         true
     }
 
@@ -124,31 +122,31 @@ impl LineHandler for PlainRun {
     }
 }
 
-/// Answers the line after `lines` others and `calls` calls. Returns the number of calls after it.
+/// Answers the line of this number, after `calls` calls. Returns the number of calls after it.
 fn answer<K: Sink>(
     alloc: Global,
     book: &mut PlainBook,
     ids: &mut Ids,
     calls: u64,
-    lines: u64,
+    number: u64,
     line: &[u8],
     output: &mut Output<K>,
 ) -> u64
-    requires calls { calls ≤ lines }
-    requires lines { lines < 2 ^ 63 }
     ensures domain { book.new.domain ≡ book.old.domain }
     ensures calls { result ≤ calls + 1 }
-    ensures line { (books : List Book) → RepresentsBooks book.old books
+    ensures line { (books : List Book) (lines : ℕ) → RepresentsBooks book.old books → number ≡ lines + 1 → calls ≤ lines
         → AnswersLine book.old.domain (record { books = books; ids = ids.old; calls = calls; lines = lines }) line.now output.old output.new book.new ids.new result }
 {
-    match read_request(alloc, book.domain(), ids, line, lines + 1) {
+    match read_request(alloc, book.domain(), ids, line, number) {
         Err(refusal) => {
             print_line(&refusal, output);
             calls
         }
         Ok(request) => {
-            call(book, &request.batch, calls + 1, lines + 1, output);
-            calls + 1
+            // this never saturates: there are at most as many calls as lines, and each line has a number
+            let calls = calls.saturating_add(1);
+            call(book, &request.batch, calls, number, output);
+            calls
         }
     }
 }

@@ -50,14 +50,11 @@ struct RecordRun {
 }
 
 impl Model for RecordRun {
-    ghost use Rattle.std.specs.Prelude.{◌≤◌};
     ghost use Rattle.line_engines.specs.RecordedPrivate.{RecordKept};
 
     ghost Value = { RecordKept };
 
     ghost view = { λ r. record { schedule = r.schedule; lost = r.lost } };
-
-    ghost invariant = { λ r. r.lost ≤ r.schedule.lines };
 }
 
 impl RecordRun {
@@ -67,9 +64,8 @@ impl RecordRun {
 
     /// The state before the first line. The error is out of memory.
     fn new(alloc: Global, domain: TrustDomain, seed: [u8; 32]) -> Result<RecordRun, AllocError>
-        ensures represents { IfOk result (λ run. RecordRepresents run (first_recording domain seed)) }
+        ensures represents { IfOk result (λ run. RecordRepresents run 0 (first_recording domain seed)) }
         ensures domain { IfOk result (λ run. run.schedule.machine.domain ≡ domain) }
-        ensures lines { IfOk result (λ run. run.schedule.lines ≡ 0) }
     {
         Ok(RecordRun {
             schedule: ScheduleRun::new(alloc, domain, seed)?,
@@ -98,8 +94,6 @@ impl LineHandler for RecordRun {
 
     ghost represents = { RecordRepresents };
 
-    ghost lines = { λ r. r.schedule.lines };
-
     ghost preserves = { λ _ _. ⊤ };
 
     ghost answers = { RecordsLine };
@@ -113,9 +107,16 @@ impl LineHandler for RecordRun {
     ghost some_answer = { a_line_recorded };
 
     /// Applies the line, which gets no reply, and counts it if it is lost.
-    fn answer<K: Sink>(&mut self, alloc: Global, line: &[u8], _: &mut Output<K>) -> bool {
-        if self.schedule.take(alloc, line).is_lost() {
-            self.lost += 1;
+    fn answer<K: Sink>(
+        &mut self,
+        alloc: Global,
+        number: u64,
+        line: &[u8],
+        _: &mut Output<K>,
+    ) -> bool {
+        if self.schedule.take(alloc, number, line).is_lost() {
+            // this never saturates: at most all lines are lost, and each line has a number
+            self.lost = self.lost.saturating_add(1);
         }
         true
     }

@@ -1,6 +1,6 @@
 //! How is an input of event lines answered by a machine of calls?
 
-ghost use Rattle.std.specs.Prelude.{◌≡◌, ◌+◌, ◌<◌, ◌^◌, []};
+ghost use Rattle.std.specs.Prelude.{◌≡◌, ◌+◌, []};
 ghost use Rattle.call_events.specs.Events.{IsFor};
 ghost use Rattle.line_engines.specs.Schedules.{RunsSchedule, Scheduled};
 ghost use Rattle.line_engines.specs.SchedulesPrivate.{Applied, TakesEventLine, is_lost, line_answer_json};
@@ -38,13 +38,12 @@ pub fn schedule<S: Source, K: Sink>(
     run_lines(alloc, &mut run, input, output)
 }
 
-/// A machine that answers event lines, the ids that it gives, and the number of lines that were read.
+/// A machine that answers event lines, and the ids that it gives.
 #[derive(Drop)]
 pub(crate) struct ScheduleRun {
     domain: TrustDomain,
     machine: Machine,
     ids: Ids,
-    lines: u64,
 }
 
 impl Model for ScheduleRun {
@@ -53,13 +52,13 @@ impl Model for ScheduleRun {
 
     ghost Value = { ScheduleKept };
 
-    ghost view = { λ r. record { machine = r.machine; ids = r.ids; lines = r.lines } };
+    ghost view = { λ r. record { machine = r.machine; ids = r.ids } };
 
     ghost invariant = { λ r. r.machine.domain ≡ r.domain };
 }
 
 impl ScheduleRun {
-    ghost use Rattle.std.specs.Prelude.{◌≡◌, ◌+◌, ◌<◌, ◌^◌, IfOk};
+    ghost use Rattle.std.specs.Prelude.{◌≡◌, ◌+◌, ℕ, IfOk};
     ghost use Rattle.line_engines.specs.Schedules.{Scheduled, schedule_start};
     ghost use Rattle.line_engines.specs.SchedulesPrivate.{ScheduleRepresents, TakesKept, is_lost, line_answer_json};
 
@@ -69,36 +68,30 @@ impl ScheduleRun {
         domain: TrustDomain,
         seed: [u8; 32],
     ) -> Result<ScheduleRun, AllocError>
-        ensures represents { IfOk result (λ run. ScheduleRepresents run (schedule_start domain seed)) }
+        ensures represents { IfOk result (λ run. ScheduleRepresents run 0 (schedule_start domain seed)) }
         ensures domain { IfOk result (λ run. run.machine.domain ≡ domain) }
-        ensures lines { IfOk result (λ run. run.lines ≡ 0) }
     {
         Ok(ScheduleRun {
             machine: Machine::new(alloc, domain.clone()?)?,
             domain,
             ids: Ids::of_seed(seed),
-            lines: 0,
         })
     }
 
-    /// Applies the next line, of which these bytes are kept, and returns its answer.
-    pub(crate) fn take(&mut self, alloc: Global, line: &[u8]) -> LineAnswer
-        requires lines { self.old.lines < 2 ^ 63 }
-        ensures lines { self.new.lines ≡ self.old.lines + 1 }
+    /// Applies the line of this number, of which these bytes are kept, and returns its answer.
+    pub(crate) fn take(&mut self, alloc: Global, number: u64, line: &[u8]) -> LineAnswer
         ensures domain { self.new.machine.domain ≡ self.old.machine.domain }
-        ensures taken { (now : Scheduled) → ScheduleRepresents self.old now
-            → TakesKept self.old.machine.domain self.new now line.now (line_answer_json result) (is_lost result) }
+        ensures taken { (lines : ℕ) (now : Scheduled) → number ≡ lines + 1 → ScheduleRepresents self.old lines now
+            → TakesKept self.old.machine.domain self.new number now line.now (line_answer_json result) (is_lost result) }
     {
-        let answer = take(
+        take(
             alloc,
             &self.domain,
             &mut self.machine,
             &mut self.ids,
-            self.lines,
+            number,
             line,
-        );
-        self.lines += 1;
-        answer
+        )
     }
 
     /// Returns the machine, after the lines so far.
@@ -122,8 +115,6 @@ impl LineHandler for ScheduleRun {
 
     ghost represents = { ScheduleRepresents };
 
-    ghost lines = { λ r. r.lines };
-
     ghost preserves = { λ _ _. ⊤ };
 
     ghost answers = { AnswersEvent };
@@ -136,8 +127,14 @@ impl LineHandler for ScheduleRun {
 
     ghost some_answer = { an_event_answer };
 
-    fn answer<K: Sink>(&mut self, alloc: Global, line: &[u8], output: &mut Output<K>) -> bool {
-        print_line(&self.take(alloc, line), output);
+    fn answer<K: Sink>(
+        &mut self,
+        alloc: Global,
+        number: u64,
+        line: &[u8],
+        output: &mut Output<K>,
+    ) -> bool {
+        print_line(&self.take(alloc, number, line), output);
         true
     }
 
@@ -193,23 +190,23 @@ impl PrintJson for LineAnswer {
     }
 }
 
-/// Applies one line, after `lines` others, and returns its answer.
+/// Applies the line of this number, and returns its answer.
 fn take(
     alloc: Global,
     domain: &TrustDomain,
     machine: &mut Machine,
     ids: &mut Ids,
-    lines: u64,
+    number: u64,
     line: &[u8],
 ) -> LineAnswer
     requires domain { domain.now ≡ machine.old.domain }
-    requires lines { lines + 1 < 2 ^ 64 }
-    ensures line { (now : Scheduled) → now.machine ≡ machine.old → now.ids ≡ ids.old → now.lines ≡ lines
+    ensures domain { machine.new.domain ≡ machine.old.domain }
+    ensures line { (now : Scheduled) → now.machine ≡ machine.old → now.ids ≡ ids.old → number ≡ now.lines + 1
         → TakesEventLine domain.now now line.now (line_answer_json result) (is_lost result) machine.new ids.new }
 {
-    match read_event(alloc, domain, ids, line, lines + 1) {
+    match read_event(alloc, domain, ids, line, number) {
         Err(refusal) => LineAnswer::NotRead(refusal),
-        Ok(event) => apply(machine, event, lines + 1),
+        Ok(event) => apply(machine, event, number),
     }
 }
 

@@ -33,7 +33,7 @@ grew_after_call domain s t a = record {
   learnt = a.learnt;
 }
 
-grew_by_call : (domain : Bytes) (s t : Seated) (request : Request) (line : ℕ) (text : List ℕ) → AnswersCall domain s request line t text → Grew domain s t
+pub grew_by_call : (domain : Bytes) (s t : Seated) (request : Request) (line : ℕ) (text : List ℕ) → AnswersCall domain s request line t text → Grew domain s t
 grew_by_call domain s t request line text (replied q e o r) = grew_after_call domain s t e.after_call
 grew_by_call domain s t request line text (no_reply why q e o r) = grew_after_call domain s t e.after_call
 grew_by_call domain s t request line text (submitted outcome q a h i r) = grew_after_call domain s t a
@@ -41,7 +41,7 @@ grew_by_call domain s t request line text (submitted outcome q a h i r) = grew_a
 grew_to : (domain : Bytes) (s : Seated) (made next : Session) → next ≡ made → Grew domain s made.seat → Grew domain s next.seat
 grew_to domain s made next e a = subst (λ (x : Session). Grew domain s x.seat) (sym e) a
 
-pub grew_by_line : (domain : Bytes) (now next : Session) (line reply : List ℕ) → AnswersRequest domain now line next reply → Grew domain now.seat next.seat
+grew_by_line : (domain : Bytes) (now next : Session) (line reply : List ℕ) → AnswersRequest domain now line next reply → Grew domain now.seat next.seat
 grew_by_line domain now next line reply (refused fault e n r) = grew_to domain now.seat (session_skips now) next n (grew_same domain now.seat)
 grew_by_line domain now next line reply (not_read n r) = grew_to domain now.seat (session_skips now) next n (grew_same domain now.seat)
 grew_by_line domain now next line reply (spent request ids e l n r) = grew_to domain now.seat (asked now now.seat ids) next n (grew_same domain now.seat)

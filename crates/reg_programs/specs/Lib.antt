@@ -4,3 +4,4 @@ pub mod Programs
 pub mod Sessions
 pub mod SessionsPrivate
 pub mod Served
+pub mod Told

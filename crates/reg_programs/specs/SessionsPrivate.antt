@@ -18,6 +18,15 @@ use Rattle.reg_programs.specs.Sessions.{Session, session_skips, AnswersRequest, 
 pub a_request_answer : (domain : Bytes) (now : Session) (line : List ℕ) → (next : Session) × (reply : List ℕ) × AnswersRequest domain now line next reply
 a_request_answer domain now line = (session_skips now, as_line (no_memory_json (now.lines + 1)), not_read refl refl)
 
+-- the state that a session stores
+pub record SessionKept : Type 0 where
+  pub seat : Seated
+  pub ids : ChaCha
+
+-- it represents this state of a session after this number of lines
+abbrev pub SessionRepresents : SessionKept → ℕ → Session → Type 0
+SessionRepresents kept lines now = now ≡ record { seat = kept.seat; ids = kept.ids; lines = lines }
+
 -- The line has its answer already, which is printed as this text. A query has none before the seat answers it.
 abbrev pub HasText : Taken → List ℕ → Type 0
 HasText (Answered call answer) text = text ≡ answer_json call answer

@@ -7,6 +7,7 @@ ghost use Rattle.reg_programs.specs.declared.serve_fault.ServeFault.TheVariants.
 use crate::accept_fault::AcceptFault;
 use crate::queue::{Connection, Queue};
 use crate::serve_fault::ServeFault;
+use crate::server_counts::ServerCounts;
 use std::net::{OpenListener, TcpStream};
 use std::sync::Wait;
 use std::thread;
@@ -20,17 +21,19 @@ const MOST_SHORTAGES: u32 = 1_000;
 ///
 /// After an error of one connection it tries again, ten milliseconds later. It does the same after a shortage: once a connection
 /// was accepted, without a limit, because an end would lose the book; before that, at most 999 times in a row. Any other error
-/// ends it.
+/// ends it. `counts` has each connection and each error.
 pub(crate) fn accept_all<R: Wait + Clock, L: OpenListener<Stream = TcpStream> + Drop>(
     rt: &R,
     listener: L,
     queues: &[Queue],
     connections: u64,
+    counts: &ServerCounts,
 ) -> Result<(), ServeFault>
     requires { 0 < length queues.now }
 {
     for number in 0..connections {
-        let stream = next_stream(rt, &listener, number > 0)?;
+        let stream = next_stream(rt, &listener, number > 0, counts)?;
+        counts.accepted(rt);
         let queue = &queues[worker_of(number, queues.len())];
         let _ = queue.put(rt, Connection { number, stream });
     }
@@ -51,6 +54,7 @@ fn next_stream<R: Wait + Clock, L: OpenListener<Stream = TcpStream>>(
     rt: &R,
     listener: &L,
     has_accepted: bool,
+    counts: &ServerCounts,
 ) -> Result<TcpStream, ServeFault> {
     let mut shortages = 0;
     for _ in rt.forever() {
@@ -58,6 +62,7 @@ fn next_stream<R: Wait + Clock, L: OpenListener<Stream = TcpStream>>(
             Ok((stream, _)) => return Ok(stream),
             Err(error) => error,
         };
+        counts.failed(rt);
         shortages = shortages_after(AcceptFault::of(&error), shortages, has_accepted)?;
         thread::sleep(rt, Duration::from_millis(10));
     }

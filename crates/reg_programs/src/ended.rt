@@ -1,11 +1,12 @@
 //! How did a run end, and which exit status and text report it?
 
 ghost use Rattle.std.specs.Prelude.{◌≡◌};
-ghost use Rattle.reg_programs.specs.Ends.{ended_of, ended_of_server, exit_status_of, exit_message_of, exit_message_of_line};
+ghost use Rattle.reg_programs.specs.Ends.{ended_of, ended_of_line, ended_of_server, exit_status_of, exit_message_of, exit_message_of_line, stream_of};
 
-use crate::exit_message::ExitMessage;
+use crate::exit_message::{ExitMessage, Stream};
 use crate::serve_fault::ServeFault;
 use command_line::LineFault;
+use error_codes::Explanation;
 use line_engines::{RunEnd, RunFault};
 
 /// The end of a run.
@@ -29,6 +30,12 @@ pub enum Ended {
     Accept,
     /// A worker of the server got no seat.
     NoSeat,
+    /// The version was asked for.
+    Version,
+    /// The help was asked for by the program `help`. The text is the parser's.
+    Help(clap::Error),
+    /// A code was to be explained.
+    Explained(Explanation),
 }
 
 impl Ended {
@@ -43,7 +50,7 @@ impl Ended {
             Ok(Err(RunFault::Input)) => Ended::Input,
             Ok(Err(RunFault::Output)) => Ended::Output,
             Ok(Err(RunFault::NoMemory)) => Ended::NoMemory,
-            Err(fault) => Ended::Line(fault),
+            Err(fault) => ended_of_line(fault),
         }
     }
 
@@ -61,7 +68,25 @@ impl Ended {
         }
     }
 
-    /// Returns the text for standard error.
+    /// Returns the stream that gets the text.
+    pub fn stream(&self) -> Stream
+        ensures { result ≡ stream_of self.now }
+    {
+        match self {
+            Ended::Version | Ended::Help(_) | Ended::Explained(_) => Stream::Output,
+            Ended::Done
+            | Ended::Denied
+            | Ended::Line(_)
+            | Ended::Input
+            | Ended::Output
+            | Ended::NoMemory
+            | Ended::Listen
+            | Ended::Accept
+            | Ended::NoSeat => Stream::Error,
+        }
+    }
+
+    /// Returns the text.
     pub fn exit_message(self) -> ExitMessage<clap::Error>
         ensures { result ≡ exit_message_of self }
     {
@@ -74,7 +99,20 @@ impl Ended {
             Ended::Listen => ExitMessage::Listen,
             Ended::Accept => ExitMessage::Accept,
             Ended::NoSeat => ExitMessage::NoSeat,
+            Ended::Version => ExitMessage::Version,
+            Ended::Help(error) => ExitMessage::Parser(error),
+            Ended::Explained(explanation) => ExitMessage::Explanation(explanation),
         }
+    }
+}
+
+/// Returns the end after an invalid command line, or one that asks for the version.
+fn ended_of_line(fault: LineFault) -> Ended
+    ensures { result ≡ ended_of_line fault }
+{
+    match fault {
+        LineFault::Version => Ended::Version,
+        fault => Ended::Line(fault),
     }
 }
 
@@ -84,22 +122,24 @@ fn exit_message_of_fault(fault: LineFault) -> ExitMessage<clap::Error>
 {
     match fault {
         LineFault::Refused(error) => ExitMessage::Parser(error),
+        LineFault::Version => ExitMessage::Version,
         LineFault::Domain(refusal) => ExitMessage::Domain(refusal),
         LineFault::Seed => ExitMessage::Seed,
         LineFault::Address => ExitMessage::Address,
         LineFault::Number => ExitMessage::Number,
+        LineFault::Code => ExitMessage::Code,
         LineFault::NotText => ExitMessage::NotText,
         LineFault::NoMemory => ExitMessage::NoMemory,
     }
 }
 
-/// Returns the exit status: 0 if everything was done, 3 if an audit found a fault, 2 for an invalid command line, 1 for any other
+/// Returns the exit status: 0 if everything was done or a text was asked for, 3 if an audit found a fault, 2 for an invalid command line, 1 for any other
 /// end.
 pub fn status(ended: &Ended) -> u8
     ensures { result ≡ exit_status_of ended.now }
 {
     match ended {
-        Ended::Done => 0,
+        Ended::Done | Ended::Version | Ended::Help(_) | Ended::Explained(_) => 0,
         Ended::Denied => 3,
         Ended::Line(LineFault::NoMemory) => 1,
         Ended::Line(_) => 2,

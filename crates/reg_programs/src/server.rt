@@ -10,19 +10,25 @@ ghost use Rattle.reg_programs.specs.declared.serve_fault.ServeFault.TheVariants.
 use crate::acceptor::accept_all;
 use crate::queue::{Connection, Queue, close_all, queues_of};
 use crate::serve_fault::ServeFault;
+use crate::server_counts::ServerCounts;
+use crate::server_log::{write_lines, write_start};
 use crate::session_engine::session;
 use command_line::ServerPlan;
 use line_devices::{CountedDevice, Input, Output};
 use shared_registry::{NewHistory, Registry, RegistryId, Seat, one_list};
 use spiffe_name::TrustDomain;
 use std::alloc::Global;
+use std::io::Eprint;
 use std::marker::Brand;
 use std::net::{Net, OpenListener, SocketAddr, TcpListener, TcpStream};
 use std::snapshot::Snapshot;
 use std::sync::Wait;
 use std::thread::{Promise, PromisedHandle, Threads};
-use std::time::Clock;
+use std::time::{Clock, Duration};
 use std::{io, thread};
+
+/// The longest time between two lines of a server without a last connection, in seconds: an hour.
+const LINE_SECONDS: u64 = 3_600;
 
 /// The parameters of a server.
 #[derive(Clone, Copy)]
@@ -31,7 +37,7 @@ pub struct Server<'a> {
     pub domain: &'a TrustDomain,
     /// The seed of the ids of creates that come without one. Those of connection j, counted from 0, get the ids of its stream j.
     pub seed: [u8; 32],
-    /// Where it listens, how many workers it has, and how many connections it serves.
+    /// Where it listens, how many workers it has, and how many connections it serves, if it has a last one.
     pub plan: ServerPlan,
 }
 
@@ -48,6 +54,8 @@ pub struct ServerContext<'a, J: RegistryId, R> {
     pub domain: &'a TrustDomain,
     /// The seed of the ids, as in [`Server`].
     pub seed: [u8; 32],
+    /// What the server has done so far.
+    pub counts: &'a ServerCounts,
     pub ghost own_domain: { domain.now ≡ J.domain },
 }
 
@@ -55,11 +63,20 @@ pub struct ServerContext<'a, J: RegistryId, R> {
 /// book, and returns when the last one has ended. Connection j, counted from 0, goes to worker j mod N of N. A worker has one
 /// seat, and serves its connections one after another.
 ///
+/// Without a planned number there is no last connection. Then it writes to standard error a line at the start, one with counts
+/// each hour, one while `accept` fails, and one at the end.
+///
 /// The contract says nothing about the bytes of a connection; `session` has a contract over devices with known bytes. The
 /// function waits for connections and for their bytes, and isn't guaranteed to return. The error is why the server ended before
 /// its last connection did.
 pub fn serve<
-    R: Threads + Wait + Clock + Print + Net<Listener = TcpListener, Stream = TcpStream> + Sync,
+    R: Threads
+        + Wait
+        + Clock
+        + Print
+        + Eprint
+        + Net<Listener = TcpListener, Stream = TcpStream>
+        + Sync,
 >(rt: &R, alloc: Global, server: Server<'_>) -> Result<(), ServeFault>
     requires { 0 < server.plan.workers }
 {
@@ -70,7 +87,13 @@ pub fn serve<
 /// Serves the connections through a registry of this history. `registry_domain` is a copy of the trust domain, which the registry owns.
 fn serve_registry<
     J: RegistryId + Send + Sync,
-    R: Threads + Wait + Clock + Print + Net<Listener = TcpListener, Stream = TcpStream> + Sync,
+    R: Threads
+        + Wait
+        + Clock
+        + Print
+        + Eprint
+        + Net<Listener = TcpListener, Stream = TcpStream>
+        + Sync,
 >(
     rt: &R,
     alloc: Global,
@@ -90,12 +113,14 @@ fn serve_registry<
         registry_domain,
         plan.workers as usize,
     )?;
+    let counts = ServerCounts::new();
     let context = ServerContext {
         rt,
         alloc,
         registry: &registry,
         domain,
         seed,
+        counts: &counts,
     };
     let served = listen(&context, plan);
     registry.close(rt);
@@ -105,7 +130,13 @@ fn serve_registry<
 /// Serves the connections to the address of the plan.
 fn listen<
     J: RegistryId + Send + Sync,
-    R: Threads + Wait + Clock + Print + Net<Listener = TcpListener, Stream = TcpStream> + Sync,
+    R: Threads
+        + Wait
+        + Clock
+        + Print
+        + Eprint
+        + Net<Listener = TcpListener, Stream = TcpStream>
+        + Sync,
 >(context: &ServerContext<'_, J, R>, plan: ServerPlan) -> Result<(), ServeFault>
     requires { 0 < plan.workers }
 {
@@ -122,14 +153,43 @@ fn listen<
     if announce(rt, address).is_err() {
         return Err(ServeFault::Output);
     }
-    let (_seats, served) = serve_connections(
-        context,
-        seats,
-        queues.as_slice(),
-        listener,
-        plan.connections as u64,
-    );
-    served
+    match plan.connections {
+        Some(connections) => {
+            let connections = connections as u64;
+            serve_connections(context, seats, queues.as_slice(), listener, connections).1
+        }
+        None => serve_on(context, seats, queues.as_slice(), listener, address),
+    }
+}
+
+/// Serves connections without a last one, and writes to standard error what happens. (After 2^64 - 1 connections it would end.)
+fn serve_on<
+    J: RegistryId + Send + Sync,
+    R: Threads + Wait + Clock + Eprint + Sync,
+    L: OpenListener<Stream = TcpStream> + Drop,
+>(
+    context: &ServerContext<'_, J, R>,
+    seats: Vec<Seat<J>>,
+    queues: &[Queue],
+    listener: L,
+    address: SocketAddr,
+) -> Result<(), ServeFault>
+    requires workers { 0 < length queues.now }
+    requires seats { vec_len seats ≡ length queues.now }
+{
+    let (rt, counts) = (context.rt, context.counts);
+    // if standard error fails, there is no way left to report it
+    let _ = write_start(rt, context.domain, address, queues.len());
+    // if there is no further thread, the lines are written last
+    thread::join(
+        rt,
+        || write_lines(rt, counts, Duration::from_secs(LINE_SECONDS)),
+        ||
+            requires workers { 0 < length queues.now }
+            requires seats { vec_len seats ≡ length queues.now }
+        { serve_connections(context, seats, queues, listener, u64::MAX).1 },
+    )
+    .1
 }
 
 /// Makes a seat for each of the workers. It waits for the registry's lock. The error is `NoSeat`, or `NoMemory`.
@@ -183,6 +243,7 @@ pub fn serve_connections<
     ensures one_list { HaveSeenOneList (vec_items result.0) }
 {
     let (seats, served) = serve_by_workers(context, seats, queues, listener, connections);
+    context.counts.close(context.rt);
     all_agree(seats.as_slice());
     (seats, served)
 }
@@ -234,7 +295,7 @@ fn serve_by_workers<
                     unreachable!()
                 };
             }
-            let accepted = accept_all(rt, listener, queues, connections);
+            let accepted = accept_all(rt, listener, queues, connections, context.counts);
             close_all(rt, queues);
             (seats_at_end(rt, workers, left), accepted)
         },
@@ -300,7 +361,10 @@ fn work<J: RegistryId, R: Wait>(
         let Some(connection) = queue.take(context.rt) else {
             break
         };
+        context.counts.begun(context.rt);
         seat = attend(context, seat, &connection);
+        drop(connection);
+        context.counts.ended(context.rt);
     }
     seat
 }

@@ -51,13 +51,12 @@ pub fn session<J: RegistryId, R: Wait, S: Source, K: Sink>(
         domain,
         seat,
         ids,
-        lines: 0,
     };
     let ran = run_lines(alloc, &mut run, input, output);
     (run.into_seat(), ran)
 }
 
-/// A seat that answers lines, the ids that it gives, and the number of lines that were read.
+/// A seat that answers lines, and the ids that it gives.
 #[derive(Drop)]
 struct SessionRun<'a, J: RegistryId, R: Wait> {
     rt: &'a R,
@@ -65,16 +64,15 @@ struct SessionRun<'a, J: RegistryId, R: Wait> {
     domain: &'a TrustDomain,
     seat: Seat<J>,
     ids: Ids,
-    lines: u64,
 }
 
 impl<'a, J: RegistryId, R: Wait> Model for SessionRun<'a, J, R> {
     ghost use Rattle.std.specs.Prelude.{◌≡◌};
-    ghost use Rattle.reg_programs.specs.Sessions.{Session};
+    ghost use Rattle.reg_programs.specs.SessionsPrivate.{SessionKept};
 
-    ghost Value = { Session };
+    ghost Value = { SessionKept };
 
-    ghost view = { λ r. record { seat = r.seat; ids = r.ids; lines = r.lines } };
+    ghost view = { λ r. record { seat = r.seat; ids = r.ids } };
 
     ghost invariant = { λ r. r.domain.now ≡ J.domain };
 }
@@ -93,7 +91,7 @@ impl<'a, J: RegistryId, R: Wait> SessionRun<'a, J, R> {
 impl<'a, J: RegistryId, R: Wait> LineHandler for SessionRun<'a, J, R> {
     ghost use Rattle.std.specs.Prelude.{◌≡◌, ⊤, [], false};
     ghost use Rattle.reg_programs.specs.Sessions.{AnswersRequest, Grew, Session};
-    ghost use Rattle.reg_programs.specs.SessionsPrivate.{a_request_answer};
+    ghost use Rattle.reg_programs.specs.SessionsPrivate.{SessionRepresents, a_request_answer};
 
     ghost State = { Session };
 
@@ -101,9 +99,7 @@ impl<'a, J: RegistryId, R: Wait> LineHandler for SessionRun<'a, J, R> {
 
     ghost setting = { λ _. tt };
 
-    ghost represents = { λ r s. s ≡ r };
-
-    ghost lines = { λ r. r.lines };
+    ghost represents = { SessionRepresents };
 
     ghost preserves = { λ first r. Grew J.domain first.seat r.seat };
 
@@ -117,7 +113,13 @@ impl<'a, J: RegistryId, R: Wait> LineHandler for SessionRun<'a, J, R> {
 
     ghost some_answer = { λ _. a_request_answer J.domain };
 
-    fn answer<K: Sink>(&mut self, alloc: Global, line: &[u8], output: &mut Output<K>) -> bool {
+    fn answer<K: Sink>(
+        &mut self,
+        alloc: Global,
+        number: u64,
+        line: &[u8],
+        output: &mut Output<K>,
+    ) -> bool {
         let taken = take(
             self.rt,
             alloc,
@@ -125,10 +127,9 @@ impl<'a, J: RegistryId, R: Wait> LineHandler for SessionRun<'a, J, R> {
             self.domain,
             &mut self.seat,
             &mut self.ids,
-            self.lines,
+            number,
             line,
         );
-        self.lines += 1;
         print_taken(&mut self.seat, &taken, output);
         true
     }
@@ -195,7 +196,7 @@ fn print_taken<J: RegistryId, K: Sink>(seat: &mut Seat<J>, taken: &Taken, output
     }
 }
 
-/// Takes one line, after `lines` others, and returns the result.
+/// Takes the line of this number, and returns the result.
 fn take<J: RegistryId, R: Wait>(
     rt: &R,
     alloc: Global,
@@ -203,23 +204,23 @@ fn take<J: RegistryId, R: Wait>(
     domain: &TrustDomain,
     seat: &mut Seat<J>,
     ids: &mut Ids,
-    lines: u64,
+    number: u64,
     line: &[u8],
 ) -> Taken
     requires domain { domain.now ≡ J.domain }
-    requires lines { lines + 1 < 2 ^ 64 }
     ensures asked { IsToAnswer J.domain seat.new result }
-    ensures line { (printed : Seated) (text : List ℕ) → IsPrinted seat.new result printed text
+    ensures grew { (printed : Seated) (text : List ℕ) → IsPrinted seat.new result printed text → Grew J.domain seat.old printed }
+    ensures line { (lines : ℕ) (printed : Seated) (text : List ℕ) → number ≡ lines + 1 → IsPrinted seat.new result printed text
         → TakesRequestLine J.domain (record { seat = seat.old; ids = ids.old; lines = lines }) line.now text printed ids.new }
 {
-    match read_request(alloc, domain, ids, line, lines + 1) {
+    match read_request(alloc, domain, ids, line, number) {
         Err(refusal) => Taken::NotRead(refusal),
         Ok(request) => {
             if seat.has_calls() {
-                call(rt, registry, seat, request, lines + 1)
+                call(rt, registry, seat, request, number)
             } else {
                 Taken::NotAnswered(SeatRefused {
-                    line: lines + 1,
+                    line: number,
                     refusal: SeatRefusal::Spent,
                 })
             }

@@ -47,6 +47,7 @@ fn plan_of(errors: &[i32], connections: u64) -> Plan<'_>
         connections,
         errors,
         waits: true,
+        line_time: None,
     }
 }
 

@@ -10,6 +10,7 @@ use command_line::ServerPlan;
 use reg_programs::{ServeFault, Server, serve};
 use spiffe_name::TrustDomain;
 use std::alloc::Global;
+use std::io::Eprint;
 use std::net::{Ipv4Addr, Net, SocketAddr, SocketAddrV4, TcpListener, TcpStream};
 use std::process::Abort;
 use std::sync::Wait;
@@ -50,7 +51,7 @@ fn plan_of(workers: u16, connections: u16) -> ServerPlan
     ServerPlan {
         listen: SocketAddrV4::new(Ipv4Addr::LOCALHOST, 0),
         workers,
-        connections,
+        connections: Some(connections),
     }
 }
 
@@ -90,7 +91,13 @@ fn answers_of<R: Wait + Clock + Net<Listener = TcpListener, Stream = TcpStream>>
 
 /// Runs a server with this plan, and a seed of ones.
 fn serve_by<
-    R: Threads + Wait + Clock + Print + Net<Listener = TcpListener, Stream = TcpStream> + Sync,
+    R: Threads
+        + Wait
+        + Clock
+        + Print
+        + Eprint
+        + Net<Listener = TcpListener, Stream = TcpStream>
+        + Sync,
 >(rt: &R, alloc: Global, plan: ServerPlan) -> Result<Result<(), ServeFault>, Fail>
     requires { 0 < plan.workers }
 {
@@ -103,7 +110,7 @@ fn serve_by<
     Ok(serve(rt, alloc, server))
 }
 
-/// Asserts that a server with this plan prints the address of its listener, and what its clients get there.
+/// Asserts that a server with this plan prints the address of its listener and nothing on standard error, and what its clients get.
 fn is_announced<
     R: Abort + Threads + Wait + Clock + Net<Listener = TcpListener, Stream = TcpStream> + Sync,
 >(rt: &R, alloc: Global, plan: ServerPlan, clients: Clients, answer: &str) -> Result<(), Fail>
@@ -124,6 +131,7 @@ fn is_announced<
         return Err(Fail::from("no listener"));
     };
     holds(rt, address.port() != 0, "a port was chosen");
+    holds(rt, !watched.has_logged(), "nothing on standard error");
     let expected = format!(in alloc; "{{\"listening\":\"{address}\"}}\n")?;
     let printed = watched.into_printed();
     is_text(rt, printed.as_str(), expected.as_str(), "what is printed");
@@ -151,7 +159,7 @@ fn a_server_whose_port_is_in_use_ends(rt: HostRuntime) -> Result<(), Fail> {
     let plan = ServerPlan {
         listen,
         workers: 1,
-        connections: 1,
+        connections: Some(1),
     };
     let served = serve_by(&rt, rt.alloc(), plan)?;
     holds(&rt, served == Err(ServeFault::Listen), "it can't listen");

@@ -1,9 +1,11 @@
 //! Command lines and what `regd` writes about them, word for word.
 
 use crate::wanted::{holds, is_text};
-use command_line::{LineFault, Program, ServerPlan, Settings, a_line_gives_its_domain};
+use command_line::{
+    LineFault, Program, ServerPlan, Settings, a_line_gives_its_domain, a_line_without_a_book,
+};
 use line_engines::{RunEnd, RunFault};
-use reg_programs::{Ended, ServeFault, status};
+use reg_programs::{Ended, ServeFault, Stream, status, told};
 use spiffe_name::IdRefusal;
 use std::alloc::Global;
 use std::fmt::Display;
@@ -19,12 +21,16 @@ pub fn words_of<'a>(alloc: Global, line: &'a str) -> Result<Vec<&'a str>, Fail> 
     Ok(words)
 }
 
-/// The status of an end, and its text with `$` for each line feed.
+/// The status of an end, and its text with `$` for each line feed, after a `>` if it goes to standard output.
 fn exit_message_of(alloc: Global, ended: Ended) -> Result<String, Fail> {
     let code = status(&ended);
+    let stream = match ended.stream() {
+        Stream::Output => ">",
+        Stream::Error => "",
+    };
     let text = ended.exit_message().to_string(alloc)?;
     let text = text.replace(alloc, "\n", "$")?;
-    Ok(format!(in alloc; "{code} {text}")?)
+    Ok(format!(in alloc; "{code} {stream}{text}")?)
 }
 
 /// A program, and the word for it on a command line.
@@ -36,6 +42,9 @@ fn program_text(alloc: Global, program: Program) -> Result<String, Fail> {
         Program::Record => "record",
         Program::Audit => "audit",
         Program::Serve => "serve",
+        Program::Explain => "explain",
+        Program::Version => "version",
+        Program::Help => "help",
     };
     Ok(format!(in alloc; "{program} by {name}")?)
 }
@@ -49,12 +58,17 @@ fn settings_text(alloc: Global, settings: &Settings) -> Result<String, Fail> {
             workers,
             connections,
         } = plan;
-        return Ok(format!(in alloc; "{listen} {workers} {connections}")?);
+        return match connections {
+            Some(connections) => Ok(format!(in alloc; "{listen} {workers} {connections}")?),
+            None => Ok(format!(in alloc; "{listen} {workers} and no last one")?),
+        };
     }
     let [.., last] = settings.seed();
     let program = program_text(alloc, settings.program())?;
-    let domain = settings.domain();
-    Ok(format!(in alloc; "{program} {domain} {last}")?)
+    match settings.domain() {
+        Some(domain) => Ok(format!(in alloc; "{program} {domain} {last}")?),
+        None => Ok(program),
+    }
 }
 
 /// The settings of a command line, or what `regd` writes about it.
@@ -172,6 +186,7 @@ fn the_parser_refuses_every_other_word(rt: HostRuntime) -> Result<(), Fail> {
 }
 
 const SERVERS: &str = "
+regd|serve|--domain|ex.org|--listen|127.0.0.1:0|--workers|2 => 127.0.0.1:0 2 and no last one
 regd|serve|--domain|ex.org|--connections|1|--listen|127.0.0.1:0|--workers|1 => 127.0.0.1:0 1 1
 regd|serve|--domain|ex.org|--connections|65535|--listen|0.0.0.0:65535|--workers|32 => 0.0.0.0:65535 32 65535
 regd|serve|--domain|ex.org|--connections|1|--listen|localhost:80|--workers|1 => 2 regd: listen$
@@ -202,6 +217,63 @@ fn the_first_fault_of_a_server_is_reported(rt: HostRuntime) -> Result<(), Fail> 
     have_exit_messages(&rt, rt.alloc(), FAULTS_OF_SERVERS)
 }
 
+/// The programs without a book, and words that look like theirs.
+const WITHOUT_A_BOOK: &str = "
+regd|explain|L5 => explain by explain
+regd|explain|L5|expiry => explain by explain
+regd|version => version by version
+regd|help => help by help
+regd|--version => 0 >regd 1.0+unreleased$logic *
+regd|-V => 0 >regd 1.0+unreleased$logic *
+regd|explain => 2 error: the following required arguments were not provided:$  <CODE>$*
+regd|explain|l5 => 2 regd: explain: no code has this name$
+regd|explain|L9 => 2 regd: explain: no code has this name$
+regd|explain|L5|expiry|op => 2 error: unexpected argument 'op' found$*
+regd|version|--domain|ex.org => 2 error: unexpected argument '--domain' found$*
+regd|help|plain => 2 error: unexpected argument 'plain' found$*
+regd|plain|--version => 2 error: unexpected argument '--version' found$*
+";
+
+#[test]
+fn a_program_without_a_book_takes_no_domain(rt: HostRuntime) -> Result<(), Fail> {
+    a_line_without_a_book();
+    have_exit_messages(&rt, rt.alloc(), WITHOUT_A_BOOK)
+}
+
+/// The end of a program without a book.
+fn told_by(alloc: Global, line: &str) -> Result<String, Fail> {
+    let words = words_of(alloc, line)?;
+    let Ok(settings) = Settings::from_words(alloc, &words) else {
+        return Err(Fail::from("no settings"));
+    };
+    if settings.program().has_book() {
+        return Err(Fail::from("a book"));
+    }
+    exit_message_of(alloc, told(alloc, settings))
+}
+
+/// Asserts, for each line of the table, the status and the text of the program: all of it, or the text before a `*`.
+fn are_told(rt: &impl Abort, alloc: Global, table: &str) -> Result<(), Fail> {
+    for case in table.lines() {
+        if let Some((line, expected)) = case.split_once(" => ") {
+            let text = told_by(alloc, line)?;
+            is_or_begins(rt, text.as_str(), expected);
+        }
+    }
+    Ok(())
+}
+
+const TOLD: &str = "
+regd|version => 0 >regd 1.0+unreleased$logic *
+regd|help => 0 >A workload registration server$$Usage: regd <COMMAND>$*
+regd|explain|L4 => 0 >L4: the line is JSON, but not an object$Likely cause: *
+";
+
+#[test]
+fn a_program_without_a_book_prints_its_text(rt: HostRuntime) -> Result<(), Fail> {
+    are_told(&rt, rt.alloc(), TOLD)
+}
+
 /// The end that this word names.
 fn end(word: &str) -> Result<Ended, Fail> {
     match word {
@@ -214,6 +286,8 @@ fn end(word: &str) -> Result<Ended, Fail> {
         "domain" => Ok(Ended::of(Err(LineFault::Domain(IdRefusal::DomainTooLong)))),
         "seed" => Ok(Ended::of(Err(LineFault::Seed))),
         "address" => Ok(Ended::of(Err(LineFault::Address))),
+        "version" => Ok(Ended::of(Err(LineFault::Version))),
+        "code" => Ok(Ended::of(Err(LineFault::Code))),
         "not-text" => Ok(Ended::of(Err(LineFault::NotText))),
         "line-memory" => Ok(Ended::of(Err(LineFault::NoMemory))),
         _ => end_of_server(word),
@@ -254,6 +328,8 @@ memory => 1 regd: out of memory$
 domain => 2 regd: domain I4$
 seed => 2 regd: seed$
 address => 2 regd: listen$
+version => 0 >regd 1.0+unreleased$logic dac8208d650f15bf$
+code => 2 regd: explain: no code has this name$
 not-text => 2 regd: a word isn't UTF-8$
 line-memory => 1 regd: out of memory$
 ";
@@ -331,6 +407,7 @@ fn a_fault_is_reported_by_its_own_text(rt: HostRuntime) -> Result<(), Fail> {
     line_has_its_message(&rt, rt.alloc(), 2, LineFault::Seed)?;
     line_has_its_message(&rt, rt.alloc(), 2, LineFault::Address)?;
     line_has_its_message(&rt, rt.alloc(), 2, LineFault::Number)?;
+    line_has_its_message(&rt, rt.alloc(), 2, LineFault::Code)?;
     line_has_its_message(&rt, rt.alloc(), 2, LineFault::NotText)?;
     line_has_its_message(&rt, rt.alloc(), 1, LineFault::NoMemory)?;
     for fault in [RunFault::Input, RunFault::Output, RunFault::NoMemory] {

@@ -3,11 +3,14 @@
 ghost use Rattle.std.specs.Prelude.{◌≡◌, ◌<◌, length, vec_len};
 
 use crate::staged::{Staged, TURNS, Watched, become_closed};
-use reg_programs::{Queue, ServeFault, ServerContext, queues_of, seats_of, serve_connections};
+use reg_programs::{
+    Counts, Queue, ServeFault, ServerContext, ServerCounts, queues_of, seats_of, serve_connections,
+    write_lines,
+};
 use shared_registry::{NewHistory, Registry, RegistryId, Seat};
 use spiffe_name::TrustDomain;
 use std::alloc::Global;
-use std::io::{Read, Write};
+use std::io::{Eprint, Read, Write};
 use std::marker::Brand;
 use std::net::{Ipv4Addr, Net, Shutdown, SocketAddr, SocketAddrV4, TcpListener, TcpStream};
 use std::sync::Wait;
@@ -26,6 +29,8 @@ pub struct Plan<'a> {
     pub errors: &'a [i32],
     /// Whether all workers sleep before each call of `accept` returns.
     pub waits: bool,
+    /// The time after which a line is written to standard error, if lines are written.
+    pub line_time: Option<Duration>,
 }
 
 /// The result of a server.
@@ -40,6 +45,10 @@ pub struct Hosted {
     pub pauses: u64,
     /// The commit number that each seat has seen at the end, in the order of the workers.
     pub places: Vec<u64>,
+    /// What the server has done.
+    pub counts: Counts,
+    /// What was written to standard error.
+    pub logged: String,
 }
 
 /// The clients of a server.
@@ -185,7 +194,7 @@ fn answers_of<R: Wait + Clock + Net<Listener = TcpListener, Stream = TcpStream>,
 /// Runs a server with a book of its own, and its clients.
 pub fn host<
     R: Threads + Wait + Clock + Net<Listener = TcpListener, Stream = TcpStream> + Sync,
-    C: Callers,
+    C: Callers + Sync,
 >(rt: &R, alloc: Global, plan: Plan<'_>, callers: &C) -> Result<Hosted, Fail>
     requires workers { 0 < plan.workers }
 {
@@ -197,7 +206,7 @@ pub fn host<
 fn host_by<
     J: RegistryId + Send + Sync,
     R: Threads + Wait + Clock + Net<Listener = TcpListener, Stream = TcpStream> + Sync,
-    C: Callers,
+    C: Callers + Sync,
 >(
     rt: &R,
     alloc: Global,
@@ -222,7 +231,7 @@ fn on_a_port<
     'x,
     J: RegistryId + Send + Sync,
     R: Threads + Wait + Clock + Net<Listener = TcpListener, Stream = TcpStream> + Sync,
-    C: Callers,
+    C: Callers + Sync,
 >(
     rt: &R,
     alloc: Global,
@@ -252,22 +261,32 @@ fn on_a_port<
     )
 }
 
+/// Writes the lines of a server to standard error, if lines are written.
+fn log_of<J: RegistryId, R: Wait + Clock + Eprint>(
+    context: &ServerContext<'_, J, R>,
+    time: Option<Duration>,
+) {
+    if let Some(time) = time {
+        write_lines(context.rt, context.counts, time);
+    }
+}
+
 /// Runs the server and its clients concurrently.
 fn both<
     'x,
     J: RegistryId + Send + Sync,
     R: Threads + Wait + Clock + Net<Listener = TcpListener, Stream = TcpStream> + Sync,
-    C: Callers,
+    C: Callers + Sync,
 >(
-    rt: &R,
+    rt: &'x R,
     alloc: Global,
     registry: &'x Registry<J>,
     domain: &'x TrustDomain,
     seats: Vec<Seat<J>>,
-    queues: &[Queue],
+    queues: &'x [Queue],
     real: TcpListener,
-    plan: Plan<'_>,
-    callers: &C,
+    plan: Plan<'x>,
+    callers: &'x C,
 ) -> Result<Hosted, Fail>
     requires domain { domain.now ≡ J.domain }
     requires workers { 0 < length queues.now }
@@ -275,12 +294,14 @@ fn both<
 {
     let address = real.local_addr()?;
     let watched = Watched::new(rt, alloc, false);
+    let counts = ServerCounts::new();
     let context = ServerContext {
         rt: &watched,
         alloc,
         registry,
         domain,
         seed: [0; 32],
+        counts: &counts,
     };
     let shared = &context;
     let calls = AtomicU64::new(0);
@@ -293,13 +314,20 @@ fn both<
         calls: &calls,
     };
     let connections = plan.connections;
-    let ((seats, ended), answers) = thread::join(
+    let line_time = plan.line_time;
+    let ((seats, ended), (answers, ())) = thread::join(
         rt,
         ||
             requires workers { 0 < length queues.now }
             requires seats { vec_len seats ≡ length queues.now }
         { serve_connections(shared, seats, queues, listener, connections) },
-        || answers_of(rt, alloc, address, queues, callers),
+        || {
+            thread::join(
+                rt,
+                || answers_of(rt, alloc, address, queues, callers),
+                || log_of(shared, line_time),
+            )
+        },
     );
     let mut places = Vec::new(alloc);
     for seat in &seats {
@@ -311,5 +339,7 @@ fn both<
         accepts: calls.load(Ordering::SeqCst),
         pauses: watched.pauses(),
         places,
+        counts: counts.counts(rt),
+        logged: watched.into_logged(),
     })
 }

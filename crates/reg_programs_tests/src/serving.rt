@@ -63,7 +63,7 @@ const CREATED: &str =
 /// workers sleep before each connection is accepted.
 fn are_answered<
     R: Abort + Threads + Wait + Clock + Net<Listener = TcpListener, Stream = TcpStream> + Sync,
-    C: Callers,
+    C: Callers + Sync,
 >(
     rt: &R,
     alloc: Global,
@@ -80,6 +80,7 @@ fn are_answered<
         connections,
         errors: &[],
         waits,
+        line_time: None,
     };
     let hosted = host(rt, alloc, plan, callers)?;
     holds(rt, hosted.ended.is_ok(), "the server ends well");
@@ -158,7 +159,7 @@ fn a_connection_draws_ids_from_its_own_stream(rt: HostRuntime) -> Result<(), Fai
 /// Asserts what the seats of a server with these numbers of workers and connections have seen at its end.
 fn have_seen<
     R: Abort + Threads + Wait + Clock + Net<Listener = TcpListener, Stream = TcpStream> + Sync,
-    C: Callers,
+    C: Callers + Sync,
 >(
     rt: &R,
     alloc: Global,
@@ -174,6 +175,7 @@ fn have_seen<
         connections,
         errors: &[],
         waits: true,
+        line_time: None,
     };
     let hosted = host(rt, alloc, plan, callers)?;
     holds(rt, hosted.ended.is_ok(), "the server ends well");

@@ -3,6 +3,7 @@
 use reg_programs::{Queue, QueueState};
 use std::alloc::Global;
 use std::fmt::Display;
+use std::io::Eprint;
 use std::net::{Net, OpenListener, SocketAddr, TcpListener, TcpStream};
 use std::sync::atomic::{AtomicU64, Ordering};
 use std::sync::{Mutex, Wait};
@@ -99,7 +100,7 @@ impl<R: Wait + Clock> OpenListener for Staged<'_, R> {
     }
 }
 
-/// A runtime that counts pauses of ten milliseconds and makes none. It stores what is printed, and the address of the listener
+/// A runtime that counts pauses of ten milliseconds and makes none. It stores what is printed, what is written to standard error, and the address of the listener
 /// that was made last. If it is full, it can't print.
 #[derive(Drop)]
 pub struct Watched<'a, R> {
@@ -108,6 +109,7 @@ pub struct Watched<'a, R> {
     is_full: bool,
     pauses: AtomicU64,
     printed: Mutex<String>,
+    logged: Mutex<String>,
     bound: Mutex<Option<SocketAddr>>,
 }
 
@@ -119,6 +121,7 @@ impl<'a, R> Watched<'a, R> {
             is_full,
             pauses: AtomicU64::new(0),
             printed: Mutex::new(String::new(alloc)),
+            logged: Mutex::new(String::new(alloc)),
             bound: Mutex::new(None),
         }
     }
@@ -132,6 +135,11 @@ impl<'a, R> Watched<'a, R> {
     pub fn into_printed(self) -> String {
         self.printed.into_inner()
     }
+
+    /// What was written to standard error, at the end.
+    pub fn into_logged(self) -> String {
+        self.logged.into_inner()
+    }
 }
 
 impl<R: Wait> Watched<'_, R> {
@@ -143,6 +151,19 @@ impl<R: Wait> Watched<'_, R> {
     /// Returns true if something was printed.
     pub fn has_printed(&self) -> bool {
         !self.printed.lock(self.rt).is_empty()
+    }
+
+    /// Returns true if something was written to standard error.
+    pub fn has_logged(&self) -> bool {
+        !self.logged.lock(self.rt).is_empty()
+    }
+
+    /// Appends a text and an end to what is written to standard error.
+    fn log(&self, text: &str, end: &str) -> io::Result<()> {
+        let mut logged = self.logged.lock(self.rt);
+        logged.push_str(text)?;
+        logged.push_str(end)?;
+        Ok(())
     }
 
     /// Appends a text and an end to what is printed.
@@ -188,6 +209,16 @@ impl<R: Wait> Print for Watched<'_, R> {
 
     fn write_all(&self, _bytes: &[u8]) -> io::Result<()> {
         Err(io::Error::from(io::ErrorKind::Unsupported))
+    }
+}
+
+impl<R: Wait> Eprint for Watched<'_, R> {
+    fn eprint<D: Display + Drop>(&self, value: D) -> io::Result<()> {
+        self.log(value.to_string(self.alloc)?.as_str(), "")
+    }
+
+    fn eprintln<D: Display + Drop>(&self, value: D) -> io::Result<()> {
+        self.log(value.to_string(self.alloc)?.as_str(), "\n")
     }
 }
 

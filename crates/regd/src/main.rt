@@ -1,17 +1,19 @@
 //! `regd`, a workload registration server.
 //!
 //! The process parses its words, runs the requested program over standard input and output or the network, and reports its end by
-//! standard error and the exit status. The programs are in `reg_programs`.
+//! a text on a standard stream and the exit status. The programs are in `reg_programs`.
 //!
 //! `docs/GLOSSARY.md` explains the terms.
 #![tactic(auto)]
 
-ghost use Rattle.std.specs.Prelude.{◌≡◌, ◌<◌, None};
+ghost use Rattle.std.specs.Prelude.{◌≡◌, ◌<◌, None, Some, true};
+ghost use Rattle.command_line.specs.CommandLine.{has_book};
 
 use command_line::{LineFault, ServerPlan, Settings};
 use line_devices::{CountedDevice, Input, Output};
 use line_engines::{RunEnd, RunFault};
-use reg_programs::{Ended, Server, run_settings, serve, status};
+use reg_programs::{Ended, Server, Stream, run_settings, serve, status, told};
+use std::io::Eprint;
 use std::net::{Net, TcpListener, TcpStream};
 use std::process::ExitCode;
 use std::rt::Env;
@@ -22,16 +24,54 @@ use std::{env, io};
 
 fn main(rt: HostRuntime) -> ExitCode {
     let ended = match settings_of_process(&rt) {
-        Ok(settings) => match settings.server() {
-            Some(plan) => serve_settings(&rt, settings, plan),
-            None => Ended::of(Ok(run_lines_of(&rt, settings))),
-        },
+        Ok(settings) => run(&rt, settings),
         Err(fault) => Ended::of(Err(fault)),
     };
+    ExitCode::from(report(&rt, ended))
+}
+
+/// Runs the requested program, and returns how it ended.
+fn run<
+    R: Threads
+        + Wait
+        + Clock
+        + io::Input
+        + Print
+        + Eprint
+        + Net<Listener = TcpListener, Stream = TcpStream>
+        + AllocGlobal
+        + Sync,
+>(rt: &R, settings: Settings) -> Ended {
+    if !settings.program().has_book() {
+        return told(rt.alloc(), settings);
+    }
+    match settings.server() {
+        Some(plan) => serve_settings(rt, settings, plan),
+        None => Ended::of(Ok(run_lines_of(rt, settings))),
+    }
+}
+
+/// Writes the text of the end to its stream, and returns the exit status. If a text that was asked for can't be written, that is
+/// the end.
+fn report<R: Print + Eprint>(rt: &R, ended: Ended) -> u8 {
+    let code = status(&ended);
+    match ended.stream() {
+        Stream::Output => {
+            if rt.print(ended.exit_message()).is_ok() {
+                return code;
+            }
+            report_error(rt, Ended::Output)
+        }
+        Stream::Error => report_error(rt, ended),
+    }
+}
+
+/// Writes the text of the end to standard error, and returns the exit status.
+fn report_error<R: Eprint>(rt: &R, ended: Ended) -> u8 {
     let code = status(&ended);
     // if standard error fails, there is no way left to report it
     let _ = rt.eprint(ended.exit_message());
-    ExitCode::from(code)
+    code
 }
 
 /// Runs the requested program over standard input and output, to the end of the input, and returns the result.
@@ -52,14 +92,19 @@ fn serve_settings<
         + Wait
         + Clock
         + Print
+        + Eprint
         + Net<Listener = TcpListener, Stream = TcpStream>
         + AllocGlobal
         + Sync,
 >(rt: &R, settings: Settings, plan: ServerPlan) -> Ended
-    requires { 0 < plan.workers }
+    requires book { has_book settings.program ≡ true }
+    requires workers { 0 < plan.workers }
 {
+    let Some(domain) = settings.domain() else {
+        unreachable!()
+    };
     let server = Server {
-        domain: settings.domain(),
+        domain,
         seed: settings.seed(),
         plan,
     };

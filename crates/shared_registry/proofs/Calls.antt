@@ -1,5 +1,5 @@
 -- The calls of a seat in a journal and in a prefix of it.
-use Rattle.std.proofs.Common.{◌≡◌, ℕ, ◌≤◌, ◌+◌, ◌==◌, Bool, true, false, cond, List, [], ◌∷◌, ◌++◌, length, refl, sym, ap, subst, ◌∙◌, arith, length-append}
+use Rattle.std.proofs.Common.{◌≡◌, ◌≢◌, ℕ, ◌≤◌, ◌+◌, ◌==◌, MatchBool, Bool, true, false, cond, List, [], ◌∷◌, ◌++◌, length, refl, sym, ap, subst, ◌∙◌, arith, length-append}
 use Rattle.std.proofs.lemmas.List.{append-nil}
 use Rattle.std.proofs.lemmas.Bool.Decides.{nat_tests}
 use mathlib.Core.List.{IsPrefix}
@@ -25,6 +25,12 @@ calls_same s xs ys p e =
     let whole : calls_of s ys ≡ calls_of s xs ++ calls_of s p.0 = ap (λ l. calls_of s l) (sym p.1) ∙ m in
     let n : length (calls_of s p.0) ≡ 0 = omega (arith, e, ap length whole, length-append (calls_of s xs) (calls_of s p.0)) in
     whole ∙ ap (λ w. calls_of s xs ++ w) (none_left (calls_of s p.0) n) ∙ append-nil (calls_of s xs)
+
+-- so that the counts of its calls tell whether it has others
+pub same_by_count : (s n k : ℕ) (xs ys : List Item) → IsPrefix xs ys → n ≡ length (calls_of s ys) → k ≡ length (calls_of s xs)
+    → (b : Bool) → (n == k) ≡ b → MatchBool b (calls_of s ys ≡ calls_of s xs) (calls_of s ys ≢ calls_of s xs)
+same_by_count s n k xs ys p m l true is = let same : n ≡ k = grind (arith, nat_tests) in calls_same s xs ys p (omega arith)
+same_by_count s n k xs ys p m l false is = λ e. let same = ap length e in let equal : n ≡ k = omega arith in grind (arith, nat_tests)
 
 pub below_more : (c d : ℕ) (xs : List ℕ) → c ≤ d → AllBelow c xs → AllBelow d xs
 below_more c d [] le b = tt

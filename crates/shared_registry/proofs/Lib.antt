@@ -1,6 +1,7 @@
-pub mod Adding
 pub mod Answered
+pub mod Appending
 pub mod Calls
+pub mod Cells
 pub mod Committing
 pub mod Counts
 pub mod Once

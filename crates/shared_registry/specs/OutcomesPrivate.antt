@@ -1,5 +1,5 @@
 -- One try of a batch of changes, and what its commit does under the lock. For this crate's own contracts.
-use Rattle.std.specs.Prelude.{◌≡◌, ℕ, ◌+◌, ◌≤◌, List, [], ◌∷◌, ◌++◌, length, Option, IsSome, Result, Ok, Err}
+use Rattle.std.specs.Prelude.{◌≡◌, ◌≢◌, ℕ, ◌+◌, ◌≤◌, List, [], ◌∷◌, ◌++◌, length, Option, IsSome, Result, Ok, Err}
 use mathlib.Core.List.{IsPrefix}
 use Rattle.entry_book.specs.declared.reply.ReplyOutcome.TheVariants as became
 use Rattle.entry_book.specs.declared.reply.Refusal.TheVariants.{Full}
@@ -14,6 +14,7 @@ use Rattle.shared_registry.specs.declared.outcome.Outcome.{Outcome}
 use Rattle.shared_registry.specs.declared.outcome.Outcome.TheVariants.{Committed, Refused, Conflict, NoMemory}
 use Rattle.shared_registry.specs.declared.seat.NoEntry.{NoEntry as NotAdmitted}
 use Rattle.shared_registry.specs.Seated.{Seated}
+use Rattle.shared_registry.specs.SeatCalls.{calls_of}
 use Rattle.shared_registry.specs.Outcomes.{IsOvertaken, IsSubmitted, HasSeenLearnt}
 
 -- the outcome is not a conflict
@@ -64,6 +65,10 @@ IsCommitThere log next s t w is.NoMemory = HasLooked log next s t
 abbrev pub IsCommitOutcome : List Item → List Item → Seated → Seated → Work → Result Commit NotAdmitted → Type 0
 IsCommitOutcome log next s t w (Ok commit) = IsCommitThere log next s t w commit
 IsCommitOutcome log next s t w (Err e) = (next ≡ log) × (t.seen ≡ s.seen) × (t.own ≡ s.own)
+
+-- the journal has items under the number of the seat that aren't the seat's own calls
+abbrev pub IsMisnumbered : List Item → Seated → Type 0
+IsMisnumbered journal s = calls_of s.number journal ≢ s.own
 
 -- for some journal before the commit and some journal after it
 pub record WasDecided (s t : Seated) (w : Work) (decided : Result Commit NotAdmitted) : Type 0 where

@@ -1,12 +1,12 @@
 //! How is a ready work committed under the lock?
 
-ghost use Rattle.std.specs.Prelude.{◌≡◌, ◌⊎◌, ◌<◌, ◌≤◌, ◌+◌, ◌++◌, ◌∷◌, [], drop, length, vec_capacity, IfOk};
+ghost use Rattle.std.specs.Prelude.{◌≡◌, ◌⊎◌, ◌<◌, ◌≤◌, ◌+◌, ◌++◌, ◌∷◌, [], drop, length, vec_capacity, IfErr, IfOk};
 ghost use mathlib.Core.List.{IsPrefix};
 ghost use Rattle.batch_work.specs.Windows.{pushed};
 ghost use Rattle.batch_work.specs.Working.{status_of};
 ghost use Rattle.commit_head.specs.Heads.{IsPreparedFor as IsNextOf, IsJournal, last_items};
 ghost use Rattle.shared_registry.specs.WriterStates.{IsPublished, IsTied};
-ghost use Rattle.shared_registry.specs.OutcomesPrivate.{HandsOut, IsCommitOutcome};
+ghost use Rattle.shared_registry.specs.OutcomesPrivate.{HandsOut, IsCommitOutcome, IsMisnumbered};
 ghost use Rattle.shared_registry.specs.Seated.{DuringCall};
 ghost use Rattle.shared_registry.specs.SeatCalls.{AllBelow};
 ghost use Rattle.shared_registry.specs.ShownPrivate.{IsCounted, IsOf, ShowsJournal};
@@ -128,14 +128,13 @@ fn snapshots<J: RegistryId>(
 }
 
 /// Lets the seat see all items so far, and commits the work as the seat's call, or returns why not. The commit takes effect
-/// when its item is added to the history; after that nothing is refused. After a commit the seat has the snapshot that was
+/// when its item is appended to the history; after that nothing is refused. After a commit the seat has the snapshot that was
 /// published for it. The snapshot that it had before is returned, to be dropped without the lock.
 pub(crate) fn decide<J: RegistryId, R: Wait>(
     rt: &R,
     alloc: Global,
-    history: &History<J>,
+    history: &mut History<J>,
     head: &mut Head,
-    last: &mut HistoryPrefix<J>,
     writer: PublishedWriter<J>,
     seat: &mut Seat<J>,
     work: &Work,
@@ -144,30 +143,34 @@ pub(crate) fn decide<J: RegistryId, R: Wait>(
     Result<Commit, NoEntry>,
     Option<PublishedValue>,
 )
-    requires tied { IsTied J.domain last.old head.old }
+    requires tied { IsTied J.domain history.old head.old }
     requires few { length head.old.kept < 4096 }
-    requires published { IsPublished J.history J.domain last.old writer.desk.shown.value }
+    requires published { IsPublished J.history J.domain history.old writer.desk.shown.value }
     requires clear { drop writer.behind writer.log.items ≡ [] }
     requires call { AllBelow seat.old.calls seat.old.own }
     requires ready { status_of work.now ≡ Status.Ready }
     requires read { IsRead J.domain seat.old.seen work.now.batch work.now }
-    ensures tied { IsTied J.domain last.new head.new }
-    ensures published { IsPublished J.history J.domain last.new result.0.desk.shown.value }
+    ensures tied { IsTied J.domain history.new head.new }
+    ensures published { IsPublished J.history J.domain history.new result.0.desk.shown.value }
     ensures clear { drop result.0.behind result.0.log.items ≡ [] }
     ensures during_call { DuringCall seat.old seat.new }
-    ensures decided { IsCommitOutcome last.old last.new seat.old seat.new work.now result.1 }
+    ensures decided { IsCommitOutcome history.old history.new seat.old seat.new work.now result.1 }
     ensures handed_out { HandsOut result.1 result.2 }
+    ensures no_entry { IfErr result.1 (λ _. IsMisnumbered history.old seat.old) }
 {
     let published = writer.published();
     let _window = published.window();
-    let _place = last.len();
-    if !seat.fits(published) {
+    let before_it = history.prefix();
+    let _place = before_it.len();
+    history.has_all(seat.prefix());
+    history.has_all(seat.learnt());
+    if !seat.has_own(published) {
         return (writer, Err(NoEntry), None);
     }
     let prepared = match head.prepare(seat.number(), seat.calls(), work) {
         Ok(prepared) => prepared,
         Err(refusal) => {
-            seat.see(last.again());
+            seat.see(before_it);
             return (writer, Ok(refusal), None);
         }
     };
@@ -177,19 +180,16 @@ pub(crate) fn decide<J: RegistryId, R: Wait>(
         &prepared,
         seat.number() as usize,
     ) else {
-        seat.see(last.again());
+        seat.see(before_it);
         return (writer, Ok(Commit::NoMemory), None);
     };
-    let mut prefix = last.again();
-    if !prefix.add(history, prepared.item()) {
-        return (writer, Err(NoEntry), None);
-    }
+    history.append(prepared.item());
+    let prefix = history.prefix();
     let (snapshot, own) = snapshots(&prefix, published_states);
     let writer = publish(rt, writer, snapshot);
-    seat.see(last.again());
-    seat.see_own(prefix.again(), prepared.item());
+    seat.see(before_it);
+    seat.see_own(prefix, prepared.item());
     let before = seat.replace_snapshot(own);
-    *last = prefix;
     let place = head.finish(prepared);
     (writer, Ok(Commit::Committed(place)), Some(before))
 }

@@ -1,19 +1,21 @@
-//! Which history do all threads share, and which prefix of it has been seen?
+//! Which history do all threads share, who may append to it, and which prefix of it has been seen?
 
-ghost use Rattle.std.specs.Prelude.{◌≡◌, ◌+◌, ◌==◌, ◌<◌, ◌≤◌, ◌^◌, ◌++◌, ◌∷◌, ◌⊎◌, [], length, MatchBool, IsTrue};
+ghost use Rattle.std.specs.Prelude.{◌≡◌, ◌+◌, ◌==◌, ◌<◌, ◌≤◌, ◌^◌, ◌++◌, ◌∷◌, ◌⊎◌, [], length, IfSome, IsTrue};
 ghost use mathlib.Core.List.{IsPrefix};
 ghost use Rattle.commit_head.specs.Journals.{IsLawfulJournal};
+ghost use Rattle.logbook.specs.Pages.{may_write};
 ghost use Rattle.shared_registry.specs.OneList.{AreOneList};
-ghost use Rattle.shared_registry.specs.Rules.{word_of};
+ghost use Rattle.shared_registry.specs.Rules.{items_of, word_of};
 
+use crate::entry::HistoryEntry;
 use commit_head::Item;
-use logbook::{Gain, Offer, Plain, Play, Rule, Seen, Start, Word};
+use logbook::{Gain, Offer, Pen, Plain, Play, Rule, Seen, Start, Word};
 use std::marker::{Brand, Model, PhantomData};
 
-/// The invariant of the history's atomic word: it is the length of the history.
+/// The invariant of the history's words: the first one is its length, and each right to append that was used is used up.
 pub struct HistoryRule;
 
-impl Rule<Item, u64> for HistoryRule {
+impl Rule<HistoryEntry, u64> for HistoryRule {
     ghost use Rattle.std.specs.Prelude.{[]};
     ghost use base.Fml.{ftrue};
     ghost use Rattle.shared_registry.specs.RulesPrivate.{IsKept};
@@ -34,29 +36,75 @@ impl Rule<Item, u64> for HistoryRule {
 /// What a caller gains by a step: nothing.
 pub struct NoGain;
 
-impl Gain<Item, u64> for NoGain {
+impl Gain<HistoryEntry, u64> for NoGain {
     ghost use base.Fml.{ftrue};
 
     ghost after = { λ names about answer. ftrue };
 }
 
-/// A step that adds an item.
-pub struct AppendItem;
+/// A step that makes a pen.
+pub struct MakePen;
 
-impl Play<Item, u64> for AppendItem {
-    ghost use Rattle.shared_registry.specs.RulesPrivate.{Adds};
+impl Play<HistoryEntry, u64> for MakePen {
+    ghost use Rattle.shared_registry.specs.RulesPrivate.{MakesPen};
 
-    ghost then = { Adds };
+    ghost then = { MakesPen };
 }
 
-/// The request of a step is the item.
-impl Plain<Item, Item, u64> for AppendItem {
+/// A step that appends an entry, with the right to do so.
+pub struct AppendEntry;
+
+impl Play<HistoryEntry, u64> for AppendEntry {
+    ghost use Rattle.shared_registry.specs.RulesPrivate.{Appends};
+
+    ghost then = { Appends };
+}
+
+/// A step that looks at the whole history, with the right to append to it.
+pub struct LookAtAll;
+
+impl Play<HistoryEntry, u64> for LookAtAll {
+    ghost use Rattle.shared_registry.specs.RulesPrivate.{Looks};
+
+    ghost then = { Looks };
+}
+
+/// What is appended: the item, and the pen that is the right to append the next entry.
+#[derive(Drop)]
+pub struct NextEntry<'a> {
+    item: &'a Item,
+    next: &'a Pen,
+}
+
+impl<'a> Plain<NextEntry<'a>, HistoryEntry, u64> for AppendEntry {
     ghost use Rattle.std.specs.Prelude.{None};
 
-    ghost ask = { λ item. item };
+    ghost ask = { λ entry. record { item = entry.item.now; next = entry.next.now.nib.key } };
 
-    ghost state = { λ item. None };
+    ghost state = { λ entry. None };
 }
+
+/// The request of a step that appends nothing.
+#[derive(Drop)]
+pub struct NoRequest;
+
+impl Plain<NoRequest, HistoryEntry, u64> for NoRequest {
+    ghost use Rattle.std.specs.Prelude.{None};
+    ghost use Rattle.shared_registry.specs.RulesPrivate.{no_entry};
+
+    ghost ask = { λ entry. no_entry };
+
+    ghost state = { λ entry. None };
+}
+
+/// A word of the history.
+type HistoryWord = Word<HistoryEntry, u64, HistoryRule>;
+
+/// A token for entries of the history that were seen.
+pub(crate) type SeenEntries = Seen<HistoryEntry, u64, HistoryRule>;
+
+/// A request to a word of the history.
+type HistoryOffer = Offer<HistoryEntry, u64, HistoryRule, NoGain>;
 
 /// Identifies a registry in the proofs, by its history and the trust domain of its book. A program picks both when it makes a
 /// registry. Seats, receipts and registries of one registry belong together.
@@ -79,50 +127,172 @@ impl RegistryId for Brand {
     ghost domain = { [] };
 }
 
+/// Makes a pen. If the word was 0, it is the right to append the first entry.
+fn made(pens: &HistoryWord, seen: &SeenEntries) -> (u64, Pen)
+    requires { pens.now ≡ word_of 1 seen.now.book }
+    ensures book { result.1.book ≡ seen.now.book }
+    ensures right { result.1.nib.right ≡ may_write }
+    ensures first { result.0 ≡ 0 → result.1.nib.key ≡ 2 }
+{
+    let mut seen = seen.again();
+    let mut pen = seen.no_pen();
+    let mut offer: HistoryOffer = seen.plain::<NoGain, NoRequest, NoRequest>(&NoRequest);
+    let found = pens.compare_exchange::<MakePen, NoGain>(0, 1, &mut seen, &mut offer, &mut pen);
+    let _word: HistoryWord = Word::tracked(0, &mut pen);
+    (found, pen)
+}
+
 /// An empty history that belongs to no registry yet.
 pub struct NewHistory {
-    word: Word<Item, u64, HistoryRule>,
-    seen: Seen<Item, u64, HistoryRule>,
+    count: HistoryWord,
+    pens: HistoryWord,
+    found: u64,
+    seen: SeenEntries,
+    pen: Pen,
     pub ghost empty: { seen.log ≡ [] },
-    pub ghost word_is: { word ≡ word_of seen.book },
+    pub ghost words_are: { (count ≡ word_of 0 seen.book) × (pens ≡ word_of 1 seen.book) },
+    pub ghost pen_is: { (pen.book ≡ seen.book) × (pen.nib.right ≡ may_write) × (found ≡ 0 → pen.nib.key ≡ 2) },
 }
 
 impl NewHistory {
     /// Makes a new history. Takes no memory.
     pub fn new() -> NewHistory {
-        let (seen, mut first, _second) = Seen::open(Start::alone(), 0, 0);
+        let (seen, mut first, mut second) = Seen::open(Start::alone(), 0, 0);
+        let count = Word::tracked(0, &mut first);
+        let pens = Word::tracked(0, &mut second);
+        let (found, pen) = made(&pens, &seen);
         NewHistory {
-            word: Word::tracked(0, &mut first),
+            count,
+            pens,
+            found,
             seen,
+            pen,
         }
     }
 
-    /// Returns the history's word as that of the registry `J`, and the empty prefix.
-    pub(crate) fn named<J: RegistryId>(self) -> (History<J>, HistoryPrefix<J>)
+    /// Returns the history as that of the registry `J`, with the right to append to it. It is `None` if that right was taken
+    /// before. At run time nobody can have taken it, but the contracts of `logbook` don't exclude it.
+    pub(crate) fn named<J: RegistryId>(self) -> Option<History<J>>
         requires { self.seen.book ≡ J.history }
-        ensures { result.1 ≡ [] }
+        ensures { IfSome result (λ h. h ≡ []) }
     {
-        let NewHistory { word, seen } = self;
-        (
-            History {
-                word,
-                of: PhantomData,
-            },
-            HistoryPrefix {
-                items: 0,
-                seen,
-                of: PhantomData,
-            },
-        )
+        let NewHistory {
+            count,
+            pens,
+            found,
+            seen,
+            pen,
+        } = self;
+        if found != 0 {
+            return None;
+        }
+        Some(History {
+            count,
+            pens,
+            items: 0,
+            seen,
+            pen,
+            of: PhantomData,
+        })
     }
 }
 
-/// The atomic word that all threads share: the length of the history.
+/// The history, with the right to append to it, which exists once. The model in contracts is the list of all its items. At
+/// run time it has two words: the number of its items, and whether the right was taken.
 #[derive(Drop)]
 pub struct History<J: RegistryId> {
-    word: Word<Item, u64, HistoryRule>,
+    count: HistoryWord,
+    pens: HistoryWord,
+    items: u64,
+    seen: SeenEntries,
+    pen: Pen,
     of: PhantomData<J>,
-    ghost word_is: { word ≡ word_of J.history },
+}
+
+impl<J: RegistryId> Model for History<J> {
+    ghost use Rattle.std.specs.Prelude.{◌≡◌, List, length};
+    ghost use Rattle.logbook.specs.Pages.{may_write};
+    ghost use Rattle.commit_head.specs.declared.item.Item.{Item};
+    ghost use Rattle.commit_head.specs.Journals.{IsLawfulJournal};
+    ghost use Rattle.shared_registry.specs.Rules.{items_of, word_of};
+    ghost use Rattle.shared_registry.specs.RulesPrivate.{right_after};
+
+    ghost Value = { List Item };
+
+    ghost view = { λ h. items_of h.seen.log };
+
+    ghost invariant = { λ h. (h.count ≡ word_of 0 J.history) × (h.pens ≡ word_of 1 J.history) × (h.seen.book ≡ J.history) × (h.pen.book ≡ J.history) × (h.pen.nib.right ≡ may_write) × (h.pen.nib.key ≡ right_after 2 h.seen.log) × (h.items ≡ length (items_of h.seen.log)) × IsLawfulJournal J.domain (items_of h.seen.log) };
+}
+
+/// Says of which registry a history is. It has no bytes.
+#[derive(Drop)]
+pub(crate) struct HistoryName<J: RegistryId> {
+    seen: SeenEntries,
+    of: PhantomData<J>,
+    ghost is_of_it: { seen.book ≡ J.history },
+}
+
+impl<J: RegistryId> History<J> {
+    /// Returns its name.
+    pub(crate) fn name(&self) -> HistoryName<J> {
+        HistoryName {
+            seen: self.seen.again(),
+            of: PhantomData,
+        }
+    }
+
+    /// Returns all its items, as a prefix.
+    pub(crate) fn prefix(&self) -> HistoryPrefix<J>
+        ensures { result ≡ self.now }
+    {
+        HistoryPrefix {
+            items: self.items,
+            seen: self.seen.again(),
+            of: PhantomData,
+        }
+    }
+
+    /// Appends an item. It never fails.
+    pub(crate) fn append(&mut self, item: &Item)
+        requires room { length self.old < 2 ^ 62 }
+        requires lawful { IsLawfulJournal J.domain (self.old ++ item.now ∷ []) }
+        ensures { self.new ≡ self.old ++ item.now ∷ [] }
+    {
+        let (_found, next) = made(&self.pens, &self.seen);
+        let mut offer: HistoryOffer = self
+            .seen
+            .plain::<NoGain, NextEntry<'_>, AppendEntry>(&NextEntry { item, next: &next });
+        let items = self.items;
+        self.count.compare_exchange::<AppendEntry, NoGain>(
+            items,
+            items + 1,
+            &mut self.seen,
+            &mut offer,
+            &mut self.pen,
+        );
+        self.pen = next;
+        self.items = items + 1;
+    }
+
+    /// Whatever prefix anyone has seen, it is a prefix of all the items that this history has: nobody else can have appended
+    /// one. It changes nothing.
+    pub(crate) fn has_all(&mut self, prefix: &HistoryPrefix<J>)
+        ensures same { self.new ≡ self.old }
+        ensures all { IsPrefix prefix.now self.old }
+    {
+        let mut both = self.seen.again();
+        both.learn(&prefix.seen);
+        let mut offer: HistoryOffer = both.plain::<NoGain, NoRequest, NoRequest>(&NoRequest);
+        let items = self.items;
+        self.count
+            .compare_exchange::<LookAtAll, NoGain>(
+                items,
+                items,
+                &mut both,
+                &mut offer,
+                &mut self.pen,
+            );
+    }
 }
 
 /// A prefix of the history that was seen: a lawful journal. The model in contracts is the list of its items. At run time it
@@ -130,7 +300,7 @@ pub struct History<J: RegistryId> {
 #[derive(Drop)]
 pub struct HistoryPrefix<J: RegistryId> {
     items: u64,
-    seen: Seen<Item, u64, HistoryRule>,
+    seen: SeenEntries,
     of: PhantomData<J>,
 }
 
@@ -138,12 +308,13 @@ impl<J: RegistryId> Model for HistoryPrefix<J> {
     ghost use Rattle.std.specs.Prelude.{◌≡◌, List, length};
     ghost use Rattle.commit_head.specs.declared.item.Item.{Item};
     ghost use Rattle.commit_head.specs.Journals.{IsLawfulJournal};
+    ghost use Rattle.shared_registry.specs.Rules.{items_of};
 
     ghost Value = { List Item };
 
-    ghost view = { λ f. f.seen.log };
+    ghost view = { λ f. items_of f.seen.log };
 
-    ghost invariant = { λ f. (f.items ≡ length f.seen.log) × (f.seen.book ≡ J.history) × IsLawfulJournal J.domain f.seen.log };
+    ghost invariant = { λ f. (f.items ≡ length (items_of f.seen.log)) × (f.seen.book ≡ J.history) × IsLawfulJournal J.domain (items_of f.seen.log) };
 }
 
 impl<J: RegistryId> HistoryPrefix<J> {
@@ -189,16 +360,16 @@ impl<J: RegistryId> HistoryPrefix<J> {
     }
 
     /// Returns the token of what was seen.
-    pub(crate) fn token(&self) -> Seen<Item, u64, HistoryRule>
-        ensures { (result.book ≡ J.history) × (result.log ≡ self.now) }
+    pub(crate) fn token(&self) -> SeenEntries
+        ensures { (result.book ≡ J.history) × (items_of result.log ≡ self.now) }
     {
         self.seen.again()
     }
 
     /// Makes the prefix of a token with this number of items.
-    pub(crate) fn of(items: u64, seen: Seen<Item, u64, HistoryRule>) -> HistoryPrefix<J>
-        requires { (seen.book ≡ J.history) × (items ≡ length seen.log) × IsLawfulJournal J.domain seen.log }
-        ensures { result ≡ seen.log }
+    pub(crate) fn of(items: u64, seen: SeenEntries) -> HistoryPrefix<J>
+        requires { (seen.book ≡ J.history) × (items ≡ length (items_of seen.log)) × IsLawfulJournal J.domain (items_of seen.log) }
+        ensures { result ≡ items_of seen.log }
     {
         HistoryPrefix {
             items,
@@ -214,37 +385,5 @@ impl<J: RegistryId> HistoryPrefix<J> {
         let mut both = self.seen.again();
         both.learn(&other.seen);
         self.items <= other.items
-    }
-
-    /// Adds an item after all that was seen, and returns true. If the history is longer than that, returns false, and
-    /// nothing has changed.
-    pub(crate) fn add(&mut self, history: &History<J>, item: &Item) -> bool
-        requires room { length self.old < 2 ^ 62 }
-        requires lawful { IsLawfulJournal J.domain (self.old ++ item.now ∷ []) }
-        ensures { MatchBool result (self.new ≡ self.old ++ item.now ∷ []) (self.new ≡ self.old) }
-    {
-        let mut seen = self.seen.again();
-        let mut offer: Offer<Item, u64, HistoryRule, NoGain> = seen.plain::<
-            NoGain,
-            Item,
-            AppendItem,
-        >(item);
-        let mut pen = seen.no_pen();
-        let items = self.items;
-        let found = history
-            .word
-            .compare_exchange::<AppendItem, NoGain>(
-                items,
-                items + 1,
-                &mut seen,
-                &mut offer,
-                &mut pen,
-            );
-        if found != items {
-            return false;
-        }
-        self.seen = seen;
-        self.items = items + 1;
-        true
     }
 }

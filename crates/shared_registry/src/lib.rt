@@ -5,19 +5,22 @@
 //! only for its commit. If a batch that was committed since then wrote what it has read, it begins again while tries are
 //! left. What a seat has seen only grows, is always a lawful journal, and begins with all that it learnt from the receipts
 //! of others. What two seats have seen are prefixes of one list, so all answers agree with one list of committed batches.
+//! Only the writer, under the lock, may append to this list: so it knows all of it, and whenever the lock is free, all of it is
+//! published.
 //!
 //! - [`Registry`]: the state that the threads share. [`Seat`]: one caller, with what it has seen; [`NoSeat`]: all are
 //!   given.
 //! - [`Outcome`]: the outcome of a batch of changes. [`Gate`]: a test hook at each [`Point`] of a try; [`OpenGate`] does
 //!   nothing.
 //! - [`Answer`]: the reply to a query. [`NoAnswer`] and [`NoEntry`]: why a query, or a request for news, has no answer.
-//! - [`Receipt`]: what a seat had seen, for another seat to learn.
+//! - [`Receipt`]: what a seat had seen, or all items at some time, for another seat to learn.
 //! - [`commits_law`]: after a commit a seat may answer queries without a look. [`one_list`], [`one_list_of_receipts`] and
 //!   [`one_list_with_receipt`]: what any two callers have seen are prefixes of one list.
 //! - [`RegistryId`] and [`NewHistory`]: which registry it is, and its empty history. The types ensure that seats, receipts and
 //!   registries of one registry belong together.
-//! - [`PublishedValue`], [`History`] and [`HistoryPrefix`] occur in contracts: what the writer publishes, the word that counts the
-//!   history's items, and a prefix of the history.
+//! - [`ClosedRegistry`]: what is left of a registry that was closed. Nobody has seen more than it shows.
+//! - [`PublishedValue`], [`History`], [`HistoryEntry`] and [`HistoryPrefix`] occur in contracts: what the writer publishes, the
+//!   history with the right to append to it, an entry of it, and a prefix of it.
 //!
 //! The words of this crate:
 //!
@@ -29,15 +32,15 @@
 //! - own: the numbers of the calls that a seat has committed.
 //!
 //! The definitions are in `specs/`. `Outcomes` defines the outcome of a batch of changes, `Shown` the published value, `Seated`
-//! and `SeatCalls` a seat, `OneList` how the journals of two callers are related, and `Rules` the history's word. The others are
+//! and `SeatCalls` a seat, `OneList` how the journals of two callers are related, and `Rules` the history's entries. The others are
 //! for this crate's own contracts: `WriterStates` and `RetainedStates` define the state under the lock, `Works` a work in execution,
 //! and the files that end in `Private` the invariants.
 //!
-//! - `history`: the one history, and the prefixes of it that were seen; `published` and `rule`: the state that readers look at,
+//! - `history` and `entry`: the one history, and the prefixes of it that were seen; `published` and `rule`: the state that readers look at,
 //!   and the invariant that each step over it preserves; `run`: how a batch of changes runs on the published state;
 //!   `writer_state` and `commit`: the state under the lock, and the commit on it; `recent`: published states that are retained;
-//!   `seat` and `registry`: the calls of the two types; `reading`: how a seat looks at the published state; `outcome`; `gate`:
-//!   the test hook; `laws`: theorems that follow from the contracts.
+//!   `seat` and `registry`: the calls of the two types; `reading`: how a seat looks at the published state; `closed`: what is left
+//!   of a registry that was closed; `outcome`; `gate`: the test hook; `laws`: theorems that follow from the contracts.
 //!
 //! A statement such as `let _place = seat.place();` has no effect at run time. It brings the contract of the call, mostly
 //! an invariant of its value, into the proof, which fails without it.
@@ -45,7 +48,9 @@
 //! `docs/GLOSSARY.md` explains the terms.
 #![tactic(auto)]
 
+mod closed;
 mod commit;
+mod entry;
 mod gate;
 mod history;
 mod laws;
@@ -59,6 +64,8 @@ mod run;
 mod seat;
 mod writer_state;
 
+pub use closed::ClosedRegistry;
+pub use entry::HistoryEntry;
 pub use gate::{Gate, OpenGate, Point};
 pub use history::{History, HistoryPrefix, NewHistory, RegistryId};
 pub use laws::{commits_law, one_list, one_list_of_receipts, one_list_with_receipt};

@@ -18,6 +18,6 @@ pub enum Outcome {
     /// Memory ran out.
     NoMemory,
     /// The seat couldn't enter the registry, or the published state doesn't extend what the seat has seen and learnt, or the
-    /// history has another length.
+    /// history has calls under the seat's number that are not the seat's own.
     NoEntry,
 }

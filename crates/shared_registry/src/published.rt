@@ -6,12 +6,11 @@ ghost use Rattle.commit_head.specs.Heads.{IsJournal};
 ghost use Rattle.shared_registry.specs.SeatCalls.{calls_of};
 ghost use Rattle.shared_registry.specs.ShownPrivate.{IsCounted, IsOf, ShowsJournal};
 
-use crate::history::{HistoryPrefix, HistoryRule, RegistryId};
+use crate::history::{HistoryPrefix, RegistryId, SeenEntries};
 use batch_work::SharedWindow;
 use commit_head::{Head, Item};
 use entry_book::Shared;
 use left_right::Absorb;
-use logbook::Seen;
 use std::alloc::{AllocError, Global};
 use std::marker::Model;
 
@@ -28,20 +27,21 @@ pub(crate) struct PublishedState {
 #[derive(Drop)]
 pub struct PublishedValue {
     items: u64,
-    seen: Seen<Item, u64, HistoryRule>,
+    seen: SeenEntries,
     published_state: Shared<PublishedState>,
 }
 
 impl Model for PublishedValue {
     ghost use Rattle.std.specs.Prelude.{◌≡◌, length};
+    ghost use Rattle.shared_registry.specs.Rules.{items_of};
     ghost use Rattle.shared_registry.specs.Shown.{Shown};
     ghost use Rattle.shared_registry.specs.ShownPrivate.{ShowsJournal};
 
     ghost Value = { Shown };
 
-    ghost view = { λ p. record { history = p.seen.book; journal = p.seen.log; window = p.published_state.window } };
+    ghost view = { λ p. record { history = p.seen.book; journal = items_of p.seen.log; window = p.published_state.window } };
 
-    ghost invariant = { λ p. (p.items ≡ length p.seen.log) × ShowsJournal p.seen.log p.published_state.window p.published_state.counts };
+    ghost invariant = { λ p. (p.items ≡ length (items_of p.seen.log)) × ShowsJournal (items_of p.seen.log) p.published_state.window p.published_state.counts };
 }
 
 impl PublishedValue {

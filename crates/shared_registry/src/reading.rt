@@ -63,7 +63,7 @@ fn look<J: RegistryId>(reader: SeatReader<J>, snapshot: &PublishedValue) -> (Sea
 }
 
 /// Returns true if the published journal continues what a seat has seen and what it has learnt, and has this many of its calls.
-pub(crate) fn continues<J: RegistryId>(
+fn continues<J: RegistryId>(
     published: &PublishedValue,
     seen: &HistoryPrefix<J>,
     learnt: &HistoryPrefix<J>,

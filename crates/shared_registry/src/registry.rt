@@ -12,8 +12,9 @@ ghost use Rattle.shared_registry.specs.Seated.{AfterCall, CaughtUp, DuringCall, 
 ghost use Rattle.shared_registry.specs.SeatCalls.{AllBelow, calls_of};
 ghost use Rattle.shared_registry.specs.Works.{IsRead};
 
+use crate::closed::ClosedRegistry;
 use crate::gate::{Gate, Point};
-use crate::history::{History, NewHistory, RegistryId};
+use crate::history::{HistoryName, NewHistory, RegistryId};
 use crate::outcome::Outcome;
 use crate::recent::Replaced;
 use crate::run::discard;
@@ -65,7 +66,8 @@ fn settled<J: RegistryId>(seat: &Seat<J>, work: Work) -> Outcome
 /// A reader takes no lock: it looks once at the published state, and runs its batch on it. A writer takes the lock only for
 /// its commit. A function with `rt` may wait, and no clause says that it returns.
 pub struct Registry<J: RegistryId> {
-    history: History<J>,
+    // its ghost field lets a struct of a caller, which has the registry, state facts about `J`
+    name: HistoryName<J>,
     state: Mutex<WriterState<J>>,
 }
 
@@ -97,10 +99,13 @@ impl<J: RegistryId> Registry<J> {
         requires domain { domain ≡ J.domain }
         requires seats { 0 < seats }
     {
-        let (history, prefix) = new_history.named::<J>();
-        let state = WriterState::new(alloc, domain, prefix, seats.min(MOST_SEATS))?;
+        let Some(history) = new_history.named::<J>() else {
+            return Err(AllocError);
+        };
+        let name = history.name();
+        let state = WriterState::new(alloc, domain, history, seats.min(MOST_SEATS))?;
         Ok(Registry {
-            history,
+            name,
             state: Mutex::new(state),
         })
     }
@@ -252,7 +257,7 @@ impl<J: RegistryId> Registry<J> {
     {
         let mut state = self.state.lock(rt);
         gate.pass(Point::BeforeCommit, seat.number(), seat.calls());
-        let (decided, replaced) = state.commit(rt, &self.history, seat, work);
+        let (decided, replaced) = state.commit(rt, seat, work);
         MutexGuard::unlock(state);
         (decided, replaced)
     }
@@ -273,6 +278,19 @@ impl<J: RegistryId> Registry<J> {
         receipt
     }
 
+    /// Returns the receipt of every item so far, which begins with all that the seat has seen and learnt of. It is never refused.
+    /// It waits for the lock, and no clause says when it gets it.
+    pub fn receipt<R: Wait>(&self, rt: &R, seat: &Seat<J>) -> Receipt<J>
+        ensures lawful { IsLawfulJournal J.domain result }
+        ensures seen { IsPrefix seat.now.seen result }
+        ensures learnt { IsPrefix seat.now.learnt result }
+    {
+        let mut state = self.state.lock(rt);
+        let receipt = state.receipt(seat);
+        MutexGuard::unlock(state);
+        receipt
+    }
+
     /// Returns the number of stored items of the journal, at most 4,096. It waits for the lock, and no clause says when it
     /// gets it.
     pub fn kept<R: Wait>(&self, rt: &R) -> u64
@@ -284,10 +302,10 @@ impl<J: RegistryId> Registry<J> {
         kept
     }
 
-    /// Ends the registry, whose writer can't be dropped otherwise. It waits for the readers that are inside, and no clause
-    /// says that it returns.
-    pub fn close<R: Wait>(self, rt: &R) {
-        let Registry { history: _, state } = self;
-        state.into_inner().close(rt);
+    /// Ends the registry, whose writer can't be dropped otherwise, and returns what was published last. It waits for the
+    /// readers that are inside, and no clause says that it returns.
+    pub fn close<R: Wait>(self, rt: &R) -> ClosedRegistry<J> {
+        let Registry { name: _, state } = self;
+        state.into_inner().close(rt)
     }
 }

@@ -1,6 +1,6 @@
 //! What has one caller seen, and which answers does it get?
 
-ghost use Rattle.std.specs.Prelude.{◌≡◌, ◌<◌, ◌+◌, ◌++◌, ◌∷◌, ◌^◌, [], length, IfOk, IsSome, IsTrue, MatchResult, true};
+ghost use Rattle.std.specs.Prelude.{◌≡◌, ◌<◌, ◌+◌, ◌++◌, ◌∷◌, ◌^◌, [], length, IfOk, IsSome, MatchBool, MatchResult, true, ◌≢◌};
 ghost use mathlib.Core.List.{IsPrefix};
 ghost use Rattle.entry_book.specs.Batches.{is_query};
 ghost use Rattle.entry_book.specs.History.{books_of, reply_to};
@@ -12,7 +12,7 @@ ghost use Rattle.shared_registry.specs.ShownPrivate.{IsOf};
 use crate::gate::{Gate, Point};
 use crate::history::{HistoryPrefix, RegistryId};
 use crate::published::PublishedValue;
-use crate::reading::{SeatReader, borrowed_answer, continues, find};
+use crate::reading::{SeatReader, borrowed_answer, find};
 use crate::run::{begun, ran};
 use batch_work::{BorrowedReply, Work};
 use commit_head::Item;
@@ -33,12 +33,12 @@ pub enum NoAnswer {
     NoEntry,
 }
 
-/// The seat couldn't enter the registry, or the published state doesn't extend what the seat has seen and learnt, or the history
-/// has another length.
+/// The seat couldn't enter the registry, or the history has calls under the seat's number that are not the seat's own.
 #[derive(Clone, Copy, Debug, PartialEq, Eq, Drop)]
 pub struct NoEntry;
 
-/// What a seat had seen when it asked for news. The model in contracts is the list of items.
+/// What a seat had seen when it asked for news, or all items when a receipt was asked for. The model in contracts is the list of
+/// items.
 #[derive(Drop)]
 pub struct Receipt<J: RegistryId> {
     seen: HistoryPrefix<J>,
@@ -55,6 +55,13 @@ impl<J: RegistryId> Model for Receipt<J> {
 
 impl<J: RegistryId> Receipt<J> {
     ghost use Rattle.std.specs.Prelude.{◌≡◌};
+
+    /// Makes the receipt of a prefix.
+    pub(crate) fn of(seen: HistoryPrefix<J>) -> Receipt<J>
+        ensures { result ≡ seen }
+    {
+        Receipt { seen }
+    }
 
     /// Returns the prefix that was seen.
     pub(crate) fn prefix(&self) -> &HistoryPrefix<J>
@@ -116,6 +123,13 @@ impl<J: RegistryId> Seat<J> {
         &self.seen
     }
 
+    /// Returns the longest prefix that it has learnt of.
+    pub(crate) fn learnt(&self) -> &HistoryPrefix<J>
+        ensures { result.now ≡ self.now.learnt }
+    {
+        &self.learnt
+    }
+
     /// Returns its number, below 32.
     pub fn number(&self) -> u32
         ensures { (result ≡ self.now.number) × (result < 32) }
@@ -171,15 +185,13 @@ impl<J: RegistryId> Seat<J> {
         }
     }
 
-    /// Returns true only if the published journal begins with what the seat has seen and learnt of. Its items of the seat
-    /// are then the seat's own calls, no more.
-    pub(crate) fn fits(&self, published: &PublishedValue) -> bool
-        requires { IsOf J.history J.domain published.now }
-        ensures seen { IsTrue result → IsPrefix self.now.seen published.now.journal }
-        ensures learnt { IsTrue result → IsPrefix self.now.learnt published.now.journal }
-        ensures own { IsTrue result → calls_of self.now.number published.now.journal ≡ self.now.own }
+    /// Returns true if the published journal, which begins with what the seat has seen, has as many items under the seat's
+    /// number as the seat has own calls. They are then the seat's own calls.
+    pub(crate) fn has_own(&self, published: &PublishedValue) -> bool
+        requires seen { IsPrefix self.now.seen published.now.journal }
+        ensures { MatchBool result (calls_of self.now.number published.now.journal ≡ self.now.own) (calls_of self.now.number published.now.journal ≢ self.now.own) }
     {
-        continues(published, &self.seen, &self.learnt, self.number, self.count)
+        published.count(self.number) == self.count
     }
 
     /// Advances the seat to a longer journal that contains no further commits of this seat.

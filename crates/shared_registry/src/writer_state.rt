@@ -1,13 +1,15 @@
 //! Which state does the registry's writer lock guard?
 
-ghost use Rattle.std.specs.Prelude.{◌≡◌, [], IfOk, MatchResult};
+ghost use Rattle.std.specs.Prelude.{◌≡◌, [], IfErr, IfOk, MatchResult};
 ghost use mathlib.Core.List.{IsPrefix};
 ghost use Rattle.batch_work.specs.Working.{status_of};
-ghost use Rattle.shared_registry.specs.OutcomesPrivate.{HandsOut, IsCommitOutcome};
+ghost use Rattle.commit_head.specs.Journals.{IsLawfulJournal};
+ghost use Rattle.shared_registry.specs.OutcomesPrivate.{HandsOut, IsCommitOutcome, IsMisnumbered};
 ghost use Rattle.shared_registry.specs.Seated.{DuringCall};
 ghost use Rattle.shared_registry.specs.SeatCalls.{AllBelow};
 ghost use Rattle.shared_registry.specs.Works.{IsRead};
 
+use crate::closed::ClosedRegistry;
 use crate::commit::{checkpoint_if_full, decide};
 use crate::history::{History, HistoryPrefix, RegistryId};
 use crate::published::{PublishedValue, opening};
@@ -31,8 +33,9 @@ pub(crate) type PublishedWriter<J> = Writer<PublishedValue, PublishedValue, View
 pub struct NoSeat;
 
 /// State guarded by the registry's writer lock: the head, the writer, the published states of the last commits, the items of the
-/// last checkpoint that are still to be dropped, the number of seats given, that of all seats, and the prefix of the journal
-/// that is published. The model in contracts is this prefix.
+/// last checkpoint that are still to be dropped, the number of seats given, that of all seats, and the history with the right to
+/// append to it. The model in contracts is the list of all items of the history. Whenever nobody holds the lock, all of them are
+/// published.
 pub(crate) struct WriterState<J: RegistryId> {
     alloc: Global,
     head: Head,
@@ -42,7 +45,7 @@ pub(crate) struct WriterState<J: RegistryId> {
     seats: usize,
     most: usize,
     start: HistoryPrefix<J>,
-    last: HistoryPrefix<J>,
+    history: History<J>,
 }
 
 impl<J: RegistryId> Model for WriterState<J> {
@@ -52,9 +55,9 @@ impl<J: RegistryId> Model for WriterState<J> {
 
     ghost Value = { List Item };
 
-    ghost view = { λ c. c.last };
+    ghost view = { λ c. c.history };
 
-    ghost invariant = { λ c. IsTied J.domain c.last c.head × (64 ≤ vec_capacity c.older) × (c.most ≤ 32) × (c.start ≡ []) × IsSome c.writer × IfSome c.writer (λ w. IsPublished J.history J.domain c.last w.desk.shown.value × (drop w.behind w.log.items ≡ [])) };
+    ghost invariant = { λ c. IsTied J.domain c.history c.head × (64 ≤ vec_capacity c.older) × (c.most ≤ 32) × (c.start ≡ []) × IsSome c.writer × IfSome c.writer (λ w. IsPublished J.history J.domain c.history w.desk.shown.value × (drop w.behind w.log.items ≡ [])) };
 }
 
 impl<J: RegistryId> WriterState<J> {
@@ -64,16 +67,17 @@ impl<J: RegistryId> WriterState<J> {
     pub(crate) fn new(
         alloc: Global,
         domain: TrustDomain,
-        prefix: HistoryPrefix<J>,
+        history: History<J>,
         most: usize,
     ) -> Result<WriterState<J>, AllocError>
-        requires prefix { prefix ≡ [] }
+        requires history { history ≡ [] }
         requires domain { domain ≡ J.domain }
         requires most { (0 < most) × (most ≤ 32) }
         ensures { IfOk result (λ c. c ≡ []) }
     {
         let head = Head::new(alloc, domain)?;
-        let first = opening(alloc, &prefix, &head)?;
+        let start = history.prefix();
+        let first = opening(alloc, &start, &head)?;
         let second = first.again()?;
         let recent = Recent::none(alloc)?;
         let older = Vec::with_capacity(alloc, 64)?;
@@ -86,8 +90,8 @@ impl<J: RegistryId> WriterState<J> {
             older,
             seats: 0,
             most,
-            start: prefix.again(),
-            last: prefix,
+            start,
+            history,
         })
     }
 
@@ -121,15 +125,35 @@ impl<J: RegistryId> WriterState<J> {
         ensures own { seat.new.own ≡ seat.old.own }
         ensures seen_learnt { IfOk result (λ _. IsPrefix seat.old.learnt seat.new.seen) }
         ensures seen { MatchResult result (λ r. (r ≡ seat.new.seen) × (r ≡ self.old)) (λ _. seat.new.seen ≡ seat.old.seen) }
+        ensures no_entry { IfErr result (λ _. IsMisnumbered self.old seat.old) }
     {
         let Some(writer) = &self.writer else {
             unreachable!()
         };
-        if !seat.fits(writer.published()) {
+        self.history.has_all(seat.prefix());
+        self.history.has_all(seat.learnt());
+        if !seat.has_own(writer.published()) {
             return Err(NoEntry);
         }
-        seat.see(self.last.again());
+        seat.see(self.history.prefix());
         Ok(seat.receipt())
+    }
+
+    /// Returns the receipt of every item so far.
+    pub(crate) fn receipt(&mut self, seat: &Seat<J>) -> Receipt<J>
+        ensures same { self.new ≡ self.old }
+        ensures all { result ≡ self.old }
+        ensures lawful { IsLawfulJournal J.domain result }
+        ensures seen { IsPrefix seat.now.seen result }
+        ensures learnt { IsPrefix seat.now.learnt result }
+    {
+        let seen = seat.prefix();
+        self.history.has_all(seen);
+        let learnt = seat.learnt();
+        self.history.has_all(learnt);
+        let prefix = self.history.prefix();
+        let _place = prefix.len();
+        Receipt::of(prefix)
     }
 
     /// Lets the seat see all items so far, and commits a ready work as the seat's call, or returns why not. What a commit
@@ -137,7 +161,6 @@ impl<J: RegistryId> WriterState<J> {
     pub(crate) fn commit<R: Wait>(
         &mut self,
         rt: &R,
-        history: &History<J>,
         seat: &mut Seat<J>,
         work: &Work,
     ) -> (Result<Commit, NoEntry>, Option<Replaced>)
@@ -155,9 +178,8 @@ impl<J: RegistryId> WriterState<J> {
         let (writer, decided, before) = decide(
             rt,
             self.alloc,
-            history,
+            &mut self.history,
             &mut self.head,
-            &mut self.last,
             writer,
             seat,
             work,
@@ -179,8 +201,10 @@ impl<J: RegistryId> WriterState<J> {
         self.head.kept()
     }
 
-    /// Ends the writer.
-    pub(crate) fn close<R: Wait>(self, rt: &R) {
+    /// Ends the writer, and returns what was published last, with the history.
+    pub(crate) fn close<R: Wait>(self, rt: &R) -> ClosedRegistry<J>
+        ensures { result ≡ self }
+    {
         let WriterState {
             alloc: _,
             head: _,
@@ -190,13 +214,9 @@ impl<J: RegistryId> WriterState<J> {
             seats: _,
             most: _,
             start: _,
-            last: _,
+            history,
         } = self;
-        match writer {
-            Some(writer) => {
-                let _last = writer.take(rt);
-            }
-            None => {}
-        }
+        let Some(writer) = writer else { unreachable!() };
+        ClosedRegistry::of(history, writer.take(rt))
     }
 }

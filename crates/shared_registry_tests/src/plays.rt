@@ -51,8 +51,9 @@ fn plays_at<J: RegistryId + Send + Sync, R: Threads + Wait + Clock + Abort + Pri
 {
     let site = Site::<J, R>::open(rt, alloc, new_history, domain, own_domain, seats)?;
     let played = plays_on(&site, play);
-    site.close();
-    played
+    let closed = site.close();
+    played?;
+    closed
 }
 
 /// Runs a play at a site of its own.

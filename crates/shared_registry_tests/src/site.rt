@@ -8,8 +8,8 @@ use crate::telling::{outcome_text, seat_text};
 use crate::turnstile::TURNS;
 use entry_book::Batch;
 use shared_registry::{
-    Answer, Gate, NewHistory, OpenGate, Outcome, Receipt, Registry, RegistryId, Seat, commits_law,
-    one_list_of_receipts, one_list_with_receipt,
+    Answer, ClosedRegistry, Gate, NewHistory, OpenGate, Outcome, Receipt, Registry, RegistryId,
+    Seat, commits_law, one_list_of_receipts, one_list_with_receipt,
 };
 use spiffe_name::TrustDomain;
 use std::alloc::Global;
@@ -116,6 +116,42 @@ fn learn<J: RegistryId>(seat: &mut Seat<J>, receipt: &Receipt<J>) {
     seat.learn(receipt);
 }
 
+/// What a seat that was informed of all commits sees at the end: the receipt of them, and the reply to a query.
+#[derive(Drop)]
+struct Last<J: RegistryId> {
+    seat: Seat<J>,
+    receipt: Receipt<J>,
+    reply: String,
+}
+
+// the query at the end
+const LAST_QUERY: &str = "show 1; show 2; show 3";
+
+/// A closed registry shows what a seat saw at the end.
+fn shows_last<J: RegistryId>(
+    mut closed: ClosedRegistry<J>,
+    alloc: Global,
+    own_domain: &TrustDomain,
+    last: Last<J>,
+) -> Result<(), Failed>
+    requires { own_domain.now ≡ J.domain }
+{
+    closed.shows(&last.seat);
+    closed.shows_receipt(&last.receipt);
+    let query = batch(alloc, LAST_QUERY)?;
+    if query.domain() != own_domain || !query.is_query() {
+        return Err(Failed("a batch isn't for a query"));
+    }
+    let borrowed = closed.answer(alloc, &query)?;
+    let reply = borrowed.kept(alloc);
+    drop(borrowed);
+    if closed.place() == last.seat.place() && reply_text(alloc, &reply?)? == last.reply {
+        Ok(())
+    } else {
+        Err(Failed("a closed registry shows something else"))
+    }
+}
+
 /// A registry, its trust domain, and the mailboxes of its seats, with what threads need to use it.
 pub struct Site<'a, J: RegistryId, R: Wait + Clock> {
     pub rt: &'a R,
@@ -160,15 +196,36 @@ impl<'a, J: RegistryId, R: Wait + Clock> Site<'a, J, R> {
         }
     }
 
-    pub fn close(self) {
+    /// What one more seat sees at the end, if any is left.
+    fn last(&self) -> Result<Option<Last<J>>, Failed> {
+        let Ok(mut seat) = self.registry.seat(self.rt) else {
+            return Ok(None);
+        };
+        let receipt = self.registry.receipt(self.rt, &seat);
+        learn(&mut seat, &receipt);
+        let reply = self.asks(&mut seat, batch(self.alloc, LAST_QUERY)?)?;
+        Ok(Some(Last {
+            seat,
+            receipt,
+            reply,
+        }))
+    }
+
+    /// Closes the registry, which then shows what one more seat, if any is left, saw at the end.
+    pub fn close(self) -> Result<(), Failed> {
+        let last = self.last();
         let Site {
             rt,
-            alloc: _,
+            alloc,
             registry,
-            domain: _,
+            domain,
             mailboxes: _,
         } = self;
-        registry.close(rt);
+        let closed = registry.close(rt);
+        match last? {
+            None => Ok(()),
+            Some(last) => shows_last(closed, alloc, &domain, last),
+        }
     }
 
     pub fn seat(&self) -> Result<Seat<J>, Failed> {

@@ -5,20 +5,20 @@ use Rattle.line_engines.proofs.Driving.{Closes-flushed, closed_or_none}
 use Rattle.line_engines.proofs.driver.finish.Goals as goal
 
 pub returns-then-has_failed-clause-closed : goal.returns-then-has_failed-clause-closed
-returns-then-has_failed-clause-closed g c = λ now represents.
-    closed_or_none (g.A.LineHandler.closes (g.A.LineHandler.setting c.args.handler.now)) now c.close-closed.result _ _ _ (c.close-closed.ensures.closed now represents) c.close-closed.ensures.is_unchanged c.flush.ensures.put
+returns-then-has_failed-clause-closed g c = λ lines now represents.
+    closed_or_none (g.A.LineHandler.closes (g.A.LineHandler.setting c.args.handler.now)) now c.close-closed.result _ _ _ (c.close-closed.ensures.closed lines now represents) c.close-closed.ensures.is_unchanged c.flush.ensures.put
 
 pub returns-in-Ok-clause-closed : goal.returns-in-Ok-clause-closed
-returns-in-Ok-clause-closed g c = λ now represents.
-    closed_or_none (g.A.LineHandler.closes (g.A.LineHandler.setting c.args.handler.now)) now c.close-closed.result _ _ _ (c.close-closed.ensures.closed now represents) c.close-closed.ensures.is_unchanged c.flush.ensures.put
+returns-in-Ok-clause-closed g c = λ lines now represents.
+    closed_or_none (g.A.LineHandler.closes (g.A.LineHandler.setting c.args.handler.now)) now c.close-closed.result _ _ _ (c.close-closed.ensures.closed lines now represents) c.close-closed.ensures.is_unchanged c.flush.ensures.put
 
 pub returns-in-Ok-clause-ok_closed : goal.returns-in-Ok-clause-ok_closed
-returns-in-Ok-clause-ok_closed g c = λ now represents.
-    Closes-flushed (g.A.LineHandler.closes (g.A.LineHandler.setting c.args.handler.now)) now _ _ _ (c.in-Ok.ensures.closed now represents) c.flush.ensures.put
+returns-in-Ok-clause-ok_closed g c = λ lines now represents.
+    Closes-flushed (g.A.LineHandler.closes (g.A.LineHandler.setting c.args.handler.now)) now _ _ _ (c.in-Ok.ensures.closed lines now represents) c.flush.ensures.put
 
 pub returns-in-Err-clause-closed : goal.returns-in-Err-clause-closed
-returns-in-Err-clause-closed g c = λ now represents.
-    closed_or_none (g.A.LineHandler.closes (g.A.LineHandler.setting c.args.handler.now)) now c.close-closed.result _ _ _ (c.close-closed.ensures.closed now represents) c.close-closed.ensures.is_unchanged c.flush.ensures.put
+returns-in-Err-clause-closed g c = λ lines now represents.
+    closed_or_none (g.A.LineHandler.closes (g.A.LineHandler.setting c.args.handler.now)) now c.close-closed.result _ _ _ (c.close-closed.ensures.closed lines now represents) c.close-closed.ensures.is_unchanged c.flush.ensures.put
 
 pub returns-in-Err-clause-err : goal.returns-in-Err-clause-err
 returns-in-Err-clause-err g c =

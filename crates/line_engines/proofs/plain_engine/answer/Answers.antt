@@ -1,4 +1,4 @@
-use Rattle.std.proofs.Common.{◌≡◌, ◌+◌, ℕ, List, refl, inl, inr, subst, sym}
+use Rattle.std.proofs.Common.{◌≡◌, ◌+◌, ℕ, List, refl, inl, inr, subst, sym, ◌∙◌, arith}
 use Rattle.std.specs.Prelude.{Ok}
 use Rattle.spiffe_name.specs.declared.refusals.Failure.{Failure}
 use Rattle.spiffe_name.specs.declared.refusals.Failure.TheVariants.{NoMemory, Refused}
@@ -25,13 +25,18 @@ of_batch domain now line old new book ids request e (inl a) = (called now (books
 of_batch domain now line old new book ids request e (inr a) = (called now now.books ids, as_line (no_memory_json (now.lines + 1)), not_run request ids e refl refl, a.1, a.0, refl, refl, refl)
 
 pub returns-in-Err-clause-line : goal.returns-in-Err-clause-line
-returns-in-Err-clause-line g c = λ books represents.
+returns-in-Err-clause-line g c = λ books lines represents next few.
     let said = c.in-Err.ensures.spelled in
     let reported = rw c.domain.ensures at said.1 in
-    let put = subst (λ (line : ℕ). Puts c.args.output.now c.print_line.new.output (as_line (failure_json line c.in-Err.refusal.failure))) said.0 c.print_line.ensures in
-    of_failure c.args.book.now.domain (record { books = books; ids = c.args.ids.now; calls = c.args.calls; lines = c.args.lines }) c.args.line.now _ _ _ _ c.in-Err.refusal.failure represents reported (sym c.in-Err.ensures.kept) put
+    let put = subst (λ (line : ℕ). Puts c.args.output.now c.print_line.new.output (as_line (failure_json line c.in-Err.refusal.failure))) (said.0 ∙ next) c.print_line.ensures in
+    of_failure c.args.book.now.domain (record { books = books; ids = c.args.ids.now; calls = c.args.calls; lines = lines }) c.args.line.now _ _ _ _ c.in-Err.refusal.failure represents reported (sym c.in-Err.ensures.kept) put
 
 pub returns-in-Ok-clause-line : goal.returns-in-Ok-clause-line
-returns-in-Ok-clause-line g c = λ books represents.
+returns-in-Ok-clause-line g c = λ books lines represents next few.
     let e = rw c.domain.ensures at c.in-Ok.ensures.spelled in
-    of_batch c.args.book.now.domain (record { books = books; ids = c.args.ids.now; calls = c.args.calls; lines = c.args.lines }) c.args.line.now _ _ _ _ c.in-Ok.request e (c.call.ensures.answered books represents)
+    let now : Running = record { books = books; ids = c.args.ids.now; calls = c.args.calls; lines = lines } in
+    let numbered : c.saturating_add-calls.result ≡ c.args.calls + 1 = omega arith in
+    let P : ℕ → ℕ → Type 0 = λ call line. AnswersBatch books c.in-Ok.request.batch call line c.args.output.now c.call.new.output c.call.new.book in
+    let answered = subst (λ (line : ℕ). P (c.args.calls + 1) line) next (subst (λ (call : ℕ). P call c.args.number) numbered (c.call.ensures.answered books represents)) in
+    let Q : ℕ → Type 0 = λ calls. AnswersLine c.args.book.now.domain now c.args.line.now c.args.output.now c.call.new.output c.call.new.book c.read_request.new.ids calls in
+    subst Q (sym numbered) (of_batch c.args.book.now.domain now c.args.line.now _ _ _ _ c.in-Ok.request e answered)

@@ -1,7 +1,7 @@
 use Rattle.std.proofs.Common.{◌≡◌, List, ℕ, Err, refl, subst, arith}
 use Rattle.std.specs.Prelude.{⊤}
 use Rattle.std.proofs.lemmas.Grind.{common_steps}
-use Rattle.line_engines.specs.Driver.{ClosesAs, RunsOver}
+use Rattle.line_engines.specs.Driver.{AfterSomeLines, ClosesAs, RunsOver}
 use Rattle.line_engines.specs.Recorded.{ClosesRecording, RecordsLine, first_recording}
 use Rattle.line_engines.specs.RecordedPrivate.{RecordRepresents, a_line_recorded}
 use Rattle.line_engines.specs.declared.fault.RunFault.TheVariants.{NoMemory}
@@ -21,7 +21,7 @@ returns-in-Ok g c =
     let seed = c.args.seed in
     let kept = c.run_lines.new.handler in
     let left = c.args.input.now.left in
-    let P : List ℕ → Type 0 = λ d. RunsOver (RecordsLine d) (ClosesAs (ClosesRecording d) (RecordRepresents kept)) ⊤ (first_recording domain seed) c.args.input.now c.run_lines.new.input c.args.output.now c.run_lines.new.output c.run_lines.result in
+    let P : List ℕ → Type 0 = λ d. RunsOver (RecordsLine d) (ClosesAs (ClosesRecording d) (AfterSomeLines (RecordRepresents kept))) ⊤ (first_recording domain seed) c.args.input.now c.run_lines.new.input c.args.output.now c.run_lines.new.output c.run_lines.result in
     let ran = subst P c.in_ok-run.ensures.domain (c.run_lines.ensures.runs (first_recording domain seed) c.in_ok-run.ensures.represents refl) in
     let done = RunsOver-ok {W = ℕ} _ _ _ _ _ _ _ _ c.run_lines.result _ c.lost.result c.in-Ok.is ran in
     let reported = alone domain seed kept c.lost.result left c.args.output.now.written c.run_lines.new.output.written c.lost.ensures done.text in
@@ -36,7 +36,7 @@ returns g c =
     let domain = c.args.domain in
     let seed = c.args.seed in
     let kept = c.run_lines.new.handler in
-    let P : List ℕ → Type 0 = λ d. RunsOver (RecordsLine d) (ClosesAs (ClosesRecording d) (RecordRepresents kept)) ⊤ (first_recording domain seed) c.args.input.now c.run_lines.new.input c.args.output.now c.run_lines.new.output c.run_lines.result in
+    let P : List ℕ → Type 0 = λ d. RunsOver (RecordsLine d) (ClosesAs (ClosesRecording d) (AfterSomeLines (RecordRepresents kept))) ⊤ (first_recording domain seed) c.args.input.now c.run_lines.new.input c.args.output.now c.run_lines.new.output c.run_lines.result in
     let ran = subst P c.in_ok-run.ensures.domain (c.run_lines.ensures.runs (first_recording domain seed) c.in_ok-run.ensures.represents refl) in
     let done = RunsOver-err {W = ℕ} _ _ _ _ _ _ _ _ c.run_lines.result _ c.in-Err.is ran in
     record {

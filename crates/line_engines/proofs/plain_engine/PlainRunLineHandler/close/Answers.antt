@@ -3,4 +3,4 @@ use Rattle.line_devices.proofs.Puts.{Puts-nil}
 use Rattle.line_engines.proofs.plain_engine.PlainRunLineHandler.close.Goals as goal
 
 pub returns-clause-closed : goal.returns-clause-closed
-returns-clause-closed g c = λ now represents. ([], refl, Puts-nil c.args.arg3.now)
+returns-clause-closed g c = λ lines now represents. ([], refl, Puts-nil c.args.arg3.now)

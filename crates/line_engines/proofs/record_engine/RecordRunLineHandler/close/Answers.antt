@@ -5,7 +5,7 @@ use Rattle.line_engines.proofs.Recording.{closed_with_records}
 use Rattle.line_engines.proofs.record_engine.RecordRunLineHandler.close.Goals as goal
 
 pub returns-clause-closed : goal.returns-clause-closed
-returns-clause-closed g c = λ now preserves.
+returns-clause-closed g c = λ lines now preserves.
     let represents = preserves.0 in
     let machine = c.machine-machine.result.now in
     let same = represents.machine ∙ (ap (λ (k : RecordKept). k.schedule.machine) (sym c.self.view_is) ∙ sym c.machine-machine.ensures) in
