@@ -9,8 +9,8 @@ import (
 	"regd/gateway/internal/clocktest"
 )
 
-// TestClock moves the clock of a gateway that etcd doesn't answer back by an hour: it notices the silence nevertheless, and says for how long that
-// has lasted. A clock that goes forward doesn't make etcd silent.
+// TestClock moves the clock of a gateway that etcd doesn't answer back by an hour: it notices the silence nevertheless,
+// and says for how long that has lasted. A clock that goes forward doesn't make etcd silent.
 func TestClock(t *testing.T) {
 	if !clocktest.IsPossible {
 		t.Skip("the clock of a process can be moved on Linux and amd64 alone")
@@ -32,28 +32,19 @@ func TestClock(t *testing.T) {
 			t.Fatal(err)
 		}
 	}
-	s.within("it is not ready", isReady)
+	s.waits("it is not ready", isReady)
 	move(2 * time.Hour)
 	if !isReady() {
 		t.Error("a clock that goes forward makes etcd silent")
 	}
 	s.store.Refuse(1 << 30)
 	move(-time.Hour)
-	s.within("it is ready for changes", func() bool { return !isReady() })
+	s.waits("it is ready for changes", func() bool { return !isReady() })
 	var status struct{ Silent float64 }
-	if err := json.Unmarshal([]byte(s.get("http://"+state+"/status")), &status); err != nil || status.Silent < 5 || status.Silent > 60 {
+	err := json.Unmarshal([]byte(s.get("http://"+state+"/status")), &status)
+	if err != nil || status.Silent < 5 || status.Silent > 60 {
 		t.Errorf("etcd is silent for %v seconds, %v", status.Silent, err)
 	}
 	s.store.Refuse(0)
-	s.within("it is not ready again", isReady)
-}
-
-// within waits until a condition holds.
-func (s site) within(what string, condition func() bool) {
-	s.t.Helper()
-	for begin := time.Now(); !condition(); time.Sleep(10 * time.Millisecond) {
-		if time.Since(begin) > 20*time.Second {
-			s.t.Fatal(what)
-		}
-	}
+	s.waits("it is not ready again", isReady)
 }

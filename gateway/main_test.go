@@ -12,6 +12,7 @@ import (
 	"crypto/x509"
 	"encoding/json"
 	"encoding/pem"
+	"errors"
 	"fmt"
 	"io"
 	"math/big"
@@ -79,7 +80,10 @@ func TestParse(t *testing.T) {
 		{"-domain ex.org -listen :1", "loopback"},
 		{"-domain ex.org -listen=", "loopback"},
 		{"-domain ex.org -fresh 10.0.0.1:1", "loopback"},
-		{"-domain ex.org -operators spiffe://ex.org/o", "needs TLS"},
+		{"-domain ex.org -operators spiffe://ex.org/o", "need TLS"},
+		{"-domain ex.org -roles f", "need TLS"},
+		{"-domain ex.org -roles f" + tls, ""},
+		{"-domain ex.org -roles f -operators spiffe://ex.org/o" + tls, "-roles"},
 		{"-domain ex.org -certificate c -key k", "-authorities"},
 		{"-domain ex.org -operators spiffe://ex.org/o,spiffe://ex.org/p" + tls, ""},
 		{"-domain ex.org -operators spiffe://ex.org/o," + tls, "-operators"},
@@ -100,8 +104,16 @@ func TestParse(t *testing.T) {
 		{"-domain ex.org -prefix regd", "-prefix"},
 		{"-domain ex.org -prefix=", "-prefix"},
 		{"-domain ex.org -skip 17.1", ""},
-		{"-domain ex.org -snapshot -keep 1 -listen 0.0.0.0:1 -status 0.0.0.0:2 -operators spiffe://ex.org/o -limit-lines 9" + tls, ""},
+		{"-domain ex.org -snapshot -keep 1 -listen 0.0.0.0:1 -status 0.0.0.0:2 " +
+			"-operators spiffe://ex.org/o -limit-lines 9" + tls, ""},
 		{"-domain ex.org -skip 17", "-skip"},
+		{"-domain ex.org -audit a -audit-bytes 1 -audit-files 0", ""},
+		{"-domain ex.org -token-time 20s -token-bytes 1", ""},
+		{"-domain ex.org -token-time 19s", "-token-time"},
+		{"-domain ex.org -limit-answer 2s -token-time 2s", ""},
+		{"-domain ex.org -token-bytes 0", "-token-bytes"},
+		{"-domain ex.org -audit a -audit-bytes 0", "-audit-bytes"},
+		{"-domain ex.org -audit a -audit-files -1", "-audit-files"},
 		{"-domain ex.org -limit-silent 0 -limit-lag 0", ""},
 		{"-domain ex.org -limit-silent -1s", "limit"},
 		{"-domain ex.org -limit-lag -1", "limit"},
@@ -122,6 +134,17 @@ func TestParse(t *testing.T) {
 	s, _ := parse([]string{"-domain", "ex.org", "-listen", "127.0.0.1:7"})
 	if !strings.HasSuffix(s.Name, "/127.0.0.1:7") || len(s.Name) < 14 {
 		t.Errorf("the name is %s", s.Name)
+	}
+}
+
+// TestTokenTime checks for how long tokens are retained: for several answers, or as the option says.
+func TestTokenTime(t *testing.T) {
+	for words, want := range map[string]time.Duration{"": 5 * time.Minute, " -limit-answer 2s": 30 * time.Second,
+		" -token-time 1m": time.Minute} {
+		s, err := parse(strings.Fields("-domain ex.org" + words))
+		if err != nil || s.TokenTime != want {
+			t.Errorf("%s: tokens are retained for %v, %v", words, s.TokenTime, err)
+		}
 	}
 }
 
@@ -176,7 +199,8 @@ func newSite(t *testing.T) site {
 
 // command returns the gateway, over a regd in miniature.
 func (s site) command(words ...string) *exec.Cmd {
-	words = append([]string{"gateway", "-domain", "ex.org", "-regd", os.Args[0], "-etcd", "http://127.0.0.1:1," + s.store.URL, "-prefix", "p/"}, words...)
+	words = append([]string{"gateway", "-domain", "ex.org", "-regd", os.Args[0], "-etcd",
+		"http://127.0.0.1:1," + s.store.URL, "-prefix", "p/"}, words...)
 	command := exec.Command(os.Args[0], words...)
 	command.Stderr = os.Stderr
 	return command
@@ -264,13 +288,15 @@ func (s site) freeAddress() string {
 	return on.Addr().String()
 }
 
-// TestProgram runs the program: its ports, its status, a signal, a snapshot, and the checksum of regd in the names of votes.
+// TestProgram runs the program: its ports, its status, a signal, a snapshot, and the checksum of regd in the names of
+// votes.
 func TestProgram(t *testing.T) {
 	s := newSite(t)
 	fresh, state := s.freeAddress(), s.freeAddress()
 	gateway, address := s.start("-fresh", fresh, "-status", state, "-name", "g", "-workers", "3")
 	for place := 1; place <= 3; place++ {
-		s.expect("a change", s.call(address, prune), fmt.Sprintf(`{"call":1,"place":%d,"replies":[{"pruned":["%d"]}],"result":"committed"}`+"\n", place, place))
+		s.expect("a change", s.call(address, prune), fmt.Sprintf(
+			`{"call":1,"place":%d,"replies":[{"pruned":["%d"]}],"result":"committed"}`+"\n", place, place))
 	}
 	s.expect("a fresh query", s.call(fresh, show), `{"call":1,"place":3,"replies":[],"result":"answered"}`+"\n")
 	text := s.get("http://" + state + "/status")
@@ -282,23 +308,36 @@ func TestProgram(t *testing.T) {
 		t.Errorf("metrics: got %s", text)
 	}
 	s.store.Refuse(1 << 30)
-	s.expect("a query while etcd refuses", s.call(address, show), `{"call":1,"place":3,"replies":[],"result":"answered"}`+"\n")
+	s.expect("a query while etcd refuses", s.call(address, show),
+		`{"call":1,"place":3,"replies":[],"result":"answered"}`+"\n")
 	s.expect("a fresh query while etcd refuses", s.call(fresh, show), "")
 	s.store.Refuse(0)
 	gateway.Process.Signal(syscall.SIGTERM)
 	s.expect("the status after a signal", fmt.Sprint(s.status(gateway)), "0")
 	s.expect("the status after a snapshot", fmt.Sprint(s.status(s.command("-snapshot", "-keep", "1"))), "0")
-	keys, chunk := s.store.Keys(), regexp.MustCompile(`^p/snapshot/0000000000000002/[-0-9a-f]{36}00000000$`)
-	s.expect("the keys after a snapshot", strings.Join(keys[:len(keys)-1], " "), "p/domain p/head p/log/0000000000000003 p/snapshot")
-	if !chunk.MatchString(keys[len(keys)-1]) {
-		t.Errorf("the last key after a snapshot is %s", keys[len(keys)-1])
+	keys, chunk := s.keysButNames(), regexp.MustCompile(`^p/2/snapshot/0000000000000002/[-0-9a-f]{36}00000000$`)
+	s.expect("the keys after a snapshot", strings.Join(append(keys[:5:5], keys[6:]...), " "),
+		"p/2/domain p/2/format p/2/head p/2/log/0000000000000003 p/2/snapshot p/domain")
+	if !chunk.MatchString(keys[5]) {
+		t.Errorf("the key of a piece is %s", keys[5])
 	}
 	_, address = s.start()
-	s.expect("a query after a snapshot", s.call(address, show), `{"call":1,"place":3,"replies":[],"result":"answered"}`+"\n")
+	s.expect("a query after a snapshot", s.call(address, show),
+		`{"call":1,"place":3,"replies":[],"result":"answered"}`+"\n")
 }
 
-// TestReplacedProgram replaces the program regd by another file while a gateway runs, and ends the regd of its replica. The next one is the same program
-// again, which the status names.
+// keysButNames returns all keys but for the names of gateways, which stay for a time if etcd is slow when they end.
+func (s site) keysButNames() (keys []string) {
+	for _, key := range s.store.Keys() {
+		if !strings.HasPrefix(key, "p/2/gateway/") {
+			keys = append(keys, key)
+		}
+	}
+	return keys
+}
+
+// TestReplacedProgram replaces the program regd by another file while a gateway runs, and ends the regd of its replica.
+// The next one is the same program again, which the status names.
 func TestReplacedProgram(t *testing.T) {
 	s := newSite(t)
 	t.Setenv("GOGC", "1") // a file that the gateway has forgotten is closed
@@ -320,7 +359,8 @@ func TestReplacedProgram(t *testing.T) {
 		Regd    int
 	}
 	json.Unmarshal([]byte(s.get("http://"+state+"/status")), &before)
-	if line, _ := os.ReadFile(fmt.Sprintf("/proc/%d/cmdline", before.Regd)); !strings.HasPrefix(string(line), "regd\x00serve\x00") {
+	line, err := os.ReadFile(fmt.Sprintf("/proc/%d/cmdline", before.Regd))
+	if err != nil || !strings.HasPrefix(string(line), "regd\x00serve\x00") {
 		t.Errorf("the command is %q", line)
 	}
 	if err := os.Rename(program+".new", program); err != nil {
@@ -352,16 +392,23 @@ func TestOutvoted(t *testing.T) {
 	s := newSite(t)
 	ctx := context.Background()
 	s.log.Open(ctx, "ex.org")
-	for entry := uint64(1); entry <= 1000; entry++ {
-		s.log.Append(ctx, entry, etcd.JoinEntry(fmt.Sprint(entry), [][]byte{[]byte(prune)}))
+	end := etcd.Start
+	for end.Entry < 1000 {
+		d := etcd.Draft{ID: fmt.Sprint(end.Entry), Lines: [][]byte{[]byte(prune)}}
+		var err error
+		end, err = s.log.Append(ctx, end, d)
+		if err != nil {
+			t.Fatal(err)
+		}
 	}
 	for _, name := range []string{"a", "b"} {
-		s.log.Put(ctx, "sum/2-1/00000000000003e8/1000/"+name, []byte("00"))
+		s.log.Put(ctx, "gateway/"+name, []byte("run 2-1"))
+		s.log.Put(ctx, "sum/2-1/00000000000003e8/"+end.Name+"/"+name, []byte("00"))
 	}
 	s.expect("the exit status", fmt.Sprint(s.status(s.command())), "4")
 	gateway, _ := s.start("-replies", "2")
 	for begin := time.Now(); ; time.Sleep(10 * time.Millisecond) {
-		if votes, err := s.log.List(ctx, "sum/2-2/00000000000003e8/1000/"); len(votes) == 1 {
+		if votes, err := s.log.List(ctx, "sum/2-2/00000000000003e8/"+end.Name+"/"); len(votes) == 1 {
 			break
 		} else if err != nil || time.Since(begin) > 10*time.Second {
 			t.Fatalf("the votes are %v, %v", votes, err)
@@ -383,19 +430,24 @@ func TestSkipOption(t *testing.T) {
 		t.Fatalf("the status of a skip is %d", status)
 	}
 	s.expect("the status of a skip of nothing", fmt.Sprint(s.status(s.command("-skip", "99.1"))), "1")
-	for begin := time.Now(); !strings.Contains(s.call(address, show), `"place":2,`); time.Sleep(10 * time.Millisecond) {
+	for begin := time.Now(); ; time.Sleep(10 * time.Millisecond) {
+		if strings.Contains(s.call(address, show), `"place":2,`) {
+			break
+		}
 		if time.Since(begin) > 10*time.Second {
 			t.Fatal("the line is not skipped")
 		}
 	}
 }
 
-// TestSignal sends the program a signal while etcd refuses a change. The change is answered when etcd accepts it, and the program ends. A second signal
-// ends the program immediately, and without one it ends when the time is over.
+// TestSignal sends the program a signal while etcd refuses a change. The change is answered when etcd accepts it, and
+// the program ends. A second signal ends the program immediately, and without one it ends when the time is over.
 func TestSignal(t *testing.T) {
-	for _, c := range []struct{ name, status string }{{"a change that is accepted", "0"}, {"two signals", "-1"}, {"a change that isn't", "0"}} {
+	for _, c := range []struct{ name, status string }{{"a change that is accepted", "0"}, {"two signals", "-1"},
+		{"a change that isn't", "0"}} {
 		s := newSite(t)
-		gateway, address := s.start("-limit-stop", "3s")
+		state := s.freeAddress()
+		gateway, address := s.start("-limit-stop", "3s", "-status", state)
 		conn, err := net.Dial("tcp", address)
 		if err != nil {
 			t.Fatal(err)
@@ -403,10 +455,12 @@ func TestSignal(t *testing.T) {
 		defer conn.Close()
 		s.store.Refuse(1 << 30)
 		fmt.Fprintln(conn, prune)
-		time.Sleep(200 * time.Millisecond)
+		s.waits("it isn't appended", func() bool { return s.store.Counts().Refused > 0 })
 		begin := time.Now()
 		gateway.Process.Signal(syscall.SIGTERM)
-		time.Sleep(200 * time.Millisecond)
+		s.waits("it goes on", func() bool {
+			return strings.Contains(s.get("http://"+state+"/status"), `"stopping":true`)
+		})
 		want := ""
 		switch c.status {
 		case "-1":
@@ -428,53 +482,104 @@ func TestSignal(t *testing.T) {
 	}
 }
 
-// TestCertificates runs the program with certificates, over an etcd with certificates that doesn't speak TLS 1.3.
-func TestCertificates(t *testing.T) {
-	s, folder := newSite(t), t.TempDir()
+// newCertificates writes a certificate, which is its own authority, into a folder.
+func newCertificates(t *testing.T) (folder string, pair tls.Certificate) {
+	folder = t.TempDir()
 	key, err := ecdsa.GenerateKey(elliptic.P256(), rand.Reader)
 	if err != nil {
 		t.Fatal(err)
 	}
-	template := &x509.Certificate{SerialNumber: big.NewInt(1), URIs: []*url.URL{{Scheme: "spiffe", Host: "ex.org", Path: "/o"}},
-		IPAddresses: []net.IP{net.IPv4(127, 0, 0, 1)}, NotBefore: time.Now().Add(-time.Hour), NotAfter: time.Now().Add(time.Hour)}
+	template := &x509.Certificate{SerialNumber: big.NewInt(1),
+		URIs:        []*url.URL{{Scheme: "spiffe", Host: "ex.org", Path: "/o"}},
+		IPAddresses: []net.IP{net.IPv4(127, 0, 0, 1)}, NotBefore: time.Now().Add(-time.Hour),
+		NotAfter: time.Now().Add(time.Hour)}
 	der, err := x509.CreateCertificate(rand.Reader, template, template, &key.PublicKey, key)
 	if err != nil {
 		t.Fatal(err)
 	}
 	keyDER, _ := x509.MarshalECPrivateKey(key)
-	certificate, keyPEM := pem.EncodeToMemory(&pem.Block{Type: "CERTIFICATE", Bytes: der}), pem.EncodeToMemory(&pem.Block{Type: "EC PRIVATE KEY", Bytes: keyDER})
+	certificate, keyPEM := pem.EncodeToMemory(&pem.Block{Type: "CERTIFICATE", Bytes: der}),
+		pem.EncodeToMemory(&pem.Block{Type: "EC PRIVATE KEY", Bytes: keyDER})
 	for name, text := range map[string][]byte{"cert.pem": certificate, "ca.pem": certificate, "key.pem": keyPEM} {
 		if err := os.WriteFile(filepath.Join(folder, name), text, 0o600); err != nil {
 			t.Fatal(err)
 		}
 	}
+	pair, err = tls.X509KeyPair(certificate, keyPEM)
+	if err != nil {
+		t.Fatal(err)
+	}
+	return folder, pair
+}
+
+// TestCertificates runs the program with certificates, over an etcd with certificates that doesn't speak TLS 1.3.
+func TestCertificates(t *testing.T) {
+	s := newSite(t)
+	folder, pair := newCertificates(t)
 	certificates, err := server.FilesIn(folder).Load()
 	if err != nil {
 		t.Fatal(err)
 	}
-	pair, err := tls.X509KeyPair(certificate, keyPEM)
-	if err != nil {
-		t.Fatal(err)
-	}
 	secure := httptest.NewUnstartedServer(s.store.Config.Handler)
-	secure.TLS = &tls.Config{Certificates: []tls.Certificate{pair}, ClientAuth: tls.RequireAnyClientCert, MaxVersion: tls.VersionTLS12}
+	secure.TLS = &tls.Config{Certificates: []tls.Certificate{pair}, ClientAuth: tls.RequireAnyClientCert,
+		MaxVersion: tls.VersionTLS12}
 	secure.StartTLS()
 	t.Cleanup(secure.CloseClientConnections)
-	_, address := s.start("-etcd", secure.URL, "-etcd-files", folder, "-operators", "spiffe://ex.org/ci,spiffe://ex.org/o",
-		"-certificate", filepath.Join(folder, "cert.pem"), "-key", filepath.Join(folder, "key.pem"), "-authorities", filepath.Join(folder, "ca.pem"))
+	_, address := s.start("-etcd", secure.URL, "-etcd-files", folder,
+		"-operators", "spiffe://ex.org/ci,spiffe://ex.org/o",
+		"-certificate", filepath.Join(folder, "cert.pem"), "-key", filepath.Join(folder, "key.pem"),
+		"-authorities", filepath.Join(folder, "ca.pem"))
 	conn, err := certificates.Dial(context.Background(), "tcp", address)
 	if err != nil {
 		t.Fatal(err)
 	}
 	defer conn.Close()
-	s.expect("an operator", s.ask(conn, prune), `{"call":1,"place":1,"replies":[{"pruned":["1"]}],"result":"committed"}`+"\n")
+	s.expect("an operator", s.ask(conn, prune),
+		`{"call":1,"place":1,"replies":[{"pruned":["1"]}],"result":"committed"}`+"\n")
 	if answer := s.call(address, show); strings.Contains(answer, "answered") {
 		t.Errorf("a caller in plain text got %s", answer)
 	}
 }
 
-// TestFailuresAreLoggedOnce lets etcd refuse all requests, and then, for want of space, changes alone. The program logs each reason for each kind of
-// request once, and once when such a request is answered again.
+// TestStatusOf checks the exit statuses for errors: 2 and 4 for those that another start doesn't cure.
+func TestStatusOf(t *testing.T) {
+	for err, want := range map[error]int{
+		server.ErrNameTaken: 2, etcd.ErrDomain: 2, etcd.ErrFormat: 2, etcd.ErrOldFormat: 2,
+		etcd.ErrUnfinished: 2, server.ErrOutvoted: 4, errors.New("x"): 1,
+	} {
+		if got := statusOf(fmt.Errorf("%w: more", err)); got != want {
+			t.Errorf("%v: got %d", err, got)
+		}
+	}
+}
+
+// TestRolesOption runs the program with a file of roles, in which the caller is a reader.
+func TestRolesOption(t *testing.T) {
+	s := newSite(t)
+	folder, _ := newCertificates(t)
+	roles := filepath.Join(folder, "roles")
+	if err := os.WriteFile(roles, []byte("reader spiffe://ex.org/o\n"), 0o600); err != nil {
+		t.Fatal(err)
+	}
+	words := []string{"-certificate", filepath.Join(folder, "cert.pem"), "-key", filepath.Join(folder, "key.pem"),
+		"-authorities", filepath.Join(folder, "ca.pem"), "-roles"}
+	_, address := s.start(append(words, roles)...)
+	certificates, err := server.FilesIn(folder).Load()
+	if err != nil {
+		t.Fatal(err)
+	}
+	conn, err := certificates.Dial(context.Background(), "tcp", address)
+	if err != nil {
+		t.Fatal(err)
+	}
+	defer conn.Close()
+	s.expect("a change", s.ask(conn, prune), `{"code":"G1","line":1}`+"\n")
+	s.expect("a query", s.ask(conn, show), `{"call":1,"place":0,"replies":[],"result":"answered"}`+"\n")
+	s.expect("the exit status without the file", fmt.Sprint(s.status(s.command(append(words, "/none")...))), "1")
+}
+
+// TestFailuresAreLoggedOnce lets etcd refuse all requests, and then, for want of space, changes alone. The program logs
+// each reason for each kind of request once, and once when such a request is answered again.
 func TestFailuresAreLoggedOnce(t *testing.T) {
 	s := newSite(t)
 	var logged bytes.Buffer
@@ -508,18 +613,22 @@ func TestFailuresAreLoggedOnce(t *testing.T) {
 	}
 	defer conn.Close()
 	fmt.Fprintln(conn, prune)
-	s.within("few requests fail", func() bool { return failures() > 4 })
+	s.waits("few requests fail", func() bool { return failures() > 4 })
 	s.store.Fill(true)
 	s.store.Refuse(0)
 	before := failures()
-	s.within("no changes fail", func() bool { return failures() > before+4 })
+	s.waits("no changes fail", func() bool { return failures() > before+4 })
 	s.store.Fill(false)
-	s.expect("the change", s.ask(conn, show), `{"call":1,"place":1,"replies":[{"pruned":["1"]}],"result":"committed"}`+"\n")
+	s.expect("the change", s.ask(conn, show),
+		`{"call":1,"place":1,"replies":[{"pruned":["1"]}],"result":"committed"}`+"\n")
 	gateway.Process.Signal(syscall.SIGTERM)
 	s.status(gateway)
 	for event, least := range map[string]int{
-		`doesn't answer" request="append" error="etcd: 503`: 1, `doesn't answer" request="append" error="etcd: 429`: 1,
-		`answers again" request="append"`: 1, `doesn't answer" request="get" error="etcd: 503`: 0, `answers again" request="get"`: 0,
+		`doesn't answer" request="append" error="etcd: 503`: 1,
+		`doesn't answer" request="append" error="etcd: 429`: 1,
+		`answers again" request="append"`:                   1,
+		`doesn't answer" request="get" error="etcd: 503`:    0,
+		`answers again" request="get"`:                      0,
 	} {
 		if count := strings.Count(logged.String(), event); count < least || count > 1 {
 			t.Errorf("%s: %d times in %s", event, count, logged.String())
@@ -527,7 +636,8 @@ func TestFailuresAreLoggedOnce(t *testing.T) {
 	}
 }
 
-// TestSlowAppendIsLogged lets etcd accept a change after it had refused it, and not answer: the entry in the log is the end of the failure.
+// TestSlowAppendIsLogged lets etcd accept a change after it had refused it, and not answer: the entry in the log is the
+// end of the failure.
 func TestSlowAppendIsLogged(t *testing.T) {
 	s := newSite(t)
 	var logged bytes.Buffer
@@ -553,14 +663,16 @@ func TestSlowAppendIsLogged(t *testing.T) {
 	}
 	defer conn.Close()
 	fmt.Fprintln(conn, prune)
-	s.within("no append fails", func() bool {
+	s.waits("no append fails", func() bool {
 		return !strings.Contains(s.get("http://"+state+"/metrics"), "\nregd_gateway_etcd_failures_total 0\n")
 	})
 	defer s.store.HoldAnswers()()
 	s.store.Fill(false)
-	s.expect("the change", s.ask(conn, show), `{"call":1,"place":1,"replies":[{"pruned":["1"]}],"result":"committed"}`+"\n")
-	s.within("the append goes on", func() bool {
-		return !strings.Contains(s.get("http://"+state+"/metrics"), "\nregd_gateway_append_duration_seconds_count 0\n")
+	s.expect("the change", s.ask(conn, show),
+		`{"call":1,"place":1,"replies":[{"pruned":["1"]}],"result":"committed"}`+"\n")
+	s.waits("the append goes on", func() bool {
+		return !strings.Contains(s.get("http://"+state+"/metrics"),
+			"\nregd_gateway_append_duration_seconds_count 0\n")
 	})
 	gateway.Process.Signal(syscall.SIGTERM)
 	s.status(gateway)
@@ -569,8 +681,8 @@ func TestSlowAppendIsLogged(t *testing.T) {
 	}
 }
 
-// TestStartWithoutEtcd starts the program while etcd refuses everything: its status says so, and the log once. Then it goes on. A snapshot doesn't open
-// the port of the status.
+// TestStartWithoutEtcd starts the program while etcd refuses everything: its status says so, and the log once. Then it
+// goes on. A snapshot doesn't open the port of the status.
 func TestStartWithoutEtcd(t *testing.T) {
 	s := newSite(t)
 	s.store.Refuse(1 << 30)
@@ -592,14 +704,16 @@ func TestStartWithoutEtcd(t *testing.T) {
 		}
 	}
 	time.Sleep(500 * time.Millisecond) // in which etcd is asked again
-	for path, want := range map[string]string{"/ready": "false\n", "/ready/changes": "false\n", "/status": `"name":"g"`, "/metrics": "\nregd_gateway_ready 0\n"} {
+	for path, want := range map[string]string{"/ready": "false\n", "/ready/changes": "false\n",
+		"/status": `"name":"g"`, "/metrics": "\nregd_gateway_ready 0\n"} {
 		answer, err := http.Get("http://" + state + path)
 		if err != nil {
 			t.Fatal(err)
 		}
 		text, _ := io.ReadAll(answer.Body)
 		answer.Body.Close()
-		if answer.StatusCode != map[bool]int{true: 200, false: 503}[path == "/metrics"] || !strings.Contains(string(text), want) {
+		if answer.StatusCode != map[bool]int{true: 200, false: 503}[path == "/metrics"] ||
+			!strings.Contains(string(text), want) {
 			t.Errorf("%s: got %d, %s", path, answer.StatusCode, text)
 		}
 	}
@@ -640,7 +754,8 @@ func (s site) processorTime(process int) time.Duration {
 	if err != nil {
 		s.t.Fatal(err)
 	}
-	fields := strings.Fields(string(text[bytes.LastIndexByte(text, ')'):])) // the first one is the third of the file
+	// the first one is the third of the file
+	fields := strings.Fields(string(text[bytes.LastIndexByte(text, ')'):]))
 	var user, kernel int64
 	fmt.Sscan(fields[11], &user)
 	fmt.Sscan(fields[12], &kernel)
@@ -719,6 +834,43 @@ func TestWaitingCallers(t *testing.T) {
 	s.expect("the status after a signal", fmt.Sprint(s.status(gateway)), "0")
 }
 
+// TestConvertOption starts the program with a log of format 1: it ends. After a conversion it serves.
+func TestConvertOption(t *testing.T) {
+	s := newSite(t)
+	old := map[string][]byte{"p/domain": []byte("ex.org"), "p/head": []byte("1"),
+		"p/log/0000000000000001": []byte("a\n" + prune + "\n")}
+	s.store.Restore(old)
+	s.expect("the exit status with format 1", fmt.Sprint(s.status(s.command())), "2")
+	s.expect("that of a conversion", fmt.Sprint(s.status(s.command("-convert"))), "0")
+	s.expect("that of another one", fmt.Sprint(s.status(s.command("-convert"))), "0")
+	_, address := s.start()
+	s.expect("a query", s.call(address, show), `{"call":1,"place":1,"replies":[],"result":"answered"}`+"\n")
+	half := s.store.Backup()
+	for _, key := range []string{"p/2/format", "p/2/domain", "p/2/head"} {
+		delete(half, key)
+	}
+	s.store.Restore(half)
+	s.expect("the exit status with half a conversion", fmt.Sprint(s.status(s.command())), "2")
+}
+
+// TestAuditOption checks that changes are recorded in the file that the option names.
+func TestAuditOption(t *testing.T) {
+	s := newSite(t)
+	file := filepath.Join(t.TempDir(), "audit")
+	_, address := s.start("-audit", file)
+	s.call(address, prune)
+	for begin := time.Now(); ; time.Sleep(10 * time.Millisecond) {
+		text, err := os.ReadFile(file)
+		if err == nil && strings.Contains(string(text), `"entry":1,"line":1,"place":1,"outcome":"committed"}`) {
+			break
+		}
+		if time.Since(begin) > 10*time.Second {
+			t.Fatalf("the record is %s, %v", text, err)
+		}
+	}
+	s.expect("a record in no folder", fmt.Sprint(s.status(s.command("-audit", file+"/x"))), "1")
+}
+
 // TestExits checks the exit statuses of a gateway that can't begin, and of one that is outvoted.
 func TestExits(t *testing.T) {
 	s := newSite(t)
@@ -732,7 +884,9 @@ func TestExits(t *testing.T) {
 		{"a port that is taken", []string{"-listen", s.store.Listener.Addr().String()}, 1},
 		{"another port that is taken", []string{"-fresh", s.store.Listener.Addr().String()}, 1},
 		{"a third port that is taken", []string{"-status", s.store.Listener.Addr().String()}, 1},
-		{"no certificate", []string{"-certificate", "/nonexistent", "-key", "/nonexistent", "-authorities", "/nonexistent"}, 1},
+		{"no certificate", []string{
+			"-certificate", "/nonexistent", "-key", "/nonexistent", "-authorities", "/nonexistent",
+		}, 1},
 		{"no certificate for etcd", []string{"-etcd-files", "/nonexistent", "-etcd", "https://127.0.0.1:1"}, 1},
 		{"another domain", []string{"-domain", "other.org"}, 2},
 	} {

@@ -75,7 +75,8 @@ func TestStrangersAtTheProgram(t *testing.T) {
 	}
 	gateway.Process.Signal(syscall.SIGTERM)
 	s.expect("the status after a signal", fmt.Sprint(s.status(gateway)), "0")
-	reason := regexp.MustCompile(`event="handshake failed" address="127[.0-9]+:\d+" error="certificate 2 of the chain: `)
+	reason := regexp.MustCompile(
+		`event="handshake failed" address="127[.0-9]+:\d+" error="certificate 2 of the chain: `)
 	text := logged.String()
 	lines := strings.Count(text, `event="handshake failed"`)
 	if !reason.MatchString(text) || lines < 10 || lines > 20 {

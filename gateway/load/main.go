@@ -1,11 +1,12 @@
 // Command load plays many callers of gateways, or of regd, for tests and measurements.
 //
-// Each caller sends one line at a time, or -depth lines together, and waits for the answers. When its connection is lost it connects to the next
-// address, and sends a line with a token again. At the end load prints the rates, the waiting times and what the callers saw as one JSON object.
+// Each caller sends one line at a time, or -depth lines together, and waits for the answers. When its connection is
+// lost it connects to the next address, and sends a line with a token again. At the end load prints the rates, the
+// waiting times and what the callers saw as one JSON object.
 //
-// With -kind the callers are of another kind, and nothing is measured: silent ones; slow ones, which send and read a byte at a time; flood, which
-// send lines as fast as they can and read all answers; never, which do and read none; half, which end their side and then read; and malformed,
-// which send lines that are no requests.
+// With -kind the callers are of another kind, and nothing is measured: silent ones; slow ones, which send and read a
+// byte at a time; flood, which send lines as fast as they can and read all answers; never, which do and read none;
+// half, which end their side and then read; and malformed, which send lines that are no requests.
 package main
 
 import (
@@ -39,7 +40,7 @@ var (
 	hint        = flag.Int("hint", 0, "how many bytes the hint of a change has at least")
 	depth       = flag.Int("depth", 1, "how many queries are sent together")
 	think       = flag.Duration("think", 0, "the pause before each line")
-	record      = flag.String("record", "", "a file for each answered change, and with -history for the times of all lines")
+	record      = flag.String("record", "", "a file for answered changes, with -history for all lines")
 	history     = flag.Bool("history", false, "also record queries")
 	kind        = flag.String("kind", "", "another kind of callers: silent, slow, flood, never, half or malformed")
 	resend      = flag.String("resend", "", "in place of random lines, send each change of this record again")
@@ -89,15 +90,17 @@ func main() {
 		file, err := os.Create(*record)
 		check(err)
 		out = bufio.NewWriter(file)
-		defer out.Flush()
+		defer func() { check(out.Flush()) }()
 	}
 	var mu sync.Mutex
 	note := func(e event) {
 		if out != nil && (!e.Read || *history) {
-			text, _ := json.Marshal(e)
+			text, err := json.Marshal(e)
+			check(err)
 			mu.Lock()
-			out.Write(append(text, '\n'))
+			_, err = out.Write(append(text, '\n'))
 			mu.Unlock()
+			check(err)
 		}
 	}
 	var next func() (string, bool)
@@ -113,7 +116,8 @@ func main() {
 			defer group.Done()
 			stop := start.Add(time.Duration(*seconds * 1e9))
 			random := rand.New(rand.NewSource(start.UnixNano() + int64(j)))
-			c := caller{addresses: list, at: j, number: j, random: random, note: note, seen: &all[j], giveUp: stop.Add(patience)}
+			c := caller{addresses: list, at: j, number: j, random: random, note: note, seen: &all[j],
+				giveUp: stop.Add(patience)}
 			if *kind != "" {
 				c.misbehave(*kind, stop)
 			} else {
@@ -156,17 +160,20 @@ func recorded(name string) func() (string, bool) {
 func entryID(k int) string { return fmt.Sprintf("11111111-0000-4000-8000-%012x", k) }
 
 func operation(name string, k int, hint string) string {
-	return fmt.Sprintf(`{"op":"%s","id":"%s","parent":"spiffe://ex.org/spire/agent/n%d","identity":"spiffe://ex.org/w%d","selectors":["unix:uid:1000"],"hint":"%s"}`,
+	return fmt.Sprintf(`{"op":"%s","id":"%s","parent":"spiffe://ex.org/spire/agent/n%d",`+
+		`"identity":"spiffe://ex.org/w%d","selectors":["unix:uid:1000"],"hint":"%s"}`,
 		name, entryID(k), k/10, k, hint)
 }
 
 // create creates the agents and the entries.
 func create(list []string) {
-	c := caller{addresses: list, random: rand.New(rand.NewSource(1)), seen: &seen{}, giveUp: time.Now().Add(patience)}
+	c := caller{addresses: list, random: rand.New(rand.NewSource(1)), seen: &seen{},
+		giveUp: time.Now().Add(patience)}
 	for k := 0; k < *entries; k += 50 {
 		var ops []string
 		for a := k / 10; a < k/10+5; a++ {
-			ops = append(ops, fmt.Sprintf(`{"op":"set_agent","agent":"spiffe://ex.org/spire/agent/n%d","selectors":["x:%d"]}`, a, a))
+			const set = `{"op":"set_agent","agent":"spiffe://ex.org/spire/agent/n%d","selectors":["x:%d"]}`
+			ops = append(ops, fmt.Sprintf(set, a, a))
 		}
 		for j := k; j < k+50 && j < *entries; j++ {
 			ops = append(ops, operation("create", j, ""))
@@ -231,7 +238,8 @@ func secured() *tls.Config {
 	return config
 }
 
-// exchange sends copies of a line and returns the last reply. If the connection is lost it sends them again, or returns nil.
+// exchange sends copies of a line and returns the last reply. If the connection is lost it sends them again, or returns
+// nil.
 func (c *caller) exchange(line string, copies int, isAgain bool) []byte {
 	text := []byte(strings.Repeat(line+"\n", copies))
 	for {
@@ -267,11 +275,11 @@ func (c *caller) run(stop time.Time, next func() (string, bool)) {
 		time.Sleep(*think)
 		line, isRead, isAgain := c.line(count)
 		if next != nil {
-			var ok bool
-			if line, ok = next(); !ok {
+			planned, ok := next()
+			if !ok {
 				return
 			}
-			isRead, isAgain = false, true
+			line, isRead, isAgain = planned, false, true
 		}
 		copies := 1
 		if isRead {
@@ -352,7 +360,8 @@ func (c *caller) line(count int) (line string, isRead, isAgain bool) {
 	}
 	token := ""
 	if *tokens {
-		token = fmt.Sprintf(`,"token":"%08x-%04x-4000-8000-%04x%08x"`, c.random.Uint32(), c.random.Intn(1<<16), c.number&0xffff, count)
+		token = fmt.Sprintf(`,"token":"%08x-%04x-4000-8000-%04x%08x"`,
+			c.random.Uint32(), c.random.Intn(1<<16), c.number&0xffff, count)
 	}
 	text := fmt.Sprintf("%d.%d", c.number, count)
 	if len(text) < *hint {
@@ -401,23 +410,32 @@ func report(all []seen, took float64) {
 	var t seen
 	for _, s := range all {
 		t.reads, t.writes = append(t.reads, s.reads...), append(t.writes, s.writes...)
-		t.lost, t.resent, t.repeated, t.refused, t.back = t.lost+s.lost, t.resent+s.resent, t.repeated+s.repeated, t.refused+s.refused, t.back+s.back
+		t.lost += s.lost
+		t.resent += s.resent
+		t.repeated += s.repeated
+		t.refused += s.refused
+		t.back += s.back
 		t.busy += s.busy
-		if t.unconnected += s.unconnected; s.reason != "" {
+		t.unconnected += s.unconnected
+		if s.reason != "" {
 			t.reason = s.reason
 		}
 		if s.longest > t.longest {
 			t.longest = s.longest
 		}
 	}
-	out := map[string]any{"seconds": took, "unconnected": t.unconnected, "reason": t.reason, "lost": t.lost, "resent": t.resent, "repeated": t.repeated, "refused": t.refused, "back": t.back, "longest_s": t.longest}
-	out["busy"] = t.busy
+	out := map[string]any{
+		"seconds": took, "unconnected": t.unconnected, "reason": t.reason, "lost": t.lost, "resent": t.resent,
+		"repeated": t.repeated, "refused": t.refused, "back": t.back, "longest_s": t.longest, "busy": t.busy,
+	}
 	for name, times := range map[string][]float64{"reads": t.reads, "changes": t.writes} {
 		out[name], out[name+"_per_s"] = len(times), float64(len(times))/took
-		if sort.Float64s(times); len(times) > 0 {
+		sort.Float64s(times)
+		if len(times) > 0 {
 			out[name+"_p50_ms"], out[name+"_p99_ms"] = 1e3*times[len(times)/2], 1e3*times[len(times)*99/100]
 		}
 	}
-	text, _ := json.Marshal(out)
+	text, err := json.Marshal(out)
+	check(err)
 	fmt.Println(string(text))
 }

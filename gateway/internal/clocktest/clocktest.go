@@ -1,6 +1,6 @@
-// Package clocktest moves the clock of one process, for tests. Programs in Go ask the kernel's vDSO for the time, so a library that is loaded
-// before them doesn't reach them. Move replaces the code of the vDSO in the memory of the process. The time since the start of the machine,
-// which Go uses for durations, stays right.
+// Package clocktest moves the clock of one process, for tests. Programs in Go ask the kernel's vDSO for the time, so a
+// library that is loaded before them doesn't reach them. Move replaces the code of the vDSO in the memory of the
+// process. The time since the start of the machine, which Go uses for durations, stays right.
 package clocktest
 
 import (
@@ -17,7 +17,8 @@ import (
 // IsPossible is true on machines for which Move has the code.
 const IsPossible = runtime.GOOS == "linux" && runtime.GOARCH == "amd64"
 
-// Move makes the clock of a process differ from that of the machine. The caller has to be allowed to trace the process, such as a child.
+// Move makes the clock of a process differ from that of the machine. The caller has to be allowed to trace the process,
+// such as a child.
 func Move(pid int, by time.Duration) error {
 	memory, err := os.OpenFile(fmt.Sprintf("/proc/%d/mem", pid), os.O_RDWR, 0)
 	if err != nil {
@@ -70,7 +71,8 @@ func function(image []byte) (int64, error) {
 	return 0, fmt.Errorf("the vDSO has no clock_gettime: %v", err)
 }
 
-// code returns a function that asks the kernel for the time of a clock, and adds some seconds if that is the clock of the day.
+// code returns a function that asks the kernel for the time of a clock, and adds some seconds if that is the clock of
+// the day.
 func code(seconds int64) []byte {
 	made := []byte{
 		0xb8, 0xe4, 0, 0, 0, // mov eax, 228: the number of the system call

@@ -16,7 +16,8 @@ type Backoff struct {
 
 var (
 	chanceMu sync.Mutex
-	chance   = rand.New(rand.NewSource(time.Now().UnixNano())) // gateways have to differ, and nothing depends on a value
+	// gateways have to differ, and nothing depends on a value
+	chance = rand.New(rand.NewSource(time.Now().UnixNano()))
 )
 
 // shortened returns a random duration between half of the given one and all of it.

@@ -58,6 +58,9 @@ func (l *Log) open(ctx context.Context, tries int, path string, request any) (io
 	}
 }
 
+// Distrust makes the next request go to another member, if there is one.
+func (l *Log) Distrust() { l.failures.Add(1) }
+
 // send sends a request to one member.
 func (l *Log) send(ctx context.Context, method, url string, text []byte) (io.ReadCloser, error) {
 	request, err := http.NewRequestWithContext(ctx, method, url, bytes.NewReader(text))
@@ -91,7 +94,8 @@ func (l *Log) change(ctx context.Context, size int, request, answer any) error {
 	return l.call(ctx, l.timeFor(size), 1, txnPath, request, answer)
 }
 
-// call makes one request of a number of members, one after another, and reads the answer of the first one that gives one.
+// call makes one request of a number of members, one after another, and reads the answer of the first one that gives
+// one.
 func (l *Log) call(ctx context.Context, most time.Duration, tries int, path string, request, answer any) error {
 	ctx, cancel := context.WithTimeout(ctx, most)
 	defer cancel()
@@ -227,6 +231,11 @@ func (l *Log) Has(name string, value []byte) object {
 	return object{"target": "VALUE", "key": l.key(name), "value": value}
 }
 
+// lacks is a condition too: there is no such key.
+func (l *Log) lacks(name string) object {
+	return object{"target": "CREATE", "key": l.key(name), "create_revision": "0"}
+}
+
 // Exists is a condition too: there is a key.
 func (l *Log) Exists(name string) object {
 	return object{"target": "CREATE", "result": "GREATER", "key": l.key(name), "create_revision": "0"}
@@ -253,7 +262,8 @@ func (l *Log) write(ctx context.Context, kind string, size int, part object, con
 		return l.change(ctx, size, request, &done)
 	})
 	if err == nil && !done.Succeeded {
-		err = errors.New("the log was changed meanwhile: another call has cut it, or etcd was restored from a backup")
+		err = errors.New(
+			"the log was changed meanwhile: another call has cut it, or etcd was restored from a backup")
 	}
 	return err
 }

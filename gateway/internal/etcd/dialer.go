@@ -21,7 +21,8 @@ var Dialer = &net.Dialer{Timeout: unreachableTime, Control: limitUnreachable}
 func limitUnreachable(_, _ string, raw syscall.RawConn) error {
 	var failed error
 	err := raw.Control(func(descriptor uintptr) {
-		failed = syscall.SetsockoptInt(int(descriptor), syscall.IPPROTO_TCP, tcpUserTimeout, int(unreachableTime.Milliseconds()))
+		failed = syscall.SetsockoptInt(int(descriptor), syscall.IPPROTO_TCP, tcpUserTimeout,
+			int(unreachableTime.Milliseconds()))
 	})
 	if err != nil {
 		return err

@@ -8,7 +8,8 @@ import (
 	"testing"
 )
 
-// TestMembersStates asks a member that serves, one with an alarm, one that refuses, one that is down, and one that shows no metrics.
+// TestMembersStates asks a member that serves, one with an alarm, one that refuses, one that is down, and one that
+// shows no metrics.
 func TestMembersStates(t *testing.T) {
 	usual, _, ctx := openLog(t)
 	alarmed, _, _ := openLog(t)
@@ -40,7 +41,8 @@ func TestMembersStates(t *testing.T) {
 		got[i].Error = ""
 	}
 	want := []Member{{URL: urls[0], Bytes: 1 << 20, Used: 4096, Quota: 1 << 21},
-		{URL: urls[1], Bytes: 1 << 20, Used: 4096, Quota: 1 << 21, Alarms: []string{"memberID:1 alarm:NOSPACE "}}, {URL: urls[2]}, {URL: urls[3]},
+		{URL: urls[1], Bytes: 1 << 20, Used: 4096, Quota: 1 << 21,
+			Alarms: []string{"memberID:1 alarm:NOSPACE "}}, {URL: urls[2]}, {URL: urls[3]},
 		{URL: urls[4], Bytes: 1 << 20, Used: 4096}}
 	if !reflect.DeepEqual(got, want) {
 		t.Errorf("got %v", got)

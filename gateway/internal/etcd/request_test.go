@@ -3,6 +3,7 @@ package etcd
 import (
 	"bytes"
 	"context"
+	"encoding/base64"
 	"errors"
 	"fmt"
 	"io"
@@ -32,6 +33,15 @@ func openLog(t *testing.T) (*etcdtest.Server, *Log, context.Context) {
 	return server, log, ctx
 }
 
+// draft returns what becomes an entry of one line.
+func draft(text string) Draft { return Draft{ID: text[:1], Lines: [][]byte{[]byte(text)}} }
+
+// appended appends an entry of one line.
+func appended(ctx context.Context, log *Log, text string) error {
+	_, err := log.Append(ctx, Start, draft(text))
+	return err
+}
+
 // shortTimes are for tests that let them pass.
 var shortTimes = times{call: 300 * time.Millisecond, byte: 10 * time.Microsecond, page: 3 * time.Second,
 	again: 20 * time.Millisecond, rarely: 100 * time.Millisecond}
@@ -48,7 +58,7 @@ func TestSilentMember(t *testing.T) {
 	log.times = shortTimes
 	begin := time.Now()
 	for i := 0; i < 2; i++ { // it stays with the one that answers
-		if had, err := log.Get(ctx, "head"); err != nil || string(had) != "0" {
+		if had, err := log.Get(ctx, "domain"); err != nil || string(had) != "ex.org" {
 			t.Errorf("got %s, %v", had, err)
 		}
 	}
@@ -112,8 +122,8 @@ func TestSlowEtcd(t *testing.T) {
 	if head, err := log.Head(ctx); head != 0 || err != nil {
 		t.Errorf("head: got %d, %v", head, err)
 	}
-	if last, err := log.Append(ctx, 1, []byte("a")); last != 1 || err != nil {
-		t.Errorf("append: got %d, %v", last, err)
+	if last, err := log.Append(ctx, Start, draft("a")); last.Entry != 1 || err != nil {
+		t.Errorf("append: got %v, %v", last, err)
 	}
 	if count := store.Counts().Transactions; count != 2 { // of which one has opened the log
 		t.Errorf("%d transactions", count)
@@ -125,10 +135,12 @@ func TestSlowPage(t *testing.T) {
 	log := New([]string{"http://127.0.0.1:1"}, "r/", nil)
 	log.times = shortTimes
 	log.members = []string{slow(t, http.HandlerFunc(func(w http.ResponseWriter, _ *http.Request) {
-		fmt.Fprint(w, `{"responses":[{"response_range":{}},{"response_range":{"kvs":[{"value":"Nw=="}]}}]}`) // the head is 7
+		head := base64.StdEncoding.EncodeToString(Position{Entry: 7, Name: Origin}.text())
+		const answer = `{"responses":[{"response_range":{}},{"response_range":{"kvs":[{"value":"%s"}]}}]}`
+		fmt.Fprintf(w, answer, head)
 	}), log.times.call*3/2)}
 	_, _, ctx := openLog(t)
-	if _, err := log.Follow(ctx, 1, "", func(uint64) {}, func(uint64, []byte) {}); !errors.Is(err, ErrCut) {
+	if _, err := log.Follow(ctx, Start, func(uint64) {}, func(Entry) {}); !errors.Is(err, ErrCut) {
 		t.Errorf("a slow page: got %v", err)
 	}
 	if err := log.read(ctx, log.times.call, "/", object{}, &found{}); !errors.Is(err, context.DeadlineExceeded) {
@@ -136,8 +148,8 @@ func TestSlowPage(t *testing.T) {
 	}
 }
 
-// TestLargePage follows a log over a slow network: pages that take too long are followed by smaller ones, and those that come by larger ones, so that
-// all entries arrive.
+// TestLargePage follows a log over a slow network: pages that take too long are followed by smaller ones, and those
+// that come by larger ones, so that all entries arrive.
 func TestLargePage(t *testing.T) {
 	t.Parallel()
 	server, _, _ := openLog(t)
@@ -145,8 +157,12 @@ func TestLargePage(t *testing.T) {
 	defer cancel()
 	const last = 12
 	other := New([]string{server.URL}, "r/", nil)
-	for number := uint64(1); number <= last; number++ {
-		if _, err := other.Append(ctx, number, bytes.Repeat([]byte("x"), 50_000)); err != nil {
+	for end := Start; end.Entry < last; {
+		d := draft(strings.Repeat("x", 50_000))
+		d.ID = fmt.Sprint(end.Entry)
+		var err error
+		end, err = other.Append(ctx, end, d)
+		if err != nil {
 			t.Fatal(err)
 		}
 	}
@@ -169,12 +185,12 @@ func TestLargePage(t *testing.T) {
 	log.times.page = pageTime
 	reading, stop := context.WithCancel(ctx)
 	defer stop()
-	next, taken := uint64(1), 0
-	for tries := 0; next <= last && ctx.Err() == nil; tries++ {
+	from, taken := Start, 0
+	for tries := 0; from.Entry < last && ctx.Err() == nil; tries++ {
 		var err error
-		next, err = log.Follow(reading, next, "", func(uint64) { stop() }, func(uint64, []byte) { taken++ })
+		from, err = log.Follow(reading, from, func(uint64) { stop() }, func(Entry) { taken++ })
 		if err == nil || tries > 40 {
-			t.Fatalf("entry %d is due, %v", next, err)
+			t.Fatalf("after entry %d: %v", from.Entry, err)
 		}
 	}
 	if taken != last {
@@ -192,14 +208,16 @@ func smaller(a, b int) int {
 	return b
 }
 
-// TestPageSize checks how many entries the next page has: half after one that took too long, and one more after one that came.
+// TestPageSize checks how many entries the next page has: half after one that took too long, and one more after one
+// that came.
 func TestPageSize(t *testing.T) {
 	log := New(nil, "r/", nil)
 	for _, c := range []struct {
 		err  error
 		want int64
 	}{
-		{nil, pageSize}, {context.DeadlineExceeded, pageSize / 2}, {errors.New("refused"), pageSize / 2}, {nil, pageSize/2 + 1},
+		{nil, pageSize}, {context.DeadlineExceeded, pageSize / 2}, {errors.New("refused"), pageSize / 2},
+		{nil, pageSize/2 + 1},
 		{context.DeadlineExceeded, pageSize / 4}, {context.DeadlineExceeded, 8}, {context.DeadlineExceeded, 4},
 		{context.DeadlineExceeded, 2}, {context.DeadlineExceeded, 1}, {context.DeadlineExceeded, 1}, {nil, 2},
 	} {
@@ -216,7 +234,7 @@ func TestLargeValues(t *testing.T) {
 	log.times = shortTimes
 	log.members = []string{slow(t, store.Config.Handler, log.times.call*3/2)}
 	for name, request := range map[string]func() error{
-		"an append":  func() error { _, err := log.Append(ctx, 1, make([]byte, 1<<20)); return err },
+		"an append":  func() error { return appended(ctx, log, strings.Repeat("x", 1<<20)) },
 		"a piece":    func() error { return log.Put(ctx, "piece", make([]byte, 1<<19)) },
 		"reading it": func() error { _, err := log.GetLarge(ctx, "piece", 1<<19); return err },
 	} {
@@ -227,7 +245,8 @@ func TestLargeValues(t *testing.T) {
 	}
 }
 
-// TestLongAnswers checks that little is read of a long error, and that a connection whose answer isn't read to its end is closed.
+// TestLongAnswers checks that little is read of a long error, and that a connection whose answer isn't read to its end
+// is closed.
 func TestLongAnswers(t *testing.T) {
 	for _, status := range []int{http.StatusServiceUnavailable, http.StatusOK} {
 		var open atomic.Int64
@@ -243,8 +262,11 @@ func TestLongAnswers(t *testing.T) {
 			}
 		}
 		server.Start()
-		err := New([]string{server.URL}, "r/", nil).read(context.Background(), usualTimes.page, "/", object{}, &found{})
-		if isError := status != http.StatusOK; (err != nil) != isError || isError && (len(err.Error()) > 1000 || !strings.Contains(err.Error(), "503 Service Unavailable {} reason")) {
+		err := New([]string{server.URL}, "r/", nil).read(context.Background(), usualTimes.page, "/",
+			object{}, &found{})
+		const reason = "503 Service Unavailable {} reason"
+		if isError := status != http.StatusOK; (err != nil) != isError ||
+			isError && (len(err.Error()) > 1000 || !strings.Contains(err.Error(), reason)) {
 			t.Errorf("got %.2000v", err)
 		}
 		for begin := time.Now(); open.Load() != 0; time.Sleep(time.Millisecond) {
@@ -271,7 +293,8 @@ func TestConnections(t *testing.T) {
 	log, ctx := New([]string{server.URL}, "r/", nil), context.Background()
 	for i := 0; i < 20; i++ {
 		handler.Refuse(i % 2)
-		if err := log.read(ctx, log.times.call, "/v3/kv/range", object{"key": log.key("head")}, &found{}); (err != nil) != (i%2 == 1) {
+		err := log.read(ctx, log.times.call, "/v3/kv/range", object{"key": log.key("head")}, &found{})
+		if (err != nil) != (i%2 == 1) {
 			t.Error(err)
 		}
 	}
@@ -301,7 +324,7 @@ func TestPauses(t *testing.T) {
 	for name, request := range map[string]func(context.Context) error{
 		"a query":   func(ctx context.Context) error { _, err := log.Get(ctx, "head"); return err },
 		"a value":   func(ctx context.Context) error { return log.Put(ctx, "x", nil) },
-		"an append": func(ctx context.Context) error { _, err := log.Append(ctx, 1, []byte("a")); return err },
+		"an append": func(ctx context.Context) error { return appended(ctx, log, "a") },
 	} {
 		ctx, cancel := context.WithTimeout(context.Background(), 20*log.times.again)
 		server.Recount()
@@ -316,7 +339,8 @@ func TestPauses(t *testing.T) {
 	}
 }
 
-// TestBackoff checks that pauses double up to the longest one, that chance takes at most half of each, and that they begin again after a reset.
+// TestBackoff checks that pauses double up to the longest one, that chance takes at most half of each, and that they
+// begin again after a reset.
 func TestBackoff(t *testing.T) {
 	b, seen := Backoff{First: 100 * time.Millisecond, Most: time.Second}, map[time.Duration]bool{}
 	for round := 0; round < 50; round++ {
@@ -334,8 +358,8 @@ func TestBackoff(t *testing.T) {
 	}
 }
 
-// TestFailover makes an entry by a first member that loses its answer, after which a snapshot cuts it off. Whether it was made can't be known, so the
-// second member doesn't make it again.
+// TestFailover makes an entry by a first member that loses its answer, after which a snapshot cuts it off. Whether it
+// was made can't be known, so the second member doesn't make it again.
 func TestFailover(t *testing.T) {
 	server, log, ctx := openLog(t)
 	first := httptest.NewServer(http.HandlerFunc(func(w http.ResponseWriter, r *http.Request) {
@@ -346,13 +370,13 @@ func TestFailover(t *testing.T) {
 		http.Error(w, "etcdserver: leader changed", http.StatusServiceUnavailable)
 	}))
 	defer first.Close()
-	last, err := New([]string{first.URL, server.URL}, "r/", nil).Append(ctx, 1, []byte("a"))
-	if last != 1 || !errors.Is(err, ErrUnknown) {
-		t.Errorf("got %d, %v", last, err)
+	last, err := New([]string{first.URL, server.URL}, "r/", nil).Append(ctx, Start, draft("a"))
+	if last.Entry != 1 || !errors.Is(err, ErrUnknown) {
+		t.Errorf("got %v, %v", last, err)
 	}
 	made := 0
 	for _, key := range server.Puts() {
-		if strings.HasPrefix(key, "r/log/") {
+		if strings.HasPrefix(key, "r/2/log/") {
 			made++
 		}
 	}
@@ -361,7 +385,8 @@ func TestFailover(t *testing.T) {
 	}
 }
 
-// TestUnreachable checks that a connection has a limit for what the other side doesn't acknowledge, which is shorter than that of a request.
+// TestUnreachable checks that a connection has a limit for what the other side doesn't acknowledge, which is shorter
+// than that of a request.
 func TestUnreachable(t *testing.T) {
 	on, err := net.Listen("tcp", "127.0.0.1:0")
 	if err != nil {
@@ -391,22 +416,26 @@ func TestUnreachable(t *testing.T) {
 func TestBounds(t *testing.T) {
 	server, log, ctx := openLog(t)
 	const last = 1100
-	for number := uint64(1); number <= last; number++ {
-		if _, err := log.Append(ctx, number, []byte("a value")); err != nil {
+	for end := Start; end.Entry < last; {
+		d := draft("a value")
+		d.ID = fmt.Sprint(end.Entry)
+		var err error
+		end, err = log.Append(ctx, end, d)
+		if err != nil {
 			t.Fatal(err)
 		}
 	}
 	server.Recount()
 	reading, stop := context.WithCancel(ctx)
-	log.Follow(reading, 1, "", func(uint64) { stop() }, func(uint64, []byte) {})
-	if counts := server.Counts(); counts.Pairs != pageSize+1 || counts.Requests != (last+pageSize-1)/pageSize {
+	log.Follow(reading, Start, func(uint64) { stop() }, func(Entry) {})
+	if counts := server.Counts(); counts.Pairs != pageSize || counts.Requests != (last+pageSize-1)/pageSize {
 		t.Errorf("reading: got %v", counts)
 	}
 	server.Recount()
 	if err := log.Cut(ctx, last-1); err != nil {
 		t.Fatal(err)
 	}
-	if counts := server.Counts(); counts.Deleted > 1000 || counts.Bytes > 0 || len(server.Keys()) != 3 {
+	if counts := server.Counts(); counts.Deleted > 1000 || counts.Bytes > 0 || len(server.Keys()) != 5 {
 		t.Errorf("cutting: got %v", counts)
 	}
 }
@@ -416,54 +445,63 @@ func TestEndedWatch(t *testing.T) {
 	for _, line := range []string{`{"result":{"canceled":true}}`, `{"error":{"message":"x"}}`, `{`} {
 		server, log, ctx := openLog(t)
 		seen := make(chan struct{}, 1)
-		next, err := log.Follow(ctx, 1, "", func(uint64) {
+		last, err := log.Follow(ctx, Start, func(uint64) {
 			go func() {
 				for server.Counts().Watches == 0 {
 					time.Sleep(time.Millisecond)
 				}
-				log.Append(ctx, 1, []byte("a"))
+				if err := appended(ctx, log, "a"); err != nil {
+					t.Error(err)
+				}
 				<-seen
 				if line == "{" {
 					server.CloseClientConnections()
 				}
 				server.TellWatches(line)
 			}()
-		}, func(uint64, []byte) { seen <- struct{}{} })
-		if err == nil || ctx.Err() != nil || next != 2 {
-			t.Errorf("%s: got %d, %v", line, next, err)
+		}, func(Entry) { seen <- struct{}{} })
+		if err == nil || ctx.Err() != nil || last.Entry != 1 {
+			t.Errorf("%s: got %v, %v", line, last, err)
 		}
 	}
 }
 
-// TestOpenAppend loses the answer to an append whose number is taken. The entry gets another number, and if that was cut off, one more: since the
-// first request was answered at last, it is known that it made nothing.
+// TestOpenAppend loses the answer to an append whose number is taken. The entry gets another number, and if that was
+// cut off, one more: since the first request was answered at last, it is known that it made nothing.
 func TestOpenAppend(t *testing.T) {
 	server, log, ctx := openLog(t)
-	log.Append(ctx, 1, []byte("a"))
+	if err := appended(ctx, log, "a"); err != nil {
+		t.Fatal(err)
+	}
 	server.LoseAnswers(1)
 	server.Before(3, func() { // another gateway makes two entries and a snapshot in between
-		for number := uint64(2); number < 4; number++ {
-			log.Append(ctx, number, []byte("b"))
+		for _, text := range []string{"b", "x"} {
+			if err := appended(ctx, log, text); err != nil {
+				t.Error(err)
+			}
 		}
 		log.Cut(ctx, 2)
 	})
-	if last, err := log.Append(ctx, 1, []byte("c")); last != 4 || err != nil {
-		t.Errorf("got %d, %v", last, err)
+	if last, err := log.Append(ctx, Start, draft("c")); last.Entry != 4 || err != nil {
+		t.Errorf("got %v, %v", last, err)
 	}
 }
 
-// TestReasons checks which failures are logged: each reason once until a request is answered, whatever addresses a connection had, and few of them.
+// TestReasons checks which failures are logged: each reason once until a request is answered, whatever addresses a
+// connection had, and few of them.
 func TestReasons(t *testing.T) {
 	log := New(nil, "r/", nil)
 	dial := func(port int) error {
-		return &url.Error{Err: &net.OpError{Op: "dial", Addr: &net.TCPAddr{Port: port}, Err: syscall.ECONNREFUSED}}
+		address := &net.TCPAddr{Port: port}
+		return &url.Error{Err: &net.OpError{Op: "dial", Addr: address, Err: syscall.ECONNREFUSED}}
 	}
 	for _, c := range []struct {
 		kind string
 		err  error
 		want bool
 	}{
-		{"get", dial(1), true}, {"get", dial(2), false}, {"get", errors.New("no space"), true}, {"get", errors.New("no space"), false},
+		{"get", dial(1), true}, {"get", dial(2), false}, {"get", errors.New("no space"), true},
+		{"get", errors.New("no space"), false},
 		{"append", errors.New("no space"), true}, {"get", &url.Error{Err: context.DeadlineExceeded}, true},
 		{"get", fmt.Errorf("x: %w", &url.Error{URL: "a", Err: context.DeadlineExceeded}), false},
 	} {

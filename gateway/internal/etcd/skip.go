@@ -27,8 +27,8 @@ func ParseLine(text string) (l Line, ok bool) {
 // Skips are the lines that no replica executes, with the times when operators decided that.
 type Skips map[Line]string
 
-// the folder of skips, and what the name of an entry that records one begins with, before the line
-const skipFolder, skipPrefix = "skip/", "skip "
+// the folder of skips
+const skipFolder = "skip/"
 
 // Skips returns all lines that are skipped.
 func (l *Log) Skips(ctx context.Context) (Skips, error) {
@@ -42,28 +42,34 @@ func (l *Log) Skips(ctx context.Context) (Skips, error) {
 	return skips, err
 }
 
-// Skip makes all replicas leave out a line. In one transaction it stores that under a key, which replicas read when they start, and appends an entry that
-// records it, at which a replica that has executed the line ends. So a replica that has executed the record has left out the line, and one that is ready
-// without the record has not. The id is one that no other call has.
+// Skip makes all replicas leave out a line. In one transaction it stores that under a key, which replicas read when
+// they start, and appends an entry that records it, at which a replica that has executed the line ends. So a replica
+// that has executed the record has left out the line, and one that is ready without the record has not. The id is one
+// that no other call has.
 func (l *Log) Skip(ctx context.Context, line Line, id string) error {
-	value, err := l.Get(ctx, EntryKey(line.Entry))
+	value, err := l.GetLarge(ctx, EntryKey(line.Entry), 1<<20)
 	if err != nil {
 		return err
 	}
-	if _, lines := SplitEntry(value); value == nil || line.Number < 1 || line.Number > len(lines) {
+	if value == nil {
 		return fmt.Errorf("the log has no line %v", line)
+	}
+	e, err := ReadEntry(line.Entry, value)
+	if err != nil {
+		return err
+	}
+	if line.Number < 1 || line.Number > len(e.Lines) {
+		return fmt.Errorf("the log has no line %v", line)
+	}
+	end, err := l.End(ctx)
+	if err != nil {
+		return err
 	}
 	when := l.writing(skipFolder+line.String(), []byte(time.Now().UTC().Format(time.RFC3339)))
 	record := fmt.Sprintf(`{"skip":"%v"}`, line) // which regd refuses
-	_, err = l.Append(ctx, line.Entry+1, JoinEntry(fmt.Sprintf("%s%v %s", skipPrefix, line, id), [][]byte{[]byte(record)}), when)
+	_, err = l.Append(ctx, end, Draft{ID: id, Skip: line.String(), Lines: [][]byte{[]byte(record)}}, when)
 	return err
 }
 
-// Skipped returns the line whose skip an entry records by its name, and whether it does.
-func Skipped(name string) (Line, bool) {
-	var text, id string
-	if _, err := fmt.Sscanf(name, skipPrefix+"%s %s", &text, &id); err != nil {
-		return Line{}, false
-	}
-	return ParseLine(text)
-}
+// Skipped returns the line whose skip an entry records, and whether it does.
+func (d Draft) Skipped() (Line, bool) { return ParseLine(d.Skip) }

@@ -34,10 +34,14 @@ func (r *Rare) Error(event string, pairs ...any) {
 // isDue returns true if a line may be written, and then none is due for a minute.
 func (r *Rare) isDue(now time.Duration) bool {
 	next := r.next.Load()
-	return int64(now) >= next && r.next.CompareAndSwap(next, int64(now+time.Minute))
+	if int64(now) < next {
+		return false
+	}
+	return r.next.CompareAndSwap(next, int64(now+time.Minute))
 }
 
-// format returns the line. The event and the values are quoted, so that no text of a caller looks like another word or line.
+// format returns the line. The event and the values are quoted, so that no text of a caller looks like another word or
+// line.
 func format(now time.Time, level, event string, pairs []any) string {
 	line := fmt.Sprintf("time=%s level=%s event=%q", now.UTC().Format("2006-01-02T15:04:05.000Z"), level, event)
 	for i := 0; i+1 < len(pairs); i += 2 {

@@ -14,7 +14,8 @@ func TestFormat(t *testing.T) {
 		want  string
 	}{
 		{"ready", nil, `event="ready"`},
-		{"replica ready", []any{"entry", uint64(7), "seconds", 0.5}, `event="replica ready" entry="7" seconds="0.5"`},
+		{"replica ready", []any{"entry", uint64(7), "seconds", 0.5},
+			`event="replica ready" entry="7" seconds="0.5"`},
 		{"failed", []any{"error", errors.New("a\nb")}, `event="failed" error="a\nb"`},
 		{"failed", []any{"text", ""}, `event="failed" text=""`},
 	} {
@@ -31,7 +32,8 @@ func TestRare(t *testing.T) {
 	for _, c := range []struct {
 		now  time.Duration
 		want bool
-	}{{0, true}, {0, false}, {59 * time.Second, false}, {time.Minute, true}, {61 * time.Second, false}, {time.Hour, true}} {
+	}{{0, true}, {0, false}, {59 * time.Second, false}, {time.Minute, true}, {61 * time.Second, false},
+		{time.Hour, true}} {
 		if got := r.isDue(c.now); got != c.want {
 			t.Errorf("after %v: got %v", c.now, got)
 		}

@@ -36,7 +36,8 @@ func (v *Vector) counter(value string) *Counter {
 }
 
 // bounds has the upper bounds of the buckets of a histogram, in seconds.
-var bounds = [...]float64{.0001, .00025, .0005, .001, .0025, .005, .01, .025, .05, .1, .25, .5, 1, 2.5, 5, 10, 20, 60, 300}
+var bounds = [...]float64{.0001, .00025, .0005, .001, .0025, .005, .01, .025, .05, .1, .25, .5, 1, 2.5, 5, 10,
+	20, 60, 300}
 
 // A Histogram counts durations.
 type Histogram struct {
@@ -87,7 +88,8 @@ func (p *Page) Counter(name, help string, c *Counter) {
 	p.sample(name, float64(c.Load()))
 }
 
-// Vector adds the counters of all values of a label. The known ones are there from the beginning, so that their first increase is seen.
+// Vector adds the counters of all values of a label. The known ones are there from the beginning, so that their first
+// increase is seen.
 func (p *Page) Vector(name, help, label string, v *Vector, known ...string) {
 	p.begin("counter", name, help)
 	for _, value := range known {

@@ -20,12 +20,21 @@ func TestPage(t *testing.T) {
 		add  func(*Page)
 		want string
 	}{
-		{"a gauge", func(p *Page) { p.Gauge("g", "A number.", -0.5) }, "# HELP g A number.\n# TYPE g gauge\ng -0.5\n"},
-		{"a large gauge", func(p *Page) { p.Gauge("g", "A number.", 1<<40) }, "# HELP g A number.\n# TYPE g gauge\ng 1099511627776\n"},
-		{"labels", func(p *Page) { p.Info("g", "Names.", "a", "x", "b", "y\n") }, "# HELP g Names.\n# TYPE g gauge\ng{a=\"x\",b=\"y\\n\"} 1\n"},
-		{"a counter", func(p *Page) { p.Counter("c_total", "Events.", &c) }, "# HELP c_total Events.\n# TYPE c_total counter\nc_total 2\n"},
+		{"a gauge", func(p *Page) {
+			p.Gauge("g", "A number.", -0.5)
+		}, "# HELP g A number.\n# TYPE g gauge\ng -0.5\n"},
+		{"a large gauge", func(p *Page) {
+			p.Gauge("g", "A number.", 1<<40)
+		}, "# HELP g A number.\n# TYPE g gauge\ng 1099511627776\n"},
+		{"labels", func(p *Page) {
+			p.Info("g", "Names.", "a", "x", "b", "y\n")
+		}, "# HELP g Names.\n# TYPE g gauge\ng{a=\"x\",b=\"y\\n\"} 1\n"},
+		{"a counter", func(p *Page) {
+			p.Counter("c_total", "Events.", &c)
+		}, "# HELP c_total Events.\n# TYPE c_total counter\nc_total 2\n"},
 		{"a vector", func(p *Page) { p.Vector("v_total", "Events.", "code", &v) },
-			"# HELP v_total Events.\n# TYPE v_total counter\nv_total{code=\"\té\x01\\\\\uFFFD\"} 1\nv_total{code=\"a\\\"\\n\"} 1\nv_total{code=\"b\"} 2\n"},
+			"# HELP v_total Events.\n# TYPE v_total counter\nv_total{code=\"\té\x01\\\\\uFFFD\"} 1\n" +
+				"v_total{code=\"a\\\"\\n\"} 1\nv_total{code=\"b\"} 2\n"},
 	} {
 		var p Page
 		if one.add(&p); p.String() != one.want {
@@ -37,17 +46,22 @@ func TestPage(t *testing.T) {
 // TestHistogram checks that a bucket counts what is at most its bound, also what is in the buckets below it.
 func TestHistogram(t *testing.T) {
 	var h Histogram
-	for _, took := range []time.Duration{0, 100 * time.Microsecond, 101 * time.Microsecond, time.Second, time.Minute} {
+	for _, took := range []time.Duration{0, 100 * time.Microsecond, 101 * time.Microsecond, time.Second,
+		time.Minute} {
 		h.Observe(took)
 	}
 	var p Page
 	p.Histogram("h_seconds", "Times.", &h)
 	lines := strings.Split(strings.TrimSpace(p.String()), "\n")
-	if lines[0] != "# HELP h_seconds Times." || lines[1] != "# TYPE h_seconds histogram" || len(lines) != 2+len(bounds)+3 {
+	if lines[0] != "# HELP h_seconds Times." || lines[1] != "# TYPE h_seconds histogram" ||
+		len(lines) != 2+len(bounds)+3 {
 		t.Fatalf("got %q", lines)
 	}
-	for _, want := range []string{`h_seconds_bucket{le="0.0001"} 2`, `h_seconds_bucket{le="0.00025"} 3`, `h_seconds_bucket{le="0.5"} 3`,
-		`h_seconds_bucket{le="1"} 4`, `h_seconds_bucket{le="20"} 4`, `h_seconds_bucket{le="+Inf"} 5`, "h_seconds_sum 61.000201", "h_seconds_count 5"} {
+	for _, want := range []string{
+		`h_seconds_bucket{le="0.0001"} 2`, `h_seconds_bucket{le="0.00025"} 3`, `h_seconds_bucket{le="0.5"} 3`,
+		`h_seconds_bucket{le="1"} 4`, `h_seconds_bucket{le="20"} 4`, `h_seconds_bucket{le="+Inf"} 5`,
+		"h_seconds_sum 61.000201", "h_seconds_count 5",
+	} {
 		if !strings.Contains(p.String(), want+"\n") {
 			t.Errorf("%s is missing in %s", want, p.String())
 		}

@@ -20,10 +20,9 @@ type Options struct {
 	Program string
 	Domain  string
 	Workers int // one executes the changes, the others answer queries
-	// for regd to listen and for the next reply that it owes, after which the replica ends or the query is refused; 0
-	// for 10 seconds
-	Hang   time.Duration
-	Tokens int // how many are retained, by all gateways; 0 for 65,536
+	// for regd to listen and for the next reply that it owes, after which the replica ends or the query is refused;
+	// 0 for 10 seconds
+	Hang time.Duration
 	// the most bytes of the reply to a query; 0 for any number
 	ReplyBytes int
 	OnLate     func() // called when a reply to a query is late, and each time Hang later; nil for no call
@@ -34,20 +33,17 @@ const firstLine = `{"ops":[{"op":"show","id":"00000000-0000-0000-0000-0000000000
 
 // Start starts a regd with an empty book. It calls onEntry after each entry, in their order; onEntry must not wait.
 //
-// regd accepts as many connections as it has workers, and the replica opens all of them. So connection 0 is the only writer, each connection
-// has a worker of its own, no other process can connect, and regd ends when this gateway ends.
+// regd accepts as many connections as it has workers, and the replica opens all of them. So connection 0 is the only
+// writer, each connection has a worker of its own, no other process can connect, and regd ends when this gateway ends.
 func Start(ctx context.Context, options Options, onEntry func(State)) (*Replica, error) {
 	if options.Hang == 0 {
 		options.Hang = 10 * time.Second
 	}
-	if options.Tokens == 0 {
-		options.Tokens = 65536
-	}
 	workers := strconv.Itoa(options.Workers)
 	// the seed stays the default: ids are drawn before a change is appended to the log
 	ctx, cancel := context.WithCancel(ctx)
-	command := exec.CommandContext(ctx, options.Program, "serve", "--domain", options.Domain, "--listen", "127.0.0.1:0",
-		"--workers", workers, "--connections", workers)
+	command := exec.CommandContext(ctx, options.Program, "serve", "--domain", options.Domain,
+		"--listen", "127.0.0.1:0", "--workers", workers, "--connections", workers)
 	command.Args[0] = "regd" // for ps: Program may be the path of an open file
 	command.Stderr = os.Stderr
 	out, err := command.StdoutPipe()
@@ -59,8 +55,10 @@ func Start(ctx context.Context, options Options, onEntry func(State)) (*Replica,
 		return nil, err
 	}
 	defer time.AfterFunc(options.Hang, cancel).Stop()
-	r := &Replica{options: options, command: command, onEntry: onEntry, ctx: ctx, cancel: cancel, slots: make(chan struct{}, mostOpen),
-		tokens: map[string]*Kept{}}
+	r := &Replica{
+		options: options, command: command, onEntry: onEntry, ctx: ctx, cancel: cancel,
+		slots: make(chan struct{}, mostOpen), tokens: map[string]*Kept{},
+	}
 	if err := r.connect(out); err != nil {
 		r.Close()
 		return nil, err
@@ -107,8 +105,8 @@ func (r *Replica) connect(out io.Reader) error {
 	return nil
 }
 
-// Close ends regd, and returns when the last reply is passed on. So what comes after an ended replica, such as the next one, is not mixed with late
-// replies of it. It may be called again, but not by a function that takes a reply.
+// Close ends regd, and returns when the last reply is passed on. So what comes after an ended replica, such as the next
+// one, is not mixed with late replies of it. It may be called again, but not by a function that takes a reply.
 func (r *Replica) Close() {
 	r.end.Do(func() {
 		r.cancel() // which also kills regd

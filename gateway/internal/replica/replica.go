@@ -1,9 +1,9 @@
 // Package replica runs one regd and makes its book from the log.
 //
-// The book is a function of the log alone: the same lines go over the same connection in the same order, and nothing in them is drawn by
-// regd. Running out of memory is the one thing that does not depend on the lines, so a regd that reports it has left the other replicas. Such
-// a replica ends, and another one is made from the log. So does a replica whose regd owes the
-// reply to a change for too long, or gives a reply that doesn't belong to its line.
+// The book is a function of the log alone: the same lines go over the same connection in the same order, and nothing in
+// them is drawn by regd. Running out of memory is the one thing that does not depend on the lines, so a regd that
+// reports it has left the other replicas. Such a replica ends, and another one is made from the log. So does a replica
+// whose regd owes the reply to a change for too long, or gives a reply that doesn't belong to its line.
 package replica
 
 import (
@@ -24,13 +24,38 @@ const mostOpen = 4096
 type State struct {
 	Entry   uint64            // the last entry of which every line is answered
 	Name    string            // of this entry, which no other entry has
+	Time    int64             // of this entry
 	Place   uint64            // the commit number of the book
 	Sum     [sha256.Size]byte // of all commits and refusals, in their order
 	Skipped int               `json:",omitempty"` // how many lines were left out
+
+	IsFilling bool `json:",omitempty"` // the retained tokens took over half of their room when they were counted
+	IsFull    bool `json:",omitempty"` // they took all of it, so a change with another token is refused
 }
 
-// A Replica is a running regd with the state of the log up to an entry. When regd ends or leaves the log, its context ends, and the replica is
-// of no more use.
+// An Entry is an entry of the log, as far as a replica executes it.
+type Entry struct {
+	Number uint64
+	Name   string
+	Time   int64 // in milliseconds since 1970, and not before the entry before
+	Keep   int64 // for how many milliseconds tokens are retained; 0 for the usual time
+	Room   int64 // how many bytes they may take; 0 for the usual room
+	Lines  [][]byte
+	Added  []int // the lines, from 0, to which a gateway has added revisions
+}
+
+// isAdded returns true if a gateway has added revisions to a line.
+func (e Entry) isAdded(line int) bool {
+	for _, one := range e.Added {
+		if one == line {
+			return true
+		}
+	}
+	return false
+}
+
+// A Replica is a running regd with the state of the log up to an entry. When regd ends or leaves the log, its context
+// ends, and the replica is of no more use.
 type Replica struct {
 	options Options
 	command *exec.Cmd
@@ -47,14 +72,9 @@ type Replica struct {
 	state    State
 	tokens   map[string]*Kept // also those of batches that are under way
 	retained []*Kept          // those of committed batches, the oldest first
+	bytes    int64            // that they take
+	oldest   int64            // the time from which on tokens are retained
 	hasLeft  bool             // regd gave no reply, or one that the other replicas may not have got
-}
-
-// A Kept is a token under which a batch was committed, or is about to be.
-type Kept struct {
-	Token string
-	Same  string // equal for the same operations
-	Reply []byte `json:",omitempty"` // without the call number; nil while the batch is under way
 }
 
 // Context returns a context that ends with the replica.
@@ -68,13 +88,6 @@ func (r *Replica) State() State {
 	r.mu.Lock()
 	defer r.mu.Unlock()
 	return r.state
-}
-
-// Tokens returns the retained tokens, the oldest first. No change may be under way.
-func (r *Replica) Tokens() []*Kept {
-	r.mu.Lock()
-	defer r.mu.Unlock()
-	return append([]*Kept{}, r.retained...)
 }
 
 // Query sends a line to one of the workers for queries; equal numbers give the same worker unless that owes a late
@@ -106,27 +119,30 @@ func (r *Replica) probe() {
 // Ask sends a query to regd and waits for the reply. It returns nil if regd has ended.
 func (r *Replica) Ask(line []byte) []byte { return r.links[1].call(line) }
 
-// Apply executes the lines of an entry with this number and name, in order, but for those that skips reports, and calls answer with the number and
+// Apply executes the lines of an entry in order, but for those that skips reports, and calls answer with the number and
 // the reply of each. It returns before the replies come. If regd ends, some lines are not answered.
-func (r *Replica) Apply(entry uint64, name string, lines [][]byte, skips func(number int) bool, answer func(number int, reply []byte)) {
-	for i, line := range lines {
+func (r *Replica) Apply(e Entry, skips func(number int) bool, answer func(number int, reply []byte)) {
+	r.beginEntry(e)
+	for i, line := range e.Lines {
 		i := i
 		done := func(reply []byte) {
-			if answer(i, reply); i == len(lines)-1 {
-				r.finish(entry, name)
+			answer(i, reply)
+			if i == len(e.Lines)-1 {
+				r.finish(e)
 			}
 		}
 		if skips != nil && skips(i) {
 			r.skip(done)
 		} else {
-			r.apply(line, done)
+			r.apply(e, i, line, done)
 		}
 	}
 }
 
 // skip leaves a line out, when the lines before it are executed.
 func (r *Replica) skip(done func(reply []byte)) {
-	if r.Settle(); r.HasEnded() {
+	r.Settle()
+	if r.HasEnded() {
 		return
 	}
 	r.mu.Lock()
@@ -145,10 +161,10 @@ func (r *Replica) HasEnded() bool {
 // Settle waits until every line is answered, or regd has ended.
 func (r *Replica) Settle() { r.open.Wait() }
 
-// apply executes a line, and calls answer with the reply unless the replica is of no more use.
-func (r *Replica) apply(line []byte, answer func(reply []byte)) {
+// apply executes a line of an entry, and calls answer with the reply unless the replica is of no more use.
+func (r *Replica) apply(e Entry, number int, line []byte, answer func(reply []byte)) {
 	var kept *Kept
-	if tokened, ok := wire.ReadTokened(line); ok {
+	if tokened, ok := wire.ReadTokened(line, e.isAdded(number)); ok {
 		if r.find(tokened.Token) != nil { // rare, and the answer may depend on changes that are under way
 			r.Settle()
 		}
@@ -158,7 +174,11 @@ func (r *Replica) apply(line []byte, answer func(reply []byte)) {
 			}
 			return
 		}
-		kept, line = &Kept{Token: tokened.Token, Same: tokened.Same}, tokened.Line
+		if r.isFull() {
+			r.refuse(answer)
+			return
+		}
+		kept, line = &Kept{Token: tokened.Token, Same: tokened.Same, Time: e.Time}, tokened.Line
 		r.mu.Lock()
 		r.tokens[kept.Token] = kept
 		r.mu.Unlock()
@@ -174,14 +194,16 @@ func (r *Replica) apply(line []byte, answer func(reply []byte)) {
 	})
 }
 
-func (r *Replica) find(token string) *Kept {
-	r.mu.Lock()
-	defer r.mu.Unlock()
-	return r.tokens[token]
+// refuse refuses a line for whose token there is no room, when the lines before it are executed.
+func (r *Replica) refuse(answer func(reply []byte)) {
+	r.Settle()
+	if !r.HasEnded() {
+		answer(wire.Refusal(wire.Busy))
+	}
 }
 
-// again returns the reply to a batch whose token is retained, as regd would give it: the fault of the line, W1, O9 or the first replies. No
-// other change is under way. It returns nil if the replica is of no more use.
+// again returns the reply to a batch whose token is retained, as regd would give it: the fault of the line, W1, O9 or
+// the first replies. No other change is under way. It returns nil if the replica is of no more use.
 func (r *Replica) again(kept *Kept, tokened wire.Tokened) []byte {
 	reply := r.links[0].call(tokened.Probe)
 	place := r.State().Place
@@ -198,8 +220,8 @@ func (r *Replica) again(kept *Kept, tokened wire.Tokened) []byte {
 	return wire.Repeated(kept.Reply)
 }
 
-// isLost returns true if there is no reply, or if the reply is one that the other replicas may not have got or follows such a reply. Then it ends
-// the replica.
+// isLost returns true if there is no reply, or if the reply is one that the other replicas may not have got or follows
+// such a reply. Then it ends the replica.
 func (r *Replica) isLost(reply []byte) bool {
 	r.mu.Lock()
 	defer r.mu.Unlock()
@@ -222,7 +244,8 @@ func (r *Replica) note(reply []byte, kept *Kept) bool {
 	r.mu.Lock()
 	defer r.mu.Unlock()
 	tail, code, isCommitted := wire.Tail(reply), wire.Code(reply), wire.IsCommitted(reply)
-	if isCommitted || code != "" && code != "O8" { // not of a page of an earlier book, which a snapshot doesn't have
+	// not of a page of an earlier book, which a snapshot doesn't have
+	if isCommitted || code != "" && code != "O8" {
 		r.state.Sum = sha256.Sum256(append(r.state.Sum[:], tail...))
 	}
 	if isCommitted {
@@ -236,20 +259,9 @@ func (r *Replica) note(reply []byte, kept *Kept) bool {
 	return true
 }
 
-// retain retains the token of a committed batch. If there are more than a number, the oldest one is forgotten. So the retained tokens are a function of
-// the log, whatever a clock says.
-func (r *Replica) retain(kept *Kept, reply []byte) {
-	kept.Reply = reply
-	r.tokens[kept.Token] = kept
-	if r.retained = append(r.retained, kept); len(r.retained) > r.options.Tokens {
-		delete(r.tokens, r.retained[0].Token)
-		r.retained = r.retained[1:]
-	}
-}
-
-func (r *Replica) finish(entry uint64, name string) {
+func (r *Replica) finish(e Entry) {
 	r.mu.Lock()
-	r.state.Entry, r.state.Name = entry, name
+	r.state.Entry, r.state.Name, r.state.Time = e.Number, e.Name, e.Time
 	state := r.state
 	r.mu.Unlock()
 	r.onEntry(state)
@@ -258,15 +270,15 @@ func (r *Replica) finish(entry uint64, name string) {
 // EmptyLine is a change that changes nothing but the commit number.
 const EmptyLine = `{"ops":[{"op":"prune","before":0}]}`
 
-// Restore executes the lines of a snapshot in an empty replica, which takes on its state and its tokens. Before them it executes as many empty lines as
-// the commit number needs; they are quickest while the book is empty. It returns an error if the lines don't end at that number, because one was refused
-// or regd has ended.
+// Restore executes the lines of a snapshot in an empty replica, which takes on its state and its tokens. Before them it
+// executes as many empty lines as the commit number needs; they are quickest while the book is empty. It returns an
+// error if the lines don't end at that number, because one was refused or regd has ended.
 func (r *Replica) Restore(state State, lines []string, tokens []*Kept) error {
 	for i := uint64(len(lines)); i < state.Place; i++ {
-		r.apply([]byte(EmptyLine), func([]byte) {})
+		r.apply(Entry{}, 0, []byte(EmptyLine), func([]byte) {})
 	}
 	for _, line := range lines {
-		r.apply([]byte(line), func([]byte) {})
+		r.apply(Entry{}, 0, []byte(line), func([]byte) {})
 	}
 	r.Settle()
 	r.mu.Lock()

@@ -47,7 +47,8 @@ func startWith(t *testing.T, options Options) (*Replica, func() []State) {
 const prune, show = `{"ops":[{"op":"prune","before":0}]}`, `{"ops":[{"op":"show"}]}`
 
 func tokened(number int, before int) string {
-	return fmt.Sprintf(`{"ops":[{"op":"prune","before":%d}],"token":"00000000-0000-0000-0000-%012d"}`, before, number)
+	return fmt.Sprintf(`{"ops":[{"op":"prune","before":%d}],"token":"00000000-0000-0000-0000-%012d"}`,
+		before, number)
 }
 
 // apply executes lines as one entry and returns the tails of the replies.
@@ -57,7 +58,9 @@ func apply(t *testing.T, r *Replica, entry uint64, lines ...string) []string {
 		all = append(all, []byte(line))
 	}
 	tails := make([]string, len(lines))
-	r.Apply(entry, fmt.Sprint(entry), all, nil, func(number int, reply []byte) { tails[number] = string(wire.Tail(reply)) })
+	r.Apply(Entry{Number: entry, Name: fmt.Sprint(entry), Lines: all}, nil, func(number int, reply []byte) {
+		tails[number] = string(wire.Tail(reply))
+	})
 	r.Settle()
 	return tails
 }
@@ -79,7 +82,8 @@ func TestApply(t *testing.T) {
 	apply(t, r, 1, prune, prune)
 	apply(t, r, 2, `{"ops":[]}`)
 	got := states()
-	if len(got) != 2 || got[0].Entry != 1 || got[0].Place != 2 || got[1].Entry != 2 || got[1].Name != "2" || got[1].Place != 2 {
+	if len(got) != 2 || got[0].Entry != 1 || got[0].Place != 2 || got[1].Entry != 2 || got[1].Name != "2" ||
+		got[1].Place != 2 {
 		t.Errorf("got %v", got)
 	}
 	if got[0].Sum != got[1].Sum || got[0].Sum == (State{}).Sum {
@@ -93,7 +97,8 @@ func TestApply(t *testing.T) {
 	}
 	apply(t, other, 3, `{"ops":[{"op":"page","hint":"O8"}]}`)
 	if other.State().Sum != r.State().Sum {
-		t.Error("a page of an earlier book makes a difference to the checksum, and a replica that begins with a snapshot doesn't have that book")
+		t.Error("a page of an earlier book makes a difference to the checksum, " +
+			"and a replica that begins with a snapshot doesn't have that book")
 	}
 	apply(t, other, 3, `{`)
 	if other.State().Sum == r.State().Sum {
@@ -112,12 +117,15 @@ func TestTokens(t *testing.T) {
 		{"the first", tokened(1, 0), committed(1)},
 		{"again", tokened(1, 0), repeated(1)},
 		{"another batch", tokened(1, 5), `"code":"O9","place":1,"result":"refused"}`},
-		{"too early", strings.Replace(tokened(1, 0), "{", `{"after":2,`, 1), `"code":"W1","place":1,"result":"refused"}`},
-		{"too early and another batch", strings.Replace(tokened(1, 5), "{", `{"after":2,`, 1), `"code":"W1","place":1,"result":"refused"}`},
+		{"too early", strings.Replace(tokened(1, 0), "{", `{"after":2,`, 1),
+			`"code":"W1","place":1,"result":"refused"}`},
+		{"too early and another batch", strings.Replace(tokened(1, 5), "{", `{"after":2,`, 1),
+			`"code":"W1","place":1,"result":"refused"}`},
 		{"malformed", strings.Replace(tokened(1, 0), `"before"`, `"hint":"L5","before"`, 1), `{"code":"L5"`},
 		{"another token", tokened(2, 0), committed(2)},
 		{"in time", strings.Replace(tokened(1, 0), "{", `{"after":2,`, 1), repeated(1)},
-		{"a refused batch", strings.Replace(tokened(3, 0), "prune", "delete", 1), `"code":"O3","op":0,"place":2,"result":"refused"}`},
+		{"a refused batch", strings.Replace(tokened(3, 0), "prune", "delete", 1),
+			`"code":"O3","op":0,"place":2,"result":"refused"}`},
 		{"its token", tokened(3, 0), committed(3)},
 		{"that again", tokened(3, 0), repeated(3)},
 	} {
@@ -125,7 +133,8 @@ func TestTokens(t *testing.T) {
 			t.Errorf("%s: got %s, want %s", c.name, got, c.want)
 		}
 	}
-	slow := strings.Replace(tokened(4, 0), `"before"`, `"hint":"SLOW","before"`, 1) // so that it is under way when it comes again
+	// so that it is under way when it comes again
+	slow := strings.Replace(tokened(4, 0), `"before"`, `"hint":"SLOW","before"`, 1)
 	got := apply(t, r, 2, slow, slow, prune, tokened(4, 1))
 	want := []string{committed(4), repeated(4), committed(5), `"code":"O9","place":5,"result":"refused"}`}
 	if strings.Join(got, "\n") != strings.Join(want, "\n") {
@@ -137,27 +146,12 @@ func TestTokens(t *testing.T) {
 	}
 }
 
-func TestTokensAreRetainedByNumber(t *testing.T) {
-	r, _ := startWith(t, Options{Tokens: 2})
-	apply(t, r, 1, tokened(1, 0), tokened(2, 0), strings.Replace(tokened(4, 0), "prune", "delete", 1), tokened(3, 0))
-	if kept := r.Tokens(); len(kept) != 2 || len(r.tokens) != 2 {
-		t.Errorf("got %v", kept)
-	}
-	for _, c := range []struct{ number, place int }{{2, 2}, {3, 3}} {
-		if got := apply(t, r, 2, tokened(c.number, 0))[0]; got != repeated(c.place) {
-			t.Errorf("token %d: got %s", c.number, got)
-		}
-	}
-	if got := apply(t, r, 3, tokened(1, 0))[0]; got != committed(4) {
-		t.Errorf("a forgotten token: got %s", got)
-	}
-}
-
 func TestRestore(t *testing.T) {
 	r, _ := start(t)
 	apply(t, r, 1, tokened(1, 0), prune, tokened(2, 0))
 	other, _ := start(t)
-	if err := other.Restore(r.State(), []string{prune}, r.Tokens()); err != nil || other.State() != r.State() { // and two lines that change nothing
+	// and two lines that change nothing
+	if err := other.Restore(r.State(), []string{prune}, r.Tokens()); err != nil || other.State() != r.State() {
 		t.Fatalf("got %v, %v", other.State(), err)
 	}
 	for _, line := range []string{tokened(1, 0), tokened(2, 0), tokened(2, 9), prune} {
@@ -174,7 +168,8 @@ func TestRestore(t *testing.T) {
 	}
 }
 
-// TestReplicaSkips checks that a line which is left out is answered after those before it, and not at all if regd has ended.
+// TestReplicaSkips checks that a line which is left out is answered after those before it, and not at all if regd has
+// ended.
 func TestReplicaSkips(t *testing.T) {
 	r, states := start(t)
 	slow, kill := []byte(`{"ops":[{"op":"prune","hint":"SLOW"}]}`), []byte(`{"ops":[{"op":"prune","hint":"KILL"}]}`)
@@ -189,8 +184,10 @@ func TestReplicaSkips(t *testing.T) {
 			return false
 		}
 	}
-	answer := func(number int, reply []byte) { got = append(got, fmt.Sprint(number, " ", string(wire.Tail(reply)))) }
-	r.Apply(1, "e", [][]byte{slow, kill, slow, kill}, skipped(1, 3), answer)
+	answer := func(number int, reply []byte) {
+		got = append(got, fmt.Sprint(number, " ", string(wire.Tail(reply))))
+	}
+	r.Apply(Entry{Number: 1, Name: "e", Lines: [][]byte{slow, kill, slow, kill}}, skipped(1, 3), answer)
 	want := []string{"0 " + committed(1), `1 {"code":"G7"`, "2 " + committed(2), `3 {"code":"G7"`}
 	if strings.Join(got, "\n") != strings.Join(want, "\n") {
 		t.Errorf("got %q", got)
@@ -199,7 +196,7 @@ func TestReplicaSkips(t *testing.T) {
 		t.Errorf("got %v", all)
 	}
 	got = nil
-	r.Apply(2, "e", [][]byte{slow, kill, slow}, skipped(2), answer)
+	r.Apply(Entry{Number: 2, Name: "e", Lines: [][]byte{slow, kill, slow}}, skipped(2), answer)
 	if !r.HasEnded() || len(got) != 1 || len(states()) != 1 {
 		t.Errorf("after the end: got %q, %v", got, states())
 	}
@@ -208,7 +205,8 @@ func TestReplicaSkips(t *testing.T) {
 // TestLeaves checks that no change is answered after one for which regd had no memory, nor after a repeated one.
 func TestLeaves(t *testing.T) {
 	for _, code := range []string{"L6", "L7", "L8"} {
-		for _, line := range []string{`{"ops":[{"op":"prune","hint":"L6"}]}`, strings.Replace(tokened(1, 0), `"before"`, `"hint":"L6","before"`, 1)} {
+		for _, line := range []string{`{"ops":[{"op":"prune","hint":"L6"}]}`,
+			strings.Replace(tokened(1, 0), `"before"`, `"hint":"L6","before"`, 1)} {
 			line = strings.Replace(line, "L6", code, 1)
 			r, states := start(t)
 			got := apply(t, r, 1, tokened(1, 0), line, prune)
@@ -240,7 +238,8 @@ func waits(t *testing.T, what string, condition func() bool) {
 	}
 }
 
-// TestClose checks that Close waits for a reply that is being passed on. So an ended replica reports nothing while there is another one.
+// TestClose checks that Close waits for a reply that is being passed on. So an ended replica reports nothing while
+// there is another one.
 func TestClose(t *testing.T) {
 	begun, goOn := make(chan struct{}), make(chan struct{})
 	r, err := Start(context.Background(), Options{Program: os.Args[0], Domain: "ex.org", Workers: 2}, func(State) {
@@ -250,7 +249,7 @@ func TestClose(t *testing.T) {
 	if err != nil {
 		t.Fatal(err)
 	}
-	r.Apply(1, "e", [][]byte{[]byte(prune)}, nil, func(int, []byte) {})
+	r.Apply(Entry{Number: 1, Name: "e", Lines: [][]byte{[]byte(prune)}}, nil, func(int, []byte) {})
 	<-begun
 	closed := make(chan struct{})
 	go func() {
@@ -295,7 +294,7 @@ func TestOpenChanges(t *testing.T) {
 	}
 	done := make(chan struct{})
 	go func() {
-		r.Apply(1, "e", lines, nil, func(int, []byte) {})
+		r.Apply(Entry{Number: 1, Name: "e", Lines: lines}, nil, func(int, []byte) {})
 		close(done)
 	}()
 	waits(t, "too few changes are open", func() bool { return sent() >= mostOpen })
@@ -308,11 +307,13 @@ func TestOpenChanges(t *testing.T) {
 	r.Settle()
 }
 
-// TestQueries sends different queries over one connection at the same time: each gets its own reply. Other numbers get another worker.
+// TestQueries sends different queries over one connection at the same time: each gets its own reply. Other numbers get
+// another worker.
 func TestQueries(t *testing.T) {
 	r, _ := start(t)
 	var all sync.WaitGroup
-	for line, want := range map[string]string{`{"ops":[]}`: `"place":0,"replies":[],"result":"answered"}`, `{`: `{"code":"L2"`} {
+	for line, want := range map[string]string{`{"ops":[]}`: `"place":0,"replies":[],"result":"answered"}`,
+		`{`: `{"code":"L2"`} {
 		for i := 0; i < 4; i++ {
 			all.Add(1)
 			go func(line, want string) {
@@ -344,11 +345,12 @@ func TestReplyBound(t *testing.T) {
 	r, _ := startWith(t, Options{ReplyBytes: 100_000})
 	large := []byte(`{"ops":[{"op":"show","hint":"LARGE"}]}`)
 	for _, line := range []string{string(large), `{"ops":[]}`, string(large)} {
-		if got := string(r.Ask([]byte(line))); (got == string(wire.Refusal(wire.Busy))) != strings.Contains(line, "LARGE") {
+		got := string(r.Ask([]byte(line)))
+		if (got == string(wire.Refusal(wire.Busy))) != strings.Contains(line, "LARGE") {
 			t.Errorf("got %.100s", got)
 		}
 	}
-	r.Apply(1, "e", [][]byte{large}, nil, func(_ int, reply []byte) {
+	r.Apply(Entry{Number: 1, Name: "e", Lines: [][]byte{large}}, nil, func(_ int, reply []byte) {
 		if len(reply) < 100_000 {
 			t.Errorf("a line of the log: got %s", reply)
 		}
@@ -387,9 +389,9 @@ func TestReplyToNothing(t *testing.T) {
 	}
 }
 
-// TestOrder checks that a reply has the number of the next call or of its line, and what may follow one for which regd
-// had no memory.
-func TestOrder(t *testing.T) {
+// TestReplyOrder checks that a reply has the number of the next call or of its line, and what may follow one for which
+// regd had no memory.
+func TestReplyOrder(t *testing.T) {
 	call := func(number int) string {
 		return fmt.Sprintf(`{"call":%d,"place":1,"replies":[],"result":"answered"}`, number)
 	}
@@ -447,7 +449,8 @@ func TestShiftedReplies(t *testing.T) {
 				for _, line := range lines {
 					all = append(all, []byte(line))
 				}
-				r.Apply(1, "e", all, nil, func(_ int, reply []byte) { got <- string(reply) })
+				e := Entry{Number: 1, Name: "e", Lines: all}
+				r.Apply(e, nil, func(_ int, reply []byte) { got <- string(reply) })
 			} else {
 				for _, line := range lines {
 					r.Query(0, []byte(line), func(reply []byte) { got <- string(reply) })
@@ -467,10 +470,10 @@ func TestShiftedReplies(t *testing.T) {
 	}
 }
 
-// TestLateQuery lets a query take longer than a reply may. It is refused, and the replica goes on. A query behind it is
-// given back, and others go to another worker, also that again. When no worker is left, a query is refused; and a
-// worker whose reply has come is asked again.
-func TestLateQuery(t *testing.T) {
+// TestLateReplyToQuery lets a query take longer than a reply may. It is refused, and the replica goes on. A query
+// behind it is given back, and others go to another worker, also that again. When no worker is left, a query is
+// refused; and a worker whose reply has come is asked again.
+func TestLateReplyToQuery(t *testing.T) {
 	const hang = time.Second
 	var late atomic.Int64
 	r, _ := startWith(t, Options{Hang: hang, OnLate: func() { late.Add(1) }})
@@ -517,7 +520,8 @@ func TestEnd(t *testing.T) {
 	if reply := <-got; !strings.Contains(string(reply), `"answered"`) {
 		t.Errorf("got %s", reply)
 	}
-	for _, line := range []string{`{"ops":[{"op":"show","hint":"KILL"}]}`, show} { // the first one may be the reason
+	// the first one may be the reason
+	for _, line := range []string{`{"ops":[{"op":"show","hint":"KILL"}]}`, show} {
 		r.Query(1, []byte(line), func(reply []byte) { got <- reply })
 	}
 	for _, want := range []string{string(wire.Refusal(wire.Busy)), ""} {
@@ -528,7 +532,8 @@ func TestEnd(t *testing.T) {
 	<-r.Context().Done()
 	r.Close() // waits until all connections are closed
 	r.Query(0, []byte(`{}`), func(reply []byte) { got <- reply })
-	r.Apply(1, "e", [][]byte{[]byte(prune)}, nil, func(int, []byte) { t.Error("answered") })
+	first := Entry{Number: 1, Name: "e", Lines: [][]byte{[]byte(prune)}}
+	r.Apply(first, nil, func(int, []byte) { t.Error("answered") })
 	if reply := <-got; reply != nil {
 		t.Errorf("got %s", reply)
 	}
@@ -540,7 +545,8 @@ func TestHang(t *testing.T) {
 	const hang = 800 * time.Millisecond
 	r, _ := startWith(t, Options{Hang: hang})
 	for place := 1; place <= 10; place++ {
-		r.Apply(1, "e", [][]byte{[]byte(`{"ops":[{"op":"prune","hint":"SLOW"}]}`)}, nil, func(int, []byte) {})
+		slow := []byte(`{"ops":[{"op":"prune","hint":"SLOW"}]}`)
+		r.Apply(Entry{Number: 1, Name: "e", Lines: [][]byte{slow}}, nil, func(int, []byte) {})
 	}
 	r.Settle()
 	time.Sleep(hang * 3 / 2)
@@ -548,7 +554,7 @@ func TestHang(t *testing.T) {
 		t.Fatalf("got %q", got)
 	}
 	hung := [][]byte{[]byte(`{"ops":[{"op":"prune","hint":"HANG"}]}`)}
-	r.Apply(3, "e", hung, nil, func(int, []byte) { t.Error("answered") })
+	r.Apply(Entry{Number: 3, Name: "e", Lines: hung}, nil, func(int, []byte) { t.Error("answered") })
 	ends(t, r)
 	other, _ := startWith(t, Options{Hang: hang})
 	got := make(chan []byte, 1)
@@ -568,13 +574,15 @@ func TestHang(t *testing.T) {
 func TestHungStart(t *testing.T) {
 	ctx, stop := context.WithTimeout(context.Background(), 10*time.Second)
 	defer stop()
-	if r, err := Start(ctx, Options{Program: os.Args[0], Domain: "hung.org", Workers: 2, Hang: 300 * time.Millisecond}, nil); err == nil || ctx.Err() != nil {
+	hung := Options{Program: os.Args[0], Domain: "hung.org", Workers: 2, Hang: 300 * time.Millisecond}
+	if r, err := Start(ctx, hung, nil); err == nil || ctx.Err() != nil {
 		t.Errorf("got %v, %v", r, err)
 	}
 }
 
 func TestStartFails(t *testing.T) {
-	for _, options := range []Options{{Program: "/nonexistent", Domain: "ex.org", Workers: 2}, {Program: "/bin/true", Domain: "ex.org", Workers: 2},
+	for _, options := range []Options{{Program: "/nonexistent", Domain: "ex.org", Workers: 2},
+		{Program: "/bin/true", Domain: "ex.org", Workers: 2},
 		{Program: os.Args[0], Domain: "shared.org", Workers: 2}} {
 		if r, err := Start(context.Background(), options, nil); err == nil {
 			r.Close()
@@ -582,7 +590,8 @@ func TestStartFails(t *testing.T) {
 		}
 	}
 	program, pid := script(t, "exec %s \"$@\"")
-	if _, err := Start(context.Background(), Options{Program: program, Domain: "shared.org", Workers: 2}, nil); err == nil {
+	shared := Options{Program: program, Domain: "shared.org", Workers: 2}
+	if _, err := Start(context.Background(), shared, nil); err == nil {
 		t.Error("it started")
 	}
 	waits(t, "regd stays", func() bool { return syscall.Kill(pid(), 0) != nil })
@@ -602,7 +611,8 @@ func script(t *testing.T, command string) (string, func() int) {
 	}
 }
 
-// TestWrapper checks that Close ends the connections to a regd that is not the process which was started, so that regd ends too.
+// TestWrapper checks that Close ends the connections to a regd that is not the process which was started, so that regd
+// ends too.
 func TestWrapper(t *testing.T) {
 	program, pid := script(t, "%s \"$@\"")
 	r, err := Start(context.Background(), Options{Program: program, Domain: "ex.org", Workers: 2}, nil)

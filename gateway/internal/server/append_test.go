@@ -2,6 +2,7 @@ package server
 
 import (
 	"fmt"
+	"strings"
 	"sync"
 	"testing"
 	"time"
@@ -28,8 +29,7 @@ func TestNoAppendWithoutReplica(t *testing.T) {
 	left.leave() // its caller may have sent the change to another gateway, and then a newer one
 	standIn(g)
 	within(t, "no entry", func() bool { head, _ := s.log.Head(s.ctx); return head == 1 })
-	value, _ := s.log.Get(s.ctx, etcd.EntryKey(1))
-	if _, lines := etcd.SplitEntry(value); len(lines) != 1 || string(lines[0]) != prune {
+	if lines := s.entry(1).Lines; len(lines) != 1 || string(lines[0]) != prune {
 		t.Errorf("got %q", lines)
 	}
 }
@@ -51,14 +51,28 @@ func TestCollect(t *testing.T) {
 		for i := 0; i < c.count; i++ {
 			g.changes <- (&session{Gateway: g}).request(make([]byte, c.size))
 		}
-		changes, lines := g.collect(s.ctx)
-		if len(changes) != c.want || len(lines) != c.want || len(g.changes) != c.count-c.want {
-			t.Errorf("%s: %d lines in an entry", c.name, len(lines))
+		changes := g.collect(s.ctx)
+		if len(changes) != c.want || len(g.changes) != c.count-c.want {
+			t.Errorf("%s: %d lines in an entry", c.name, len(changes))
 		}
 	}
 }
 
-// TestNames lets two gateways append at the same time. Each answers its own changes, and the names of entries are all different.
+// TestCollectCallers checks that the names of callers count for the size of an entry, which has each of them.
+func TestCollectCallers(t *testing.T) {
+	s := newSite(t)
+	g := New(s.log, Options{Limits: s.limits})
+	standIn(g)
+	for i := 0; i < 300; i++ {
+		g.changes <- (&session{Gateway: g, agent: strings.Repeat("x", 2000)}).request([]byte(prune))
+	}
+	if changes := g.collect(s.ctx); len(changes) > mostBytes/2000+1 {
+		t.Errorf("%d lines in an entry", len(changes))
+	}
+}
+
+// TestNames lets two gateways append at the same time. Each answers its own changes, and the names and IDs of entries
+// are all different.
 func TestNames(t *testing.T) {
 	s := newSite(t)
 	var all sync.WaitGroup
@@ -85,11 +99,10 @@ func TestNames(t *testing.T) {
 	}
 	names := map[string]bool{}
 	for entry := uint64(1); entry <= head; entry++ {
-		value, _ := s.log.Get(s.ctx, etcd.EntryKey(entry))
-		name, _ := etcd.SplitEntry(value)
-		names[name] = true
+		e := s.entry(entry)
+		names[e.Name], names[e.ID] = true, true
 	}
-	if len(names) != int(head) {
+	if len(names) != 2*int(head) {
 		t.Errorf("%d names for %d entries", len(names), head)
 	}
 	for _, g := range gateways { // nothing is kept of an entry that is answered
@@ -110,7 +123,8 @@ func TestNextNumber(t *testing.T) {
 	}
 }
 
-// TestSlowAppend lets etcd make entries immediately and answer late. The gateway meets its entry in the log, and makes the next one.
+// TestSlowAppend lets etcd make entries immediately and answer late. The gateway meets its entry in the log, and makes
+// the next one.
 func TestSlowAppend(t *testing.T) {
 	t.Parallel()
 	s := newSite(t)
@@ -130,21 +144,19 @@ func TestSlowAppend(t *testing.T) {
 	}
 }
 
-// TestSwallowedAppend makes a snapshot of an entry, and cuts that off, before the gateway that has appended it has seen it. The connections of its
-// changes end, since it can't be known what was answered, and nothing is kept of it.
+// TestSwallowedAppend makes a snapshot of an entry, and cuts that off, before the gateway that has appended it has seen
+// it. The connections of its changes end, since it can't be known what was answered, and nothing is kept of it.
 func TestSwallowedAppend(t *testing.T) {
 	t.Parallel()
 	s := newSite(t)
 	s.limits.Answer = 40 * time.Second
 	g, address, _ := s.gateway("a")
 	s.expect("a change", s.call(address, prune), committed(1, 1))
-	within(t, "no watch", func() bool { return s.store.Counts().Watches == 1 })
-	s.store.HoldWatch()
+	s.holdWatch(1)
 	conn, in := s.dial(address)
 	fmt.Fprintln(conn, prune)
 	within(t, "no entry", func() bool { head, _ := s.log.Head(s.ctx); return head == 2 })
-	s.log.Put(s.ctx, "snapshot/0000000000000002/00000000", []byte(`{"Entry":2,"Place":2}`))
-	s.log.Put(s.ctx, "snapshot", []byte(`{"Entry":2,"Chunks":1}`))
+	s.snapshot(s.entry(2).Position)
 	s.log.Cut(s.ctx, 2)
 	begin := time.Now()
 	if got := ends(t, in); got != "" {
@@ -163,7 +175,7 @@ func TestGiveUpLost(t *testing.T) {
 	made := map[string]*request{}
 	for name, last := range map[string]uint64{"open": 0, "executed": 7, "to be executed": 8} {
 		made[name] = (&session{Gateway: g}).request(nil)
-		f := &flight{changes: []*request{made[name]}, passed: make(chan uint64, 1)}
+		f := &flight{changes: []*request{made[name]}, passed: make(chan etcd.Position, 1)}
 		f.last.Store(last)
 		g.flights.Store(name, f)
 	}

@@ -62,7 +62,8 @@ func (b *board) look(entry, place uint64) (isThere bool, changed chan struct{}) 
 	return b.replica != nil && b.state.Entry >= entry && b.state.Place >= place, b.changed
 }
 
-// wait waits until the replica is ready and has executed an entry and a commit. It returns false if the context ends first.
+// wait waits until the replica is ready and has executed an entry and a commit. It returns false if the context ends
+// first.
 func (b *board) wait(ctx context.Context, entry, place uint64) bool {
 	for {
 		isThere, changed := b.look(entry, place)

@@ -29,7 +29,8 @@ func (c *crowd) enter(id string, most int) bool {
 func (c *crowd) leave(id string) {
 	c.mu.Lock()
 	defer c.mu.Unlock()
-	if c.counts[id]--; c.counts[id] == 0 {
+	c.counts[id]--
+	if c.counts[id] == 0 {
 		delete(c.counts, id)
 	}
 }
@@ -74,19 +75,24 @@ func (p *paced) done() {
 // what a caller may still send after the gateway has ended its side of a connection
 const partTime, partBytes = time.Second, 1 << 20
 
-// part ends the gateway's side of a connection, and then reads for a short time what the caller still sends. A connection that is closed while
-// it has unread bytes is reset, and the caller may lose the last answers.
+// part ends the gateway's side of a connection, and then reads for a short time what the caller still sends. A
+// connection that is closed while it has unread bytes is reset, and the caller may lose the last answers.
 func part(conn net.Conn) {
 	half, ok := conn.(interface{ CloseWrite() error })
-	if !ok || half.CloseWrite() != nil {
+	if !ok {
 		return
 	}
-	conn.SetReadDeadline(time.Now().Add(partTime))
-	io.CopyN(io.Discard, conn, partBytes)
+	if err := half.CloseWrite(); err != nil {
+		return
+	}
+	if err := conn.SetReadDeadline(time.Now().Add(partTime)); err != nil {
+		return
+	}
+	_, _ = io.CopyN(io.Discard, conn, partBytes) // to its end or to that of the time
 }
 
-// isReset returns true if the other side of a connection has ended it in both directions. To end one direction is no sign that a caller has left:
-// it may wait for its answers.
+// isReset returns true if the other side of a connection has ended it in both directions. To end one direction is no
+// sign that a caller has left: it may wait for its answers.
 func isReset(conn net.Conn) bool {
 	if secure, ok := conn.(*tls.Conn); ok {
 		conn = secure.NetConn()
@@ -98,9 +104,12 @@ func isReset(conn net.Conn) bool {
 	if !ok {
 		return false
 	}
-	raw, _ := tcp.SyscallConn() // whose error is that of no connection
+	raw, err := tcp.SyscallConn()
+	if err != nil {
+		return true
+	}
 	isClosed := false
-	err := raw.Control(func(descriptor uintptr) {
+	err = raw.Control(func(descriptor uintptr) {
 		// of which the first byte is the state; 7 is TCP_CLOSE of the kernel
 		info, err := syscall.GetsockoptInet4Addr(int(descriptor), syscall.IPPROTO_TCP, syscall.TCP_INFO)
 		isClosed = err == nil && info[0] == 7

@@ -40,12 +40,13 @@ func TestCallerOf(t *testing.T) {
 		{"another scheme", a.leaf("h", "https://ex.org/operator"), ""},
 		{"an authority", signed, ""},
 	} {
-		id, isOperator := callerOf(c.cert, "ex.org", operators)
+		id := callerOf(c.cert, "ex.org")
+		isOperator := RolesOf(operators).Of(id).Kind == Operator
 		if id != c.id || isOperator != (c.name == "an operator") {
 			t.Errorf("%s: got %s, %v", c.name, id, isOperator)
 		}
 	}
-	if id, isOperator := callerOf(a.leaf("e"), "ex.org", []string{""}); id != "" || isOperator {
+	if id := callerOf(a.leaf("e"), "ex.org"); id != "" || RolesOf([]string{""}).Of(id).Kind != NoRole {
 		t.Error("a caller without a name is an operator")
 	}
 }
@@ -63,7 +64,8 @@ func sanOf(t *testing.T, uri string) pkix.Extension {
 
 // unparsed returns a certificate with a URI that is not parsed before it is signed.
 func (a *authority) unparsed(uri string) *x509.Certificate {
-	template := &x509.Certificate{SerialNumber: big.NewInt(5), NotBefore: time.Now().Add(-time.Hour), NotAfter: time.Now().Add(time.Hour),
+	template := &x509.Certificate{
+		SerialNumber: big.NewInt(5), NotBefore: time.Now().Add(-time.Hour), NotAfter: time.Now().Add(time.Hour),
 		ExtraExtensions: []pkix.Extension{sanOf(a.t, uri)}}
 	cert, _ := a.sign("unparsed", template, a)
 	return cert
@@ -73,12 +75,14 @@ func (a *authority) unparsed(uri string) *x509.Certificate {
 func TestIsCallerID(t *testing.T) {
 	long := "spiffe://ex.org/" + strings.Repeat("x", mostID-len("spiffe://ex.org/"))
 	for id, want := range map[string]bool{
-		"spiffe://ex.org/operator": true, n1: true, "spiffe://ex.org/A-b_c.9/...": true, long: true, long + "x": false,
-		"": false, "spiffe://ex.org": false, "spiffe://ex.org/": false, "spiffe://ex.org/a/": false, "spiffe://ex.org//a": false,
-		"spiffe://ex.org/a/.": false, "spiffe://ex.org/../a": false, "spiffe://ex.org/a#": false, "spiffe://ex.org/a?b": false,
-		"spiffe://ex.org/%61": false, "spiffe://ex.org:443/a": false, "spiffe://u@ex.org/a": false, "SPIFFE://ex.org/a": false,
-		"spiffe://EX.org/a": false, " spiffe://ex.org/a": false, "spiffe://ex.org/a\n": false, "spiffe://other.org/a": false,
-		"spiffe://ex.organ/a": false, "spiffe://ex.org/é": false, "https://ex.org/a": false,
+		"spiffe://ex.org/operator": true, n1: true, "spiffe://ex.org/A-b_c.9/...": true, long: true,
+		long + "x": false, "": false, "spiffe://ex.org": false, "spiffe://ex.org/": false,
+		"spiffe://ex.org/a/": false, "spiffe://ex.org//a": false, "spiffe://ex.org/a/.": false,
+		"spiffe://ex.org/../a": false, "spiffe://ex.org/a#": false, "spiffe://ex.org/a?b": false,
+		"spiffe://ex.org/%61": false, "spiffe://ex.org:443/a": false, "spiffe://u@ex.org/a": false,
+		"SPIFFE://ex.org/a": false, "spiffe://EX.org/a": false, " spiffe://ex.org/a": false,
+		"spiffe://ex.org/a\n": false, "spiffe://other.org/a": false, "spiffe://ex.organ/a": false,
+		"spiffe://ex.org/é": false, "https://ex.org/a": false,
 	} {
 		if IsCallerID(id, "ex.org") != want {
 			t.Errorf("%.60q: got %v", id, !want)

@@ -23,7 +23,8 @@ func FilesIn(folder string) Files {
 	if folder == "" {
 		return Files{}
 	}
-	return Files{filepath.Join(folder, "cert.pem"), filepath.Join(folder, "key.pem"), filepath.Join(folder, "ca.pem")}
+	return Files{filepath.Join(folder, "cert.pem"), filepath.Join(folder, "key.pem"),
+		filepath.Join(folder, "ca.pem")}
 }
 
 // load reads the files. A caller has to show a certificate at each handshake, and to speak TLS 1.3.
@@ -43,22 +44,23 @@ func (f Files) load() (*tls.Config, error) {
 	if err != nil {
 		return nil, fmt.Errorf("%s: %w", f.Authorities, err)
 	}
-	return &tls.Config{Certificates: []tls.Certificate{pair}, ClientCAs: pool, RootCAs: pool, SessionTicketsDisabled: true,
-		ClientAuth: tls.RequireAnyClientCert, MinVersion: tls.VersionTLS13}, nil
+	return &tls.Config{
+		Certificates: []tls.Certificate{pair}, ClientCAs: pool, RootCAs: pool, SessionTicketsDisabled: true,
+		ClientAuth: tls.RequireAnyClientCert, MinVersion: tls.VersionTLS13,
+	}, nil
 }
 
 // stamp changes when one of the files does.
 func (f Files) stamp() (stamp string) {
 	for _, name := range []string{f.Certificate, f.Key, f.Authorities} {
-		if info, err := os.Stat(name); err == nil {
-			stamp += fmt.Sprintln(info.ModTime().UnixNano(), info.Size())
-		}
+		stamp += stampOf(name)
 	}
 	return stamp
 }
 
-// Certificates are what Files name. They are read again when the files change, since such certificates live for hours only. While the files are
-// not valid, such as between the replacement of one and the next, the former ones stay in use.
+// Certificates are what Files name. They are read again when the files change, since such certificates live for hours
+// only. While the files are not valid, such as between the replacement of one and the next, the former ones stay in
+// use.
 type Certificates struct {
 	files Files
 
@@ -78,7 +80,8 @@ func (f Files) Load() (*Certificates, error) {
 	return &Certificates{files: f, config: config, stamp: stamp}, err
 }
 
-// current returns a configuration with the files as they are now, or as they were when they were valid. It must not be changed.
+// current returns a configuration with the files as they are now, or as they were when they were valid. It must not be
+// changed.
 func (c *Certificates) current() *tls.Config {
 	c.mu.Lock()
 	defer c.mu.Unlock()
@@ -86,8 +89,12 @@ func (c *Certificates) current() *tls.Config {
 		if config, err := c.files.load(); err != nil {
 			c.fails.Error("certificates not loaded", "certificate", c.files.Certificate, "error", err)
 		} else {
+			if config.ClientCAs.Equal(c.config.ClientCAs) { // then no session has to be looked at
+				config.ClientCAs = c.config.ClientCAs
+			}
 			c.config, c.stamp = config, stamp
-			logline.Info("certificates loaded", "certificate", c.files.Certificate, "expiry", config.Certificates[0].Leaf.NotAfter.UTC().Format(time.RFC3339))
+			logline.Info("certificates loaded", "certificate", c.files.Certificate,
+				"expiry", config.Certificates[0].Leaf.NotAfter.UTC().Format(time.RFC3339))
 		}
 	}
 	return c.config

@@ -33,8 +33,11 @@ func newAuthority(t *testing.T) *authority { return newAuthorityIn(t, t.TempDir(
 
 func newAuthorityIn(t *testing.T, folder string) *authority {
 	a := &authority{t: t, folder: folder, serial: 2, long: time.Hour}
-	template := &x509.Certificate{SerialNumber: big.NewInt(1), Subject: pkix.Name{CommonName: "authority"}, IsCA: true, BasicConstraintsValid: true,
-		KeyUsage: x509.KeyUsageCertSign, NotBefore: time.Now().Add(-time.Hour), NotAfter: time.Now().Add(time.Hour)}
+	template := &x509.Certificate{
+		SerialNumber: big.NewInt(1), Subject: pkix.Name{CommonName: "authority"}, IsCA: true,
+		BasicConstraintsValid: true, KeyUsage: x509.KeyUsageCertSign,
+		NotBefore: time.Now().Add(-time.Hour), NotAfter: time.Now().Add(time.Hour),
+	}
 	a.cert, a.key = a.sign("ca", template, nil)
 	return a
 }
@@ -43,7 +46,9 @@ func pemOf(der []byte) []byte {
 	return pem.EncodeToMemory(&pem.Block{Type: "CERTIFICATE", Bytes: der})
 }
 
-func (a *authority) sign(name string, template *x509.Certificate, of *authority) (*x509.Certificate, *ecdsa.PrivateKey) {
+func (a *authority) sign(
+	name string, template *x509.Certificate, of *authority,
+) (*x509.Certificate, *ecdsa.PrivateKey) {
 	key, err := ecdsa.GenerateKey(elliptic.P256(), rand.Reader)
 	if err != nil {
 		a.t.Fatal(err)
@@ -58,7 +63,8 @@ func (a *authority) sign(name string, template *x509.Certificate, of *authority)
 	}
 	keyDER, _ := x509.MarshalECPrivateKey(key)
 	write := func(file, kind string, bytes []byte) {
-		if err := os.WriteFile(filepath.Join(a.folder, file), pem.EncodeToMemory(&pem.Block{Type: kind, Bytes: bytes}), 0o600); err != nil {
+		if err := os.WriteFile(filepath.Join(a.folder, file),
+			pem.EncodeToMemory(&pem.Block{Type: kind, Bytes: bytes}), 0o600); err != nil {
 			a.t.Fatal(err)
 		}
 	}
@@ -69,7 +75,8 @@ func (a *authority) sign(name string, template *x509.Certificate, of *authority)
 }
 
 func (a *authority) leaf(name string, uris ...string) *x509.Certificate {
-	template := &x509.Certificate{SerialNumber: big.NewInt(a.serial), Subject: pkix.Name{CommonName: name}, IPAddresses: []net.IP{net.IPv4(127, 0, 0, 1)},
+	template := &x509.Certificate{SerialNumber: big.NewInt(a.serial), Subject: pkix.Name{CommonName: name},
+		IPAddresses: []net.IP{net.IPv4(127, 0, 0, 1)},
 		ExtKeyUsage: []x509.ExtKeyUsage{x509.ExtKeyUsageClientAuth, x509.ExtKeyUsageServerAuth},
 		NotBefore:   time.Now().Add(-time.Hour), NotAfter: time.Now().Add(a.long)}
 	for _, uri := range uris {
@@ -84,7 +91,8 @@ func (a *authority) leaf(name string, uris ...string) *x509.Certificate {
 }
 
 func (a *authority) files(name string) Files {
-	return Files{filepath.Join(a.folder, name+".pem"), filepath.Join(a.folder, name+".key"), filepath.Join(a.folder, "ca.pem")}
+	return Files{filepath.Join(a.folder, name+".pem"), filepath.Join(a.folder, name+".key"),
+		filepath.Join(a.folder, "ca.pem")}
 }
 
 // load returns the certificates of a name.
@@ -97,8 +105,11 @@ func (a *authority) load(name string) *Certificates {
 	return made
 }
 
-// handshake connects to a server. It returns the SPIFFE ID that the server saw and the serial number that the client saw, or the server's error.
-func handshake(t *testing.T, server *Certificates, dial func(ctx context.Context, network, address string) (net.Conn, error)) (string, int64, error) {
+// handshake connects to a server. It returns the SPIFFE ID that the server saw and the serial number that the client
+// saw, or the server's error.
+func handshake(
+	t *testing.T, server *Certificates, dial func(ctx context.Context, network, address string) (net.Conn, error),
+) (string, int64, error) {
 	t.Helper()
 	on, err := net.Listen("tcp", "127.0.0.1:0")
 	if err != nil {
@@ -128,8 +139,7 @@ func handshake(t *testing.T, server *Certificates, dial func(ctx context.Context
 	if err != nil {
 		return "", 0, err
 	}
-	id, _ := callerOf(conn.ConnectionState().PeerCertificates[0], "ex.org", nil)
-	return id, serial, nil
+	return callerOf(conn.ConnectionState().PeerCertificates[0], "ex.org"), serial, nil
 }
 
 func TestHandshakes(t *testing.T) {
@@ -149,9 +159,13 @@ func TestHandshakes(t *testing.T) {
 		want string // "" for none
 	}{
 		{"an agent", agent.Dial, n1},
-		{"a certificate of another authority", dialer(func(c *tls.Config) { c.Certificates = other.load("forged").current().Certificates }), ""},
+		{"a certificate of another authority", dialer(func(c *tls.Config) {
+			c.Certificates = other.load("forged").current().Certificates
+		}), ""},
 		{"no certificate", dialer(func(c *tls.Config) { c.Certificates = nil }), ""},
-		{"TLS 1.2", dialer(func(c *tls.Config) { c.MinVersion, c.MaxVersion = tls.VersionTLS12, tls.VersionTLS12 }), ""},
+		{"TLS 1.2", dialer(func(c *tls.Config) {
+			c.MinVersion, c.MaxVersion = tls.VersionTLS12, tls.VersionTLS12
+		}), ""},
 		{"a client of another authority", other.load("forged").Dial, ""},
 	} {
 		if id, _, err := handshake(t, server, c.dial); id != c.want || (err == nil) != (c.want != "") {
@@ -160,7 +174,8 @@ func TestHandshakes(t *testing.T) {
 	}
 }
 
-// TestReload replaces certificates and authorities: new ones count at the next handshake, and until they are valid the former ones do.
+// TestReload replaces certificates and authorities: new ones count at the next handshake, and until they are valid the
+// former ones do.
 func TestReload(t *testing.T) {
 	a := newAuthority(t)
 	a.leaf("server")
@@ -192,7 +207,8 @@ func TestReload(t *testing.T) {
 	}
 }
 
-// TestReloadAuthorities adds an authority to those that a server accepts, and replaces a certificate by one that expires later.
+// TestReloadAuthorities adds an authority to those that a server accepts, and replaces a certificate by one that
+// expires later.
 func TestReloadAuthorities(t *testing.T) {
 	a, other := newAuthority(t), newAuthority(t)
 	a.leaf("server")

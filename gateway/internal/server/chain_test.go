@@ -53,7 +53,8 @@ func TestCheckChain(t *testing.T) {
 		{"the longest", []*x509.Certificate{leaf, a.cert, a.cert, a.cert, a.cert}, ""},
 		{"a longer one", []*x509.Certificate{leaf, a.cert, a.cert, a.cert, a.cert, a.cert}, "6 certificates"},
 		{"none", nil, "0 certificates"},
-		{"an unknown key", []*x509.Certificate{leaf, unknown[0]}, "certificate 2 of the chain: a public key of"},
+		{"an unknown key", []*x509.Certificate{leaf, unknown[0]},
+			"certificate 2 of the chain: a public key of"},
 		{"an unknown leaf", []*x509.Certificate{unknown[0]}, "certificate 1 of the chain"},
 		{"another unknown key", []*x509.Certificate{leaf, dsa}, "unknown type (DSA)"},
 		{"a huge key", []*x509.Certificate{leaf, huge[0]}, "8193 bits"},
@@ -67,7 +68,8 @@ func TestCheckChain(t *testing.T) {
 		}
 	}
 	for name, want := range map[string]bool{"127.0.0.1": true, "127.0.0.2": false, "": true} {
-		if err := checkChain([]*x509.Certificate{leaf}, pool, name, x509.ExtKeyUsageServerAuth); (err == nil) != want {
+		err := checkChain([]*x509.Certificate{leaf}, pool, name, x509.ExtKeyUsageServerAuth)
+		if (err == nil) != want {
 			t.Errorf("a server with the name %q: got %v", name, err)
 		}
 	}
@@ -81,13 +83,16 @@ func TestCheckChain(t *testing.T) {
 func TestIntermediate(t *testing.T) {
 	a := newAuthority(t)
 	between := &authority{t: t, folder: t.TempDir(), serial: 7, long: time.Hour}
-	template := &x509.Certificate{SerialNumber: big.NewInt(6), Subject: pkix.Name{CommonName: "between"}, IsCA: true,
+	template := &x509.Certificate{SerialNumber: big.NewInt(6),
+		Subject: pkix.Name{CommonName: "between"}, IsCA: true,
 		BasicConstraintsValid: true, KeyUsage: x509.KeyUsageCertSign,
 		NotBefore: time.Now().Add(-time.Hour), NotAfter: time.Now().Add(time.Hour)}
 	between.cert, between.key = a.sign("between", template, a)
 	leaf, pool := between.leaf("agent", n1), x509.NewCertPool()
 	pool.AddCert(a.cert)
-	check := func(chain ...*x509.Certificate) error { return checkChain(chain, pool, "", x509.ExtKeyUsageClientAuth) }
+	check := func(chain ...*x509.Certificate) error {
+		return checkChain(chain, pool, "", x509.ExtKeyUsageClientAuth)
+	}
 	if err := check(leaf, between.cert); err != nil {
 		t.Error(err)
 	}
@@ -120,7 +125,8 @@ func TestDial(t *testing.T) {
 		host   string
 		want   bool
 	}{
-		"its server": {a.load("server"), "127.0.0.1", true}, "another name": {a.load("server"), "localhost", false},
+		"its server":        {a.load("server"), "127.0.0.1", true},
+		"another name":      {a.load("server"), "localhost", false},
 		"another authority": {other.load("server"), "127.0.0.1", false},
 	} {
 		on, err := tls.Listen("tcp", "127.0.0.1:0", &tls.Config{Certificates: c.server.current().Certificates})
@@ -188,7 +194,8 @@ func TestAuthorityKeys(t *testing.T) {
 		t.Fatal(err)
 	}
 	m := chaintest.New(1)
-	for name, der := range map[string][]byte{"unknown": m.UnknownKey(), "huge": m.HugeKey(9000), "noise": {1, 2, 3}} {
+	seeds := map[string][]byte{"unknown": m.UnknownKey(), "huge": m.HugeKey(9000), "noise": {1, 2, 3}}
+	for name, der := range seeds {
 		if _, err := poolOf(append(append([]byte{}, good...), pemOf(der)...)); err == nil {
 			t.Errorf("%s: it was accepted", name)
 		}

@@ -1,6 +1,8 @@
 package server
 
 import (
+	"crypto/sha256"
+	"encoding/json"
 	"fmt"
 	"os"
 	"reflect"
@@ -16,19 +18,68 @@ const kill = `{"ops":[{"op":"prune","hint":"KILL"}]}`
 
 // append makes entries of one line each.
 func (s *site) append(lines ...string) {
-	head, err := s.log.Head(s.ctx)
-	for i, line := range lines {
-		if err == nil {
-			_, err = s.log.Append(s.ctx, head+uint64(i)+1, etcd.JoinEntry(fmt.Sprint("e", head, ".", i), [][]byte{[]byte(line)}))
-		}
+	for _, line := range lines {
+		s.appendEntry(line)
+	}
+}
+
+// appendEntry makes an entry, and returns where the log ends then.
+func (s *site) appendEntry(lines ...string) etcd.Position {
+	d := etcd.Draft{ID: wire.NewID()}
+	for _, line := range lines {
+		d.Lines = append(d.Lines, []byte(line))
+	}
+	end, err := s.log.End(s.ctx)
+	if err == nil {
+		end, err = s.log.Append(s.ctx, end, d)
 	}
 	if err != nil {
 		s.t.Fatal(err)
 	}
+	return end
 }
 
-// TestFailingLine appends a line that ends regd, in an entry with others. The status names it. When it is skipped, the gateway is ready, its caller gets
-// G7, and the other lines are executed.
+// entry returns an entry of the log.
+func (s *site) entry(number uint64) etcd.Entry {
+	value, err := s.log.Get(s.ctx, etcd.EntryKey(number))
+	if err != nil {
+		s.t.Fatal(err)
+	}
+	e, err := etcd.ReadEntry(number, value)
+	if err != nil {
+		s.t.Fatal(err)
+	}
+	return e
+}
+
+// endWith makes the log end with an entry.
+func (s *site) endWith(at etcd.Position) {
+	text := fmt.Sprint(at.Entry, " ", at.Time, " ", at.Name)
+	if err := s.log.Put(s.ctx, "head", []byte(text)); err != nil {
+		s.t.Fatal(err)
+	}
+}
+
+// snapshot stores the snapshot of a book that was left by an entry, and has nothing but a commit for each entry.
+func (s *site) snapshot(at etcd.Position) {
+	state := replica.State{Entry: at.Entry, Name: at.Name, Time: at.Time, Place: at.Entry}
+	text, err := json.Marshal(state)
+	if err != nil {
+		s.t.Fatal(err)
+	}
+	head := fmt.Sprintf(`{"Format":2,"Entry":%d,"Name":"%s","ID":"","Chunks":1,"Hash":"%x"}`, at.Entry, at.Name,
+		sha256.Sum256(text))
+	for key, value := range map[string]string{
+		fmt.Sprintf("snapshot/%016x/00000000", at.Entry): string(text), "snapshot": head,
+	} {
+		if err := s.log.Put(s.ctx, key, []byte(value)); err != nil {
+			s.t.Fatal(err)
+		}
+	}
+}
+
+// TestFailingLine appends a line that ends regd, in an entry with others. The status names it. When it is skipped, the
+// gateway is ready, its caller gets G7, and the other lines are executed.
 func TestFailingLine(t *testing.T) {
 	t.Parallel()
 	s := newSite(t)
@@ -57,7 +108,10 @@ func TestFailingLine(t *testing.T) {
 		t.Errorf("got %s", failing())
 	}
 	s.append(prune)
-	within(t, "the end of the log is not known", func() bool { _, values := status(t, g); return values["head"] == float64(line.Entry+1) })
+	within(t, "the end of the log is not known", func() bool {
+		_, values := status(t, g)
+		return values["head"] == float64(line.Entry+1)
+	})
 	if err := s.log.Skip(s.ctx, line, "x"); err != nil {
 		t.Fatal(err)
 	}
@@ -69,7 +123,8 @@ func TestFailingLine(t *testing.T) {
 	s.expect("afterwards", s.call(address, prune), committed(1, 7))
 	_, values := status(t, g)
 	skipped, _ := values["skipped"].(map[string]any)
-	if len(skipped) != 1 || skipped[line.String()] == nil || values["failing"] != nil || samples(t, g)["regd_gateway_lines_skipped"] != 1 {
+	if len(skipped) != 1 || skipped[line.String()] == nil || values["failing"] != nil ||
+		samples(t, g)["regd_gateway_lines_skipped"] != 1 {
 		t.Errorf("got %v", values)
 	}
 	if got := samples(t, g)["regd_gateway_failing_entry"]; got != 0 {
@@ -86,14 +141,19 @@ func TestFailingLineIsFound(t *testing.T) {
 		s.append(prune)
 	}
 	s.append(kill, prune, prune)
-	g := New(s.log, Options{Limits: s.limits, Replica: replica.Options{Program: os.Args[0], Domain: "ex.org", Workers: 2}})
+	g := New(s.log,
+		Options{Limits: s.limits, Replica: replica.Options{Program: os.Args[0], Domain: "ex.org", Workers: 2}})
 	go g.follow(s.ctx)
-	within(t, "no line fails", func() bool { f := g.failing(0); return f != nil && f.Line == etcd.Line{Entry: bad, Number: 1} })
-	if _, err := s.log.Append(s.ctx, bad+3, etcd.JoinEntry("x", [][]byte{[]byte(prune), []byte(prune), []byte(kill), []byte(prune)})); err != nil {
-		t.Fatal(err)
-	}
+	within(t, "no line fails", func() bool {
+		f := g.failing(0)
+		return f != nil && f.Line == etcd.Line{Entry: bad, Number: 1}
+	})
+	s.appendEntry(prune, prune, kill, prune)
 	s.log.Skip(s.ctx, etcd.Line{Entry: bad, Number: 1}, "x")
-	within(t, "no other line fails", func() bool { f := g.failing(bad); return f != nil && f.Line == etcd.Line{Entry: bad + 3, Number: 3} })
+	within(t, "no other line fails", func() bool {
+		f := g.failing(bad)
+		return f != nil && f.Line == etcd.Line{Entry: bad + 3, Number: 3}
+	})
 }
 
 // TestSkipExecuted skips a line that two gateways have executed: both make another replica, and agree.
@@ -108,7 +168,10 @@ func TestSkipExecuted(t *testing.T) {
 		t.Fatal(err)
 	}
 	for _, g := range []*Gateway{first, second} {
-		within(t, "the line is not skipped", func() bool { r, state := g.board.read(); return r != nil && state.Entry == 4 && state.Place == 2 })
+		within(t, "the line is not skipped", func() bool {
+			r, state := g.board.read()
+			return r != nil && state.Entry == 4 && state.Place == 2
+		})
 	}
 	s.expect("afterwards", s.call(address, prune), committed(1, 3))
 	s.expect("elsewhere", s.call(fresh, show), answered(1, 3))
@@ -129,26 +192,33 @@ func TestTurnedBack(t *testing.T) {
 	g, address, _ := s.gateway("a")
 	s.append(prune, prune, prune)
 	within(t, "not all entries are executed", func() bool { _, state := g.board.read(); return state.Entry == 3 })
-	s.log.Put(s.ctx, "head", []byte("1"))
+	s.endWith(s.entry(1).Position)
 	s.log.Delete(s.ctx, etcd.EntryKey(2), etcd.EntryKey(4))
 	s.store.TellWatches(`{"error":{"message":"x"}}`)
-	within(t, "the replica stays", func() bool { r, state := g.board.read(); return r != nil && state.Entry == 1 && state.Place == 1 })
+	within(t, "the replica stays", func() bool {
+		r, state := g.board.read()
+		return r != nil && state.Entry == 1 && state.Place == 1
+	})
 	s.expect("afterwards", s.call(address, prune), committed(1, 2))
 }
 
-// TestReplacedEntries replaces entries by others, as if a backup was restored and another gateway had appended more before this one noticed.
+// TestReplacedEntries replaces entries by others, as if a backup was restored and another gateway had appended more
+// before this one noticed.
 func TestReplacedEntries(t *testing.T) {
 	t.Parallel()
 	s := newSite(t)
 	g, address, _ := s.gateway("a")
 	s.append(prune, prune, prune)
 	within(t, "not all entries are executed", func() bool { _, state := g.board.read(); return state.Entry == 3 })
-	s.store.HoldWatch()
-	s.log.Put(s.ctx, "head", []byte("1"))
+	s.holdWatch(1)
+	s.endWith(s.entry(1).Position)
 	s.log.Delete(s.ctx, etcd.EntryKey(2), etcd.EntryKey(4))
 	s.append("{", "{", "{")
 	s.store.TellWatches(`{"error":{"message":"x"}}`)
-	within(t, "the replica stays", func() bool { r, state := g.board.read(); return r != nil && state.Entry == 4 && state.Place == 1 })
+	within(t, "the replica stays", func() bool {
+		r, state := g.board.read()
+		return r != nil && state.Entry == 4 && state.Place == 1
+	})
 	s.expect("afterwards", s.call(address, prune), committed(1, 2))
 }
 
@@ -156,9 +226,9 @@ func TestReplacedEntries(t *testing.T) {
 func TestSnapshotOfLostLog(t *testing.T) {
 	s := newSite(t)
 	s.append(prune, prune, prune)
-	s.log.Put(s.ctx, "snapshot/0000000000000002/00000000", []byte(`{"Entry":2,"Name":"lost","Place":2}`))
-	s.log.Put(s.ctx, "snapshot", []byte(`{"Entry":2,"Chunks":1}`))
-	g := New(s.log, Options{Limits: s.limits, Replica: replica.Options{Program: os.Args[0], Domain: "ex.org", Workers: 2}})
+	s.snapshot(etcd.Position{Entry: 2, Name: etcd.Origin})
+	g := New(s.log,
+		Options{Limits: s.limits, Replica: replica.Options{Program: os.Args[0], Domain: "ex.org", Workers: 2}})
 	go g.follow(s.ctx)
 	within(t, "the replica stays", func() bool { return g.replicasEnded.Load() > 0 })
 	if r, _ := g.board.read(); r != nil {
@@ -174,11 +244,31 @@ func TestFailing(t *testing.T) {
 		executed uint64
 		want     bool
 	}{
-		{nil, 7, false}, {&failure{etcd.Line{Entry: 8, Number: 1}, 1, 9}, 7, false}, {&failure{etcd.Line{Entry: 8, Number: 1}, 2, 9}, 7, true},
+		{nil, 7, false}, {&failure{etcd.Line{Entry: 8, Number: 1}, 1, 9}, 7, false},
+		{&failure{etcd.Line{Entry: 8, Number: 1}, 2, 9}, 7, true},
 		{&failure{etcd.Line{Entry: 8, Number: 1}, 2, 9}, 8, false},
 	} {
 		if g.failure.Store(c.failure); (g.failing(c.executed) != nil) != c.want {
 			t.Errorf("%v at entry %d: got %v", c.failure, c.executed, !c.want)
+		}
+	}
+}
+
+// TestEndFits checks which ends of the log show that a watch misses something.
+func TestEndFits(t *testing.T) {
+	came := time.Now()
+	for name, c := range map[string]struct {
+		end  *logEnd
+		want bool
+	}{
+		"unknown":                {nil, true},
+		"this entry":             {&logEnd{7, came.Add(time.Second)}, true},
+		"a later one":            {&logEnd{8, came.Add(-time.Second)}, false},
+		"an earlier one, before": {&logEnd{6, came.Add(-time.Second)}, true},
+		"an earlier one, after":  {&logEnd{6, came.Add(time.Second)}, false},
+	} {
+		if c.end.fits(7, came) != c.want {
+			t.Errorf("%s: got %v", name, !c.want)
 		}
 	}
 }

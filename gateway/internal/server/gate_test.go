@@ -104,8 +104,9 @@ func (f from) RemoteAddr() net.Addr { return f }
 
 func TestOriginOf(t *testing.T) {
 	for address, want := range map[string]string{
-		"10.0.0.1:7": "10.0.0.1", "[::ffff:10.0.0.1]:7": "10.0.0.1", "[2001:db8:1:2:3::4]:7": "2001:db8:1:2::/64",
-		"[fe80::1%eth0]:7": "fe80::/64", "pipe": "",
+		"10.0.0.1:7": "10.0.0.1", "[::ffff:10.0.0.1]:7": "10.0.0.1",
+		"[2001:db8:1:2:3::4]:7": "2001:db8:1:2::/64",
+		"[fe80::1%eth0]:7":      "fe80::/64", "pipe": "",
 	} {
 		if got := originOf(from{address: address}); got != want {
 			t.Errorf("%s: got %s, want %s", address, got, want)

@@ -7,22 +7,19 @@ import (
 	"strings"
 )
 
-// callerOf returns the SPIFFE ID of a certificate, or "", and whether it is one of the operators. A certificate names a
-// caller if its only URI is a SPIFFE ID of the gateway's own trust domain, as the specification of X.509-SVIDs requires.
-// Otherwise the caller has no name, and may send nothing.
-func callerOf(leaf *x509.Certificate, domain string, operators []string) (id string, isOperator bool) {
+// callerOf returns the SPIFFE ID of a certificate, or "". A certificate names a caller if its only URI is a SPIFFE ID
+// of the gateway's own trust domain, as the specification of X.509-SVIDs requires. Otherwise the caller has no name,
+// and may send nothing.
+func callerOf(leaf *x509.Certificate, domain string) string {
 	uris := urisOf(leaf)
 	if len(uris) != 1 || leaf.IsCA || !IsCallerID(uris[0], domain) {
-		return "", false
+		return ""
 	}
-	for _, operator := range operators {
-		isOperator = isOperator || uris[0] == operator
-	}
-	return uris[0], isOperator
+	return uris[0]
 }
 
-// nameExtension is the number of the extension with the alternative names of a certificate's subject, and uriTag is that
-// of a URI among them.
+// nameExtension is the number of the extension with the alternative names of a certificate's subject, and uriTag is
+// that of a URI among them.
 var nameExtension = asn1.ObjectIdentifier{2, 5, 29, 17}
 
 const uriTag = 6
@@ -54,8 +51,8 @@ const mostID = 2048
 // segments are those of the path of a SPIFFE ID, each after a slash.
 var segments = regexp.MustCompile(`^(/[a-zA-Z0-9._-]+)+$`)
 
-// IsCallerID returns true if a text is a SPIFFE ID of a trust domain, with a path, by the rules of regd, which has one text
-// for each name.
+// IsCallerID returns true if a text is a SPIFFE ID of a trust domain, with a path, by the rules of regd, which has one
+// text for each name.
 func IsCallerID(text, domain string) bool {
 	path := strings.TrimPrefix(text, "spiffe://"+domain)
 	if path == text || len(text) > mostID || !segments.MatchString(path) {

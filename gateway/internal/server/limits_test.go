@@ -34,7 +34,8 @@ func endedFor(t *testing.T, g *Gateway, reason string) float64 {
 	return samples(t, g)[fmt.Sprintf("regd_gateway_connections_ended_total{reason=%q}", reason)]
 }
 
-// TestIdle checks that a caller that begins no line, and one that doesn't end its line, are cut off, and that one that sends lines is not.
+// TestIdle checks that a caller that begins no line, and one that doesn't end its line, are cut off, and that one that
+// sends lines is not.
 func TestIdle(t *testing.T) {
 	t.Parallel()
 	s := newSite(t)
@@ -66,7 +67,8 @@ func TestIdle(t *testing.T) {
 	}
 }
 
-// TestConnectionsLimit checks that a connection over the limit is closed without an answer, and that room is free again when one ends.
+// TestConnectionsLimit checks that a connection over the limit is closed without an answer, and that room is free again
+// when one ends.
 func TestConnectionsLimit(t *testing.T) {
 	t.Parallel()
 	s := newSite(t)
@@ -103,7 +105,8 @@ func (s *site) secured(operators ...string) (*Gateway, func(uris ...string) (net
 	}
 }
 
-// TestCallerConnections checks that a caller with too many connections gets G4 on one more, whatever it sends, and that others are served.
+// TestCallerConnections checks that a caller with too many connections gets G4 on one more, whatever it sends, and that
+// others are served.
 func TestCallerConnections(t *testing.T) {
 	t.Parallel()
 	s := newSite(t)
@@ -134,7 +137,8 @@ func TestCallerConnections(t *testing.T) {
 	served(dial(n2))
 }
 
-// TestHandshakeTurns checks that a handshake is computed when it has a turn, and that one which waits for its caller has none.
+// TestHandshakeTurns checks that a handshake is computed when it has a turn, and that one which waits for its caller
+// has none.
 func TestHandshakeTurns(t *testing.T) {
 	s := newSite(t)
 	s.limits.Handshake = 20 * time.Second
@@ -187,11 +191,13 @@ func TestLineBytes(t *testing.T) {
 	s.limits.LineBytes = 20000
 	_, address, _ := s.gateway("a")
 	fill := func(size int) string { return show + strings.Repeat(" ", size-len(show)) }
-	s.expect("long lines", s.call(address, fill(20000), fill(20001), fill(wire.MaxLine), fill(wire.MaxLine+1), show),
+	s.expect("long lines",
+		s.call(address, fill(20000), fill(20001), fill(wire.MaxLine), fill(wire.MaxLine+1), show),
 		answered(1, 0), refusal(wire.TooLong, 2), refusal(wire.TooLong, 3), refusal("L1", 4), answered(2, 0))
 }
 
-// TestLongLines checks that few long lines are under way: one over the limit waits, and is refused if that takes too long.
+// TestLongLines checks that few long lines are under way: one over the limit waits, and is refused if that takes too
+// long.
 func TestLongLinesLimit(t *testing.T) {
 	t.Parallel()
 	s := newSite(t)
@@ -202,7 +208,8 @@ func TestLongLinesLimit(t *testing.T) {
 	slow, in := s.dial(address)
 	fmt.Fprint(slow, long[:readBuffer+1])
 	within(t, "no slot is taken", func() bool { return len(g.long) == 1 })
-	s.expect("while another one arrives", s.call(address, show, long, show), answered(1, 0), refusal(wire.Busy, 2), answered(2, 0))
+	s.expect("while another one arrives", s.call(address, show, long, show), answered(1, 0), refusal(wire.Busy, 2),
+		answered(2, 0))
 	fmt.Fprintln(slow, long[readBuffer+1:])
 	if got, err := in.ReadString('\n'); got != answered(1, 0)+"\n" {
 		t.Errorf("the first one got %s, %v", got, err)
@@ -229,7 +236,8 @@ func TestLongLineOfAgent(t *testing.T) {
 	if err != nil {
 		t.Fatal(err)
 	}
-	go (&session{Gateway: g, conn: inner, in: bufio.NewReaderSize(inner, readBuffer), agent: "spiffe://ex.org/spire/agent/n1"}).serve(s.ctx)
+	go (&session{Gateway: g, conn: inner, in: bufio.NewReaderSize(inner, readBuffer),
+		agent: "spiffe://ex.org/spire/agent/n1"}).serve(s.ctx)
 	long := show + strings.Repeat(" ", 2*readBuffer)
 	fmt.Fprint(outer, long[:readBuffer+1])
 	time.Sleep(100 * time.Millisecond)
@@ -247,7 +255,8 @@ func TestRefusedLines(t *testing.T) {
 	s := newSite(t)
 	g := New(s.log, Options{Limits: s.limits})
 	outer, inner := net.Pipe()
-	go (&session{Gateway: g, conn: inner, in: bufio.NewReaderSize(inner, readBuffer), agent: "spiffe://ex.org/spire/agent/n1"}).serve(s.ctx)
+	go (&session{Gateway: g, conn: inner, in: bufio.NewReaderSize(inner, readBuffer),
+		agent: "spiffe://ex.org/spire/agent/n1"}).serve(s.ctx)
 	begin := time.Now()
 	go outer.Write([]byte(strings.Repeat("\n", 100)))
 	in := bufio.NewReader(outer)
@@ -261,8 +270,8 @@ func TestRefusedLines(t *testing.T) {
 	}
 }
 
-// TestChangesLimit lets etcd refuse everything. A change that waits behind too many others is refused after the time for an answer. What was sent
-// before it is answered immediately, and its connection goes on.
+// TestChangesLimit lets etcd refuse everything. A change that waits behind too many others is refused after the time
+// for an answer. What was sent before it is answered immediately, and its connection goes on.
 func TestChangesLimit(t *testing.T) {
 	t.Parallel()
 	s := newSite(t)
@@ -285,7 +294,8 @@ func TestChangesLimit(t *testing.T) {
 		t.Errorf("before the change: got %s after %v", got, took)
 	}
 	got, _ = in.ReadString('\n')
-	if took := time.Since(begin); got != refusal(wire.Busy, 2)+"\n" || took < s.limits.Answer || took > 5*time.Second {
+	if took := time.Since(begin); got != refusal(wire.Busy, 2)+"\n" || took < s.limits.Answer ||
+		took > 5*time.Second {
 		t.Errorf("the change: got %s after %v", got, took)
 	}
 	if got, _ := in.ReadString('\n'); got != answered(2, 0)+"\n" {
@@ -352,7 +362,8 @@ func TestShares(t *testing.T) {
 	}
 }
 
-// TestTurns takes all turns. Few queries that are sent together are answered without one. More of them wait, and their first answers don't.
+// TestTurns takes all turns. Few queries that are sent together are answered without one. More of them wait, and their
+// first answers don't.
 func TestTurns(t *testing.T) {
 	t.Parallel()
 	s := newSite(t)
@@ -384,7 +395,8 @@ func TestTurns(t *testing.T) {
 		t.Errorf("without a turn: got %s", got)
 	}
 	s.expect("others meanwhile", s.call(address, show, show), answered(1, 0), answered(2, 0))
-	if answers := s.call(fresh, strings.Split(strings.Repeat(show+"\n", 3*fewLines), "\n")[:3*fewLines]...); len(answers) != 3*fewLines {
+	queries := strings.Split(strings.Repeat(show+"\n", 3*fewLines), "\n")[:3*fewLines]
+	if answers := s.call(fresh, queries...); len(answers) != len(queries) {
 		t.Errorf("fresh queries meanwhile: got %q", answers)
 	}
 	conn.SetReadDeadline(time.Now().Add(20 * time.Second))
@@ -468,7 +480,8 @@ func TestTurnsEnd(t *testing.T) {
 	}
 }
 
-// TestReplyRoom lets a caller send queries with large replies, and read none. When the size of the replies is known, few are under way.
+// TestReplyRoom lets a caller send queries with large replies, and read none. When the size of the replies is known,
+// few are under way.
 func TestReplyRoom(t *testing.T) {
 	t.Parallel()
 	s := newSite(t)
@@ -501,7 +514,8 @@ func TestReplyRoom(t *testing.T) {
 	}
 }
 
-// TestReplyBytes lets a caller ask for more than fits, and read nothing. Large replies to others find no room, small ones do.
+// TestReplyBytes lets a caller ask for more than fits, and read nothing. Large replies to others find no room, small
+// ones do.
 func TestReplyBytes(t *testing.T) {
 	t.Parallel()
 	s := newSite(t)
@@ -540,7 +554,8 @@ func TestLargeReply(t *testing.T) {
 	s.expect("a large reply", s.call(address, large, show), refusal(wire.Busy, 1), answered(1, 0))
 }
 
-// TestLateReply checks that a reply which comes when its caller has left takes no room, and neither does one that had come before.
+// TestLateReply checks that a reply which comes when its caller has left takes no room, and neither does one that had
+// come before.
 func TestLateReply(t *testing.T) {
 	made, _ := rowOf(newSite(t), []byte("abc"))
 	late := made.add(made.request(nil))
@@ -552,7 +567,8 @@ func TestLateReply(t *testing.T) {
 	}
 }
 
-// TestAnswerAgain checks that a reply takes no room if another one was written. Replies come again if a replica ends within an entry.
+// TestAnswerAgain checks that a reply takes no room if another one was written. Replies come again if a replica ends
+// within an entry.
 func TestAnswerAgain(t *testing.T) {
 	reply := []byte(committed(7, 1))
 	made, conn := rowOf(newSite(t), reply)
@@ -639,7 +655,8 @@ func TestWaitForSlot(t *testing.T) {
 	}
 }
 
-// TestSteadyReader checks that a caller which reads all the time gets a large reply, although that takes longer than a caller may not read.
+// TestSteadyReader checks that a caller which reads all the time gets a large reply, although that takes longer than a
+// caller may not read.
 func TestSteadyReader(t *testing.T) {
 	t.Parallel()
 	s := newSite(t)
@@ -672,18 +689,19 @@ func TestPart(t *testing.T) {
 	t.Parallel()
 	s := newSite(t)
 	s.limits.Answer = 200 * time.Millisecond
-	_, address, _ := s.gateway("a")
+	g, address, _ := s.gateway("a")
 	s.store.Refuse(1 << 30)
 	conn, in := s.dial(address)
 	fmt.Fprint(conn, show+"\n"+prune+"\n"+strings.Repeat(show+"\n", 1000))
-	time.Sleep(2 * s.limits.Answer)
+	within(t, "it is not ended", func() bool { return endedFor(t, g, "answer") == 1 })
 	if got := ends(t, in); got != answered(1, 0)+"\n" {
 		t.Errorf("got %s", got)
 	}
 	s.store.Refuse(0)
 }
 
-// endless is a connection whose caller sends without an end after the gateway has ended its side, and counts what is read.
+// endless is a connection whose caller sends without an end after the gateway has ended its side, and counts what is
+// read.
 type endless struct {
 	net.Conn
 	read int
@@ -700,7 +718,8 @@ func (c *endless) Read(to []byte) (int, error) {
 	return len(to), nil
 }
 
-// TestPartEnds checks that a caller that sends nothing, and one that doesn't stop, don't hold a connection that the gateway has ended.
+// TestPartEnds checks that a caller that sends nothing, and one that doesn't stop, don't hold a connection that the
+// gateway has ended.
 func TestPartEnds(t *testing.T) {
 	t.Parallel()
 	c := &endless{}
@@ -725,8 +744,8 @@ func TestPartEnds(t *testing.T) {
 	}
 }
 
-// TestReset checks that no change is made for a caller that has ended its connection in both directions, and that one that has ended one
-// direction may wait.
+// TestReset checks that no change is made for a caller that has ended its connection in both directions, and that one
+// that has ended one direction may wait.
 func TestReset(t *testing.T) {
 	s := newSite(t)
 	on, err := net.Listen("tcp", "127.0.0.1:0")
@@ -748,9 +767,11 @@ func TestReset(t *testing.T) {
 		return q
 	}
 	outer.(*net.TCPConn).CloseWrite()
-	time.Sleep(50 * time.Millisecond)
+	if _, err := inner.Read(make([]byte, 1)); err != io.EOF {
+		t.Fatalf("half closed: got %v", err)
+	}
 	queued()
-	if changes, _ := g.collect(s.ctx); len(changes) != 1 {
+	if changes := g.collect(s.ctx); len(changes) != 1 {
 		t.Errorf("half closed: %d changes are made", len(changes))
 	}
 	outer.(*net.TCPConn).SetLinger(0)
@@ -758,8 +779,8 @@ func TestReset(t *testing.T) {
 	within(t, "it is not reset", func() bool { return isReset(inner) })
 	q := queued()
 	g.changes <- (&session{Gateway: g}).request([]byte(show))
-	if changes, lines := g.collect(s.ctx); len(changes) != 1 || string(lines[0]) != show {
-		t.Errorf("reset: got %q", lines)
+	if changes := g.collect(s.ctx); len(changes) != 1 || string(changes[0].line) != show {
+		t.Errorf("reset: got %d changes", len(changes))
 	}
 	select {
 	case reply := <-q.reply:

@@ -12,8 +12,8 @@ import (
 // executed an entry, and then finds the log empty, keeps its book: it executes and appends nothing, until the log has
 // the last entry of the book again, or an operator restarts the gateway, which then has no book.
 
-// checkLog finds out whether the log was lost, after it could not be read on. It returns true if the gateway has to keep
-// its book. Its error is that of the context.
+// checkLog finds out whether the log was lost, after it could not be read on. It returns true if the gateway has to
+// keep its book. Its error is that of the context.
 func (g *Gateway) checkLog(ctx context.Context) (isLost bool, err error) {
 	book := g.board.last()
 	if book.Entry == 0 {

@@ -28,11 +28,12 @@ func isLost(t *testing.T, g *Gateway) bool {
 	return values["lost"] == true
 }
 
-// TestLostLog lets etcd come back without the log, or with an empty one that grows again. A gateway with a book keeps it: it goes on to answer queries,
-// says that the log is lost, is not ready for changes, executes none of the new log and appends nothing to it. When the log is back, it goes on.
+// TestLostLog lets etcd come back without the log, or with an empty one that grows again. A gateway with a book keeps
+// it: it goes on to answer queries, says that the log is lost, is not ready for changes, executes none of the new log
+// and appends nothing to it. When the log is back, it goes on.
 func TestLostLog(t *testing.T) {
 	t.Parallel()
-	empty := map[string][]byte{"r/head": []byte("0"), "r/domain": []byte("ex.org")}
+	empty := newSite(t).store.Backup()
 	for name, values := range map[string]map[string][]byte{"no log": {}, "an empty log": empty} {
 		s := newSite(t)
 		s.limits.Answer = time.Minute // the change that waits has its answer when the log is back
@@ -70,7 +71,23 @@ func TestLostLog(t *testing.T) {
 	}
 }
 
-// TestLostLogAndReplica ends regd while the log is empty: no replica is made of the empty log. A gateway without a book makes one.
+// TestSilentLostLog loses the log while the watch of a gateway brings nothing, such as one that was made just before
+// the loss and waits for a revision that is far away. The gateway finds out by the end of the log.
+func TestSilentLostLog(t *testing.T) {
+	t.Parallel()
+	empty := newSite(t).store.Backup()
+	for name, values := range map[string]map[string][]byte{"no log": {}, "an empty log": empty} {
+		s := newSite(t)
+		g, usual, _ := s.gateway("a")
+		s.expect(name, s.call(usual, prune), committed(1, 1))
+		s.holdWatch(1)
+		s.store.Restore(values)
+		within(t, name+": it is not lost", func() bool { return isLost(t, g) })
+	}
+}
+
+// TestLostLogAndReplica ends regd while the log is empty: no replica is made of the empty log. A gateway without a book
+// makes one.
 func TestLostLogAndReplica(t *testing.T) {
 	t.Parallel()
 	s := newSite(t)
@@ -91,6 +108,7 @@ func TestLostLogAndReplica(t *testing.T) {
 	within(t, "the replica stays", func() bool { r, _ := g.board.read(); return r == nil })
 	_, other, _ := s.gateway("b")
 	s.expect("a gateway without a book", s.call(other, show), answered(1, 0))
+	time.Sleep(3 * againTime) // in which another replica would be ready
 	if r, _ := g.board.read(); r != nil || !isLost(t, g) || g.replicasEnded.Load() != 1 {
 		t.Errorf("%d replicas were made of an empty log", g.replicasEnded.Load())
 	}
@@ -127,7 +145,8 @@ func TestFullEtcd(t *testing.T) {
 	}
 }
 
-// TestFreshLost checks that no fresh query is answered from the book of a lost log, also if the log has as many entries as that had.
+// TestFreshLost checks that no fresh query is answered from the book of a lost log, also if the log has as many entries
+// as that had.
 func TestFreshLost(t *testing.T) {
 	t.Parallel()
 	s := newSite(t)
@@ -138,7 +157,8 @@ func TestFreshLost(t *testing.T) {
 	s.expect("of another log", s.call(fresh, show))
 }
 
-// TestFreshLate checks that a fresh query for which etcd doesn't say where the log ends is counted, and one of a gateway that shuts down is not.
+// TestFreshLate checks that a fresh query for which etcd doesn't say where the log ends is counted, and one of a
+// gateway that shuts down is not.
 func TestFreshLate(t *testing.T) {
 	t.Parallel()
 	s := newSite(t)

@@ -90,8 +90,8 @@ func newNetwork(t *testing.T, address string) (*network, string) {
 	return n, on.Addr().String()
 }
 
-// TestNetwork cuts a gateway off from etcd, in one direction or both, and then delays all bytes. Queries of the usual port are answered meanwhile, and
-// a change is made once: when the network is there again, or late.
+// TestNetwork cuts a gateway off from etcd, in one direction or both, and then delays all bytes. Queries of the usual
+// port are answered meanwhile, and a change is made once: when the network is there again, or late.
 func TestNetwork(t *testing.T) {
 	t.Parallel()
 	for _, c := range []struct {
@@ -119,7 +119,9 @@ func TestNetwork(t *testing.T) {
 			s.expect("a query meanwhile", s.call(usual, show), answered(1, 1))
 			isCut := c.requests || c.answers
 			if isCut {
-				within(t, "it is ready for changes", func() bool { return get(g, "/ready/changes").Code == 503 })
+				within(t, "it is ready for changes", func() bool {
+					return get(g, "/ready/changes").Code == 503
+				})
 				n.set(false, false, 0)
 			}
 			if got, err := in.ReadString('\n'); got != committed(1, 2)+"\n" || err != nil && err != io.EOF {

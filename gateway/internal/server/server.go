@@ -1,5 +1,5 @@
-// Package server answers request lines of regd for many callers: queries by a regd of its own, and changes through a log that all gateways
-// share.
+// Package server answers request lines of regd for many callers: queries by a regd of its own, and changes through a
+// log that all gateways share.
 package server
 
 import (
@@ -14,6 +14,7 @@ import (
 	"sync/atomic"
 	"time"
 
+	"regd/gateway/internal/audit"
 	"regd/gateway/internal/etcd"
 	"regd/gateway/internal/logline"
 	"regd/gateway/internal/replica"
@@ -33,8 +34,9 @@ type Limits struct {
 	Votes     time.Duration // between two looks at the votes
 	Members   time.Duration // between two looks at the members of etcd
 	Status    time.Duration // for a request for the status, and for its answer
+	Presence  time.Duration // of a gateway's name without a sign of it
 
-	Lag               int   // entries of the log that the replica has not executed, beyond which queries are refused; 0 for none
+	Lag               int   // entries that the replica may be behind before queries are refused; 0 for none
 	LineBytes         int   // of a line, without its line feed
 	Lines             int   // of a connection that are under way
 	Listings          int   // in a query: operations whose replies grow with the book
@@ -45,6 +47,7 @@ type Limits struct {
 	CallerConnections int // of one caller with a certificate
 	Handshakes        int // under way
 	AddressHandshakes int // of one address
+	StatusConnections int // for the status
 }
 
 // UsualLimits are the defaults of the program.
@@ -52,11 +55,13 @@ var UsualLimits = Limits{
 	Answer: 20 * time.Second, After: 2 * time.Second, Handshake: 3 * time.Second, Idle: 15 * time.Minute,
 	Line: 30 * time.Second, Write: 20 * time.Second, Silent: time.Minute, Lag: 10000, Stop: 25 * time.Second,
 	Votes: 5 * time.Second, Members: 10 * time.Second, Status: 10 * time.Second,
+	Presence:  15 * time.Second,
 	LineBytes: wire.MaxLine, Lines: 256, Listings: 16, LongLines: 64, Changes: 4096, ReplyBytes: 512 << 20,
-	Connections: 10000, CallerConnections: 100, Handshakes: 256, AddressHandshakes: 128,
+	Connections: 10000, CallerConnections: 100, Handshakes: 256, AddressHandshakes: 128, StatusConnections: 256,
 }
 
-// IsValid returns true if all limits are above 0, but for those that may be none, and lines are not longer than regd accepts them.
+// IsValid returns true if all limits are above 0, but for those that may be none, and lines are not longer than regd
+// accepts them.
 func (l Limits) IsValid() bool {
 	if l.Silent < 0 || l.Lag < 0 {
 		return false
@@ -73,14 +78,30 @@ func (l Limits) IsValid() bool {
 
 // Options configure a gateway.
 type Options struct {
-	Name      string // the same each time this gateway is started, and no other one's
-	Program   string // a checksum of the program regd, for the status
-	Replies   string // a version: gateways with the same one have to give the same replies
-	Replica   replica.Options
-	Callers   *Certificates // for callers; nil: they come in plain text, and all are operators
-	Etcd      *Certificates // for etcd, or nil
-	Operators []string      // SPIFFE IDs that may send every line
-	Limits    Limits
+	Name    string // the same each time this gateway is started, and no other one's
+	Program string // a checksum of the program regd, for the status
+	Replies string // a version: gateways with the same one have to give the same replies
+	Replica replica.Options
+	Callers *Certificates // for callers; nil: they come in plain text, and all are operators
+	Etcd    *Certificates // for etcd, or nil
+	// how long tokens are retained, and how many bytes they may take; 0 for the usual time and room
+	TokenTime  time.Duration
+	TokenBytes int64
+	Operators  []string      // SPIFFE IDs that may send every line, if there is no file of roles
+	Roles      *Roles        // what the file says, or nil
+	Audit      *audit.Record // of changes, or nil
+	Limits     Limits
+}
+
+// retention returns what entries say of it: milliseconds and bytes, or 0 for what is usual.
+func (o Options) retention() (keep, room int64) {
+	if o.TokenTime != replica.UsualKeep {
+		keep = o.TokenTime.Milliseconds()
+	}
+	if o.TokenBytes != replica.UsualRoom {
+		room = o.TokenBytes
+	}
+	return keep, room
 }
 
 // A Gateway serves callers.
@@ -102,21 +123,26 @@ type Gateway struct {
 	stop       chan struct{}   // closed then
 	open       sync.Map        // connections of sessions
 	crowd      crowd
+	roles      *Roles
 	fresh      fresh
 	marks      chan replica.State // checksums to vote for
 
 	isDisputed atomic.Bool
-	isLogLost  atomic.Bool   // the log was found empty, and has not this gateway's book
-	sessions   atomic.Int64  // open ones
-	started    time.Time     // when New was called
-	head       atomic.Uint64 // where the log ended when etcd was last asked
-	heardAfter atomic.Int64  // how long after started that was, in nanoseconds
+	isLogLost  atomic.Bool            // the log was found empty, and has not this gateway's book
+	unverified atomic.Pointer[string] // why the log doesn't verify, or nil
+	sessions   atomic.Int64           // open ones
+	gateways   atomic.Int64           // that are there, when they were last counted
+	started    time.Time              // when New was called
+	head       atomic.Uint64          // where the log ended when etcd was last asked
+	heardAfter atomic.Int64           // how long after started that was, in nanoseconds
+	end        atomic.Pointer[logEnd]
 	members    atomic.Pointer[[]etcd.Member]
 	skips      atomic.Pointer[etcd.Skips]
 	failure    atomic.Pointer[failure]
 	stats
 
-	acceptFails, readAgain, crowded, callerCrowded, changesWait, longWait, noRoom, manyHandshakes, panics logline.Rare
+	acceptFails, readAgain, crowded, callerCrowded, changesWait logline.Rare
+	longWait, noRoom, manyHandshakes, panics, nameFails         logline.Rare
 
 	failedHandshakes logline.Few
 }
@@ -124,33 +150,46 @@ type Gateway struct {
 // New returns a gateway of a log.
 func New(log *etcd.Log, options Options) *Gateway {
 	g := &Gateway{
-		log: log, options: options, run: wire.NewID(), started: time.Now(), board: board{changed: make(chan struct{})},
-		changes: make(chan *request, options.Limits.Changes), long: make(chan struct{}, options.Limits.LongLines),
+		log: log, options: options, run: wire.NewID(), started: time.Now(),
+		board:      board{changed: make(chan struct{})},
+		changes:    make(chan *request, options.Limits.Changes),
+		long:       make(chan struct{}, options.Limits.LongLines),
 		gate:       newGate(options.Limits.Handshakes, options.Limits.AddressHandshakes),
 		handshakes: make(chan struct{}, runtime.GOMAXPROCS(0)),
-		stop:       make(chan struct{}), crowd: crowd{counts: map[string]int{}}, fresh: fresh{asks: make(chan struct{}, 1)},
-		marks: make(chan replica.State, votesLeft),
+		stop:       make(chan struct{}),
+		crowd:      crowd{counts: map[string]int{}},
+		fresh:      fresh{asks: make(chan struct{}, 1)},
+		marks:      make(chan replica.State, votesLeft),
 	}
 	for len(g.turns) == 0 || len(g.turns) < options.Replica.Workers-1 {
 		g.turns = append(g.turns, make(chan struct{}, mostTurns))
 	}
-	g.options.Replica.ReplyBytes = int(options.Limits.ReplyBytes) / 2 / len(g.turns) // those that are read take no more room than those that are not yet sent
+	g.roles = options.Roles
+	if g.roles == nil {
+		g.roles = RolesOf(options.Operators)
+	}
+	// those that are read take no more room than those that are not yet sent
+	g.options.Replica.ReplyBytes = int(options.Limits.ReplyBytes) / 2 / len(g.turns)
 	g.options.Replica.OnLate = g.late.Inc
 	g.skips.Store(&etcd.Skips{})
 	return g
 }
 
-// Run follows the log until the context ends or the gateway has to stop, and calls serve once queries can be answered. It returns the first
-// error, also of serve.
+// Run follows the log until the context ends or the gateway has to stop, and calls serve once queries can be answered.
+// It returns the first error, also of serve.
 func (g *Gateway) Run(ctx context.Context, serve func(context.Context) error) error {
 	ctx, stop := context.WithCancel(ctx)
 	defer stop()
-	parts := []func(context.Context) error{g.follow, g.appendChanges, g.compare, g.askHead, g.askMembers, func(ctx context.Context) error {
+	serving := func(ctx context.Context) error {
 		if !g.board.wait(ctx, 0, 0) {
 			return ctx.Err()
 		}
 		return serve(ctx)
-	}}
+	}
+	parts := []func(context.Context) error{
+		g.follow, g.appendChanges, g.compare, g.askHead, g.askMembers, g.endSessions, g.keepName,
+		serving,
+	}
 	ended := make(chan error, len(parts))
 	for _, part := range parts {
 		go func(part func(context.Context) error) { ended <- part(ctx) }(part)
@@ -163,8 +202,8 @@ func (g *Gateway) Run(ctx context.Context, serve func(context.Context) error) er
 	return err
 }
 
-// Shutdown accepts no more callers, reads no more lines, and ends each connection when its lines are answered. It returns when no connection is left,
-// or the context ends. It may be called once.
+// Shutdown accepts no more callers, reads no more lines, and ends each connection when its lines are answered. It
+// returns when no connection is left, or the context ends. It may be called once.
 func (g *Gateway) Shutdown(ctx context.Context) {
 	g.isStopping.Store(true)
 	close(g.stop)
@@ -177,7 +216,8 @@ func (g *Gateway) Shutdown(ctx context.Context) {
 	}
 }
 
-// Serve accepts callers until the context ends. Queries of fresh ones see every change that was answered to anybody before.
+// Serve accepts callers until the context ends. Queries of fresh ones see every change that was answered to anybody
+// before.
 func (g *Gateway) Serve(ctx context.Context, on net.Listener, isFresh bool) error {
 	go func() {
 		select {
@@ -205,16 +245,16 @@ func (g *Gateway) Serve(ctx context.Context, on net.Listener, isFresh bool) erro
 func (g *Gateway) receive(ctx context.Context, conn net.Conn, isFresh bool) {
 	defer func() { conn.Close() }() // whose error says nothing: the connection is of no more use
 	defer g.survive(conn)
-	s := &session{Gateway: g, conn: conn, isOperator: true, isFresh: isFresh}
+	s := &session{Gateway: g, conn: conn, role: Role{Kind: Operator}, isFresh: isFresh}
 	if g.options.Callers != nil {
 		secure := g.shakeHands(ctx, conn)
 		if secure == nil {
 			return
 		}
 		s.conn = secure
-		// the handshake requires a certificate
-		s.agent, s.isOperator = callerOf(
-			secure.ConnectionState().PeerCertificates[0], g.options.Replica.Domain, g.options.Operators)
+		s.lapse.chain = secure.ConnectionState().PeerCertificates // the handshake requires one
+		s.agent = callerOf(s.lapse.chain[0], g.options.Replica.Domain)
+		s.role = g.roles.Of(s.agent)
 	}
 	defer g.sessions.Add(-1)
 	if g.sessions.Add(1) > int64(g.options.Limits.Connections) {

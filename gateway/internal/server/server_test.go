@@ -4,6 +4,7 @@ import (
 	"bufio"
 	"bytes"
 	"context"
+	"crypto/tls"
 	"fmt"
 	"io"
 	"net"
@@ -12,6 +13,7 @@ import (
 	"testing"
 	"time"
 
+	"regd/gateway/internal/audit"
 	"regd/gateway/internal/etcd"
 	"regd/gateway/internal/etcd/etcdtest"
 	"regd/gateway/internal/replica"
@@ -43,6 +45,12 @@ type site struct {
 	hang      time.Duration // of regd, or 0 for the usual one
 	callers   *Certificates
 	operators []string
+	audit     *audit.Record
+	roles     *Roles
+	program   string // regd; "" for the one in miniature
+	// for retained tokens, or 0 for what is usual
+	tokenTime  time.Duration
+	tokenBytes int64
 }
 
 func newSite(t *testing.T) *site {
@@ -55,7 +63,8 @@ func newSiteFor(t *testing.T, patience time.Duration) *site {
 	t.Cleanup(store.CloseClientConnections)
 	ctx, cancel := context.WithTimeout(context.Background(), patience+10*time.Second)
 	t.Cleanup(cancel)
-	s := &site{t: t, ctx: ctx, patience: patience, store: store, log: etcd.New([]string{store.URL}, "r/", nil), limits: UsualLimits}
+	s := &site{t: t, ctx: ctx, patience: patience, store: store, log: etcd.New([]string{store.URL}, "r/", nil),
+		limits: UsualLimits}
 	if err := s.log.Open(ctx, "ex.org"); err != nil {
 		t.Fatal(err)
 	}
@@ -64,8 +73,15 @@ func newSiteFor(t *testing.T, patience time.Duration) *site {
 
 // gateway starts a gateway, and returns it with the addresses of its two ports.
 func (s *site) gateway(name string) (*Gateway, string, string) {
-	g := New(s.log, Options{Name: name, Program: "p", Replies: "p", Limits: s.limits, Callers: s.callers, Operators: s.operators,
-		Replica: replica.Options{Program: os.Args[0], Domain: "ex.org", Workers: 3, Hang: s.hang}})
+	program := s.program
+	if program == "" {
+		program = os.Args[0]
+	}
+	g := New(s.log, Options{
+		Name: name, Program: "p", Replies: "p", Limits: s.limits, Callers: s.callers, Operators: s.operators,
+		Audit: s.audit, Roles: s.roles, TokenTime: s.tokenTime, TokenBytes: s.tokenBytes,
+		Replica: replica.Options{Program: program, Domain: "ex.org", Workers: 3, Hang: s.hang},
+	})
 	ctx, stop := context.WithCancel(s.ctx)
 	var addresses []string
 	ready, ended := make(chan struct{}), make(chan error, 1)
@@ -93,6 +109,19 @@ func (s *site) gateway(name string) (*Gateway, string, string) {
 	return g, addresses[0], addresses[1]
 }
 
+// watches waits until gateways have made this many watches of the log.
+func (s *site) watches(count int) {
+	s.t.Helper()
+	within(s.t, "a watch is missing", func() bool { return s.store.Counts().Watches == count })
+}
+
+// holdWatch waits until gateways have made this many watches, and lets the last one bring nothing more.
+func (s *site) holdWatch(count int) {
+	s.t.Helper()
+	s.watches(count)
+	s.store.HoldWatch()
+}
+
 // small is a listener whose connections have small buffers, so that a caller that doesn't read is noticed soon.
 type small struct{ net.Listener }
 
@@ -114,6 +143,16 @@ func (s *site) dial(address string) (net.Conn, *bufio.Reader) {
 	return conn, bufio.NewReader(conn)
 }
 
+// secureTo opens a connection with TLS.
+func (s *site) secureTo(address string, config *tls.Config) net.Conn {
+	conn, err := tls.Dial("tcp", address, config)
+	if err != nil {
+		s.t.Fatal(err)
+	}
+	s.t.Cleanup(func() { conn.Close() })
+	return conn
+}
+
 // call sends lines on a connection of their own, and returns all answers.
 func (s *site) call(address string, lines ...string) []string {
 	conn, in := s.dial(address)
@@ -132,7 +171,12 @@ func (s *site) call(address string, lines ...string) []string {
 }
 
 func committed(call, place int) string {
-	return fmt.Sprintf(`{"call":%d,"place":%d,"replies":[{"pruned":["%d"]}],"result":"committed"}`, call, place, place)
+	return fmt.Sprintf(`{"call":%d,"place":%d,"replies":[{"pruned":["%d"]}],"result":"committed"}`,
+		call, place, place)
+}
+
+func repeated(call, place int) string {
+	return strings.Replace(committed(call, place), "committed", "repeated", 1)
 }
 
 func answered(call, place int) string {
@@ -146,13 +190,15 @@ func (s *site) expect(what string, got []string, want ...string) {
 	}
 }
 
-// TestOrder checks that each line is answered by a book with what the lines before it made and nothing else, and the numbers of calls and lines.
+// TestOrder checks that each line is answered by a book with what the lines before it made and nothing else, and the
+// numbers of calls and lines.
 func TestOrder(t *testing.T) {
 	s := newSite(t)
 	_, address, fresh := s.gateway("a")
 	mixed := `{"ops":[{"op":"prune"}` + strings.Repeat(`,{"op":"children"}`, wire.MaxQueries+1) + `]}`
 	lines := []string{show, prune, prune, show, show, mixed, prune, `{`, show}
-	s.expect("the usual port", s.call(address, lines...), answered(1, 0), committed(2, 1), committed(3, 2), answered(4, 2), answered(5, 2),
+	s.expect("the usual port", s.call(address, lines...), answered(1, 0), committed(2, 1), committed(3, 2),
+		answered(4, 2), answered(5, 2),
 		`{"code":"G2","line":6}`, committed(6, 3), `{"code":"L2","line":8}`, answered(7, 3))
 	slow := `{"ops":[{"op":"show","hint":"WAIT"}]}` // a change that doesn't wait for it is committed first
 	s.expect("a change after a slow query", s.call(address, slow, prune), answered(1, 3), committed(2, 4))
@@ -194,10 +240,10 @@ func TestIDs(t *testing.T) {
 	s := newSite(t)
 	_, address, _ := s.gateway("a")
 	s.call(address, `{"ops":[{"op":"create"},{"op":"prune"}]}`)
-	value, _ := s.log.Get(s.ctx, etcd.EntryKey(1))
-	_, lines := etcd.SplitEntry(value)
-	if len(lines) != 1 || !bytes.HasPrefix(lines[0], []byte(`{"ops":[{"op":"create","id":"`)) || len(lines[0]) != len(`{"ops":[{"op":"create"},{"op":"prune"}]}`)+44 {
-		t.Errorf("the log has %s", value)
+	lines := s.entry(1).Lines
+	if len(lines) != 1 || !bytes.HasPrefix(lines[0], []byte(`{"ops":[{"op":"create","id":"`)) ||
+		len(lines[0]) != len(`{"ops":[{"op":"create"},{"op":"prune"}]}`)+44 {
+		t.Errorf("the log has %s", lines)
 	}
 }
 
@@ -211,10 +257,12 @@ func TestGateways(t *testing.T) {
 		s.expect("a change", s.call(first, prune), committed(1, place))
 		s.expect("a fresh query", s.call(fresh, show), answered(1, place))
 		s.expect("a change elsewhere", s.call(second, prune), committed(1, place+1))
-		s.expect("a query with after", s.call(first, fmt.Sprintf(`{"ops":[{"op":"show"}],"after":%d}`, place+1)), answered(1, place+1))
+		s.expect("a query with after",
+			s.call(first, fmt.Sprintf(`{"ops":[{"op":"show"}],"after":%d}`, place+1)), answered(1, place+1))
 	}
 	begin := time.Now()
-	s.expect("a query that is too early", s.call(first, `{"ops":[{"op":"show"}],"after":99}`), `{"call":1,"code":"W1","place":40,"result":"refused"}`)
+	s.expect("a query that is too early", s.call(first, `{"ops":[{"op":"show"}],"after":99}`),
+		`{"call":1,"code":"W1","place":40,"result":"refused"}`)
 	if took := time.Since(begin); took < s.limits.After {
 		t.Errorf("it waited for %v", took)
 	}
@@ -225,7 +273,8 @@ func TestGateways(t *testing.T) {
 	s.expect("a gateway that comes later", s.call(third, show), answered(1, 40))
 }
 
-// TestLateWorkers lets the workers for queries see a change two seconds late. A query on the usual port may miss the change; a fresh one sees it.
+// TestLateWorkers lets the workers for queries see a change two seconds late. A query on the usual port may miss the
+// change; a fresh one sees it.
 func TestLateWorkers(t *testing.T) {
 	t.Parallel()
 	s := newSite(t)
@@ -234,22 +283,25 @@ func TestLateWorkers(t *testing.T) {
 	s.expect("the usual port", s.call(usual, show), answered(1, 0))
 	s.expect("the fresh port", s.call(fresh, show), answered(1, 1))
 	s.expect("another change", s.call(usual, `{"ops":[{"op":"prune","hint":"LATE"}]}`), committed(1, 2))
-	s.expect("the fresh port, with an older after", s.call(fresh, `{"ops":[{"op":"show"}],"after":1}`), answered(1, 2))
-	s.expect("the caller's own change", s.call(usual, `{"ops":[{"op":"prune","hint":"LATE"}]}`, show), committed(1, 3), answered(2, 3))
+	s.expect("the fresh port, with an older after", s.call(fresh, `{"ops":[{"op":"show"}],"after":1}`),
+		answered(1, 2))
+	s.expect("the caller's own change", s.call(usual, `{"ops":[{"op":"prune","hint":"LATE"}]}`, show),
+		committed(1, 3), answered(2, 3))
 	s.expect("one more change", s.call(usual, `{"ops":[{"op":"prune","hint":"LATE"}]}`), committed(1, 4))
 	s.expect("a query with after", s.call(usual, `{"ops":[{"op":"show"}],"after":4}`), answered(1, 4))
 }
 
-// TestSilentWatch holds the watch of one gateway. Its usual port doesn't see a change of another one. A fresh query does: the gateway notices that
-// the watch is silent, and reads the log again.
+// TestSilentWatch holds the watch of one gateway. Its usual port doesn't see a change of another one. A fresh query
+// does: the gateway notices that the watch is silent, and reads the log again.
 func TestSilentWatch(t *testing.T) {
 	t.Parallel()
 	s := newSite(t)
 	_, first, _ := s.gateway("a")
+	s.watches(1)
 	g, usual, fresh := s.gateway("b")
 	s.expect("a change", s.call(first, prune), committed(1, 1))
 	s.expect("a fresh query", s.call(fresh, show), answered(1, 1))
-	s.store.HoldWatch()
+	s.holdWatch(2)
 	before, _ := g.board.read()
 	s.expect("a change that the other one doesn't see", s.call(first, prune), committed(1, 2))
 	s.expect("the usual port", s.call(usual, show), answered(1, 1))
@@ -258,23 +310,25 @@ func TestSilentWatch(t *testing.T) {
 	if counts := s.store.Counts(); counts.Watches != 3 {
 		t.Errorf("%d watches: those of a gateway that misses nothing stay", counts.Watches)
 	}
-	if after, _ := g.board.read(); after != before || samples(t, g)["regd_gateway_replay_duration_seconds_count"] != 1 {
+	if after, _ := g.board.read(); after != before ||
+		samples(t, g)["regd_gateway_replay_duration_seconds_count"] != 1 {
 		t.Error("another replica was made")
 	}
 }
 
-// TestCutLog cuts the log behind a snapshot while the watch of a gateway is held: it makes another replica from the snapshot.
+// TestCutLog cuts the log behind a snapshot while the watch of a gateway is held: it makes another replica from the
+// snapshot.
 func TestCutLog(t *testing.T) {
 	t.Parallel()
 	s := newSite(t)
 	_, first, _ := s.gateway("a")
+	s.watches(1)
 	_, _, fresh := s.gateway("b")
 	s.expect("a change", s.call(first, prune), committed(1, 1))
 	s.expect("a fresh query", s.call(fresh, show), answered(1, 1))
-	s.store.HoldWatch()
+	s.holdWatch(2)
 	s.expect("another change", s.call(first, prune), committed(1, 2))
-	s.log.Put(s.ctx, "snapshot/0000000000000002/00000000", []byte(`{"Entry":2,"Place":2}`))
-	s.log.Put(s.ctx, "snapshot", []byte(`{"Entry":2,"Chunks":1}`))
+	s.snapshot(s.entry(2).Position)
 	s.log.Cut(s.ctx, 2)
 	s.expect("a fresh query after the cut", s.call(fresh, show), answered(1, 2))
 }
@@ -293,10 +347,11 @@ func TestLostAppend(t *testing.T) {
 	}
 }
 
-// TestUnknownAppend appends where an entry was cut off, and loses the answer: it can't be known whether that was this change, so it gets no answer.
+// TestUnknownAppend appends where an entry was cut off, and loses the answer: it can't be known whether that was this
+// change, so it gets no answer.
 func TestUnknownAppend(t *testing.T) {
 	s := newSite(t)
-	s.log.Append(s.ctx, 1, []byte("a"))
+	s.append("a")
 	s.log.Cut(s.ctx, 1)
 	g := New(s.log, Options{Limits: s.limits})
 	standIn(g)
@@ -320,15 +375,14 @@ func TestUnknownAppend(t *testing.T) {
 			t.Fatal(err)
 		}
 		if value != nil {
-			_, lines := etcd.SplitEntry(value)
-			s.expect("the next change", []string{string(lines[0])}, show)
+			s.expect("the next change", []string{string(s.entry(2).Lines[0])}, show)
 			return
 		}
 	}
 }
 
-// TestNoAnswer lets etcd refuse everything. After some time the connection of a change ends, and that of a fresh query; other queries are answered.
-// Of the changes whose callers have left, only the one that was being appended is made.
+// TestNoAnswer lets etcd refuse everything. After some time the connection of a change ends, and that of a fresh query;
+// other queries are answered. Of the changes whose callers have left, only the one that was being appended is made.
 func TestNoAnswer(t *testing.T) {
 	t.Parallel()
 	s := newSite(t)
@@ -344,7 +398,10 @@ func TestNoAnswer(t *testing.T) {
 		t.Errorf("the connections ended after %v", took)
 	}
 	s.store.Refuse(0)
-	within(t, "the change that was taken isn't made", func() bool { _, state := g.board.read(); return state.Place == 1 })
+	within(t, "the change that was taken isn't made", func() bool {
+		_, state := g.board.read()
+		return state.Place == 1
+	})
 	s.expect("after the change that was taken", s.call(usual, prune), committed(1, 2))
 }
 
@@ -382,12 +439,7 @@ func TestCallerLeft(t *testing.T) {
 		}
 		g.changes <- q
 	}
-	for i := 0; i < 100; i++ {
-		if head, _ := s.log.Head(s.ctx); head > 0 {
-			break
-		}
-		time.Sleep(10 * time.Millisecond)
-	}
+	within(t, "no entry", func() bool { head, _ := s.log.Head(s.ctx); return head > 0 })
 	s.expect("a change", s.call(address, prune), committed(1, 2))
 	if got := samples(t, g)["regd_gateway_changes_dropped_total"]; got != 2 {
 		t.Errorf("%v changes were dropped", got)

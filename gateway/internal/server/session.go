@@ -20,7 +20,8 @@ const (
 	flushSize  = 1 << 15
 	pieceSize  = 1 << 18 // that a caller reads within the time for it
 	readBuffer = 1 << 13
-	replyRoom  = 1 << 18 // for replies to the lines of a connection that are under way, if these are as long as the last ones were
+	// for replies to the lines of a connection that are under way, if these are as long as the last ones were
+	replyRoom = 1 << 18
 	// lines that are under way of all connections together, if each has more than one
 	queryRoom, changeRoom = 256, 1024
 	fewLines              = 4                    // queries that a caller may send together without a turn
@@ -29,20 +30,23 @@ const (
 	floodPause            = 4 * time.Millisecond // for each of them beyond that
 )
 
-// A session is a connection of a caller. One goroutine reads lines, forwards each, and writes the answers in the order of the lines.
+// A session is a connection of a caller. One goroutine reads lines, forwards each, and writes the answers in the order
+// of the lines.
 //
-// Queries that follow one another are under way together, and so are changes, but never a query with a change. So each line is answered by a
-// book that has what the lines before it made, and nothing of those after it.
+// Queries that follow one another are under way together, and so are changes, but never a query with a change. So each
+// line is answered by a book that has what the lines before it made, and nothing of those after it.
 type session struct {
 	*Gateway
-	conn       net.Conn
-	in         *bufio.Reader
-	out        []byte
-	unsent     int64  // bytes of the replies in out
-	agent      string // the SPIFFE ID of the caller, or ""
-	isOperator bool
-	isFresh    bool
-	number     int // of the connection, which chooses a worker of regd
+	conn    net.Conn
+	in      *bufio.Reader
+	out     []byte
+	unsent  int64  // bytes of the replies in out
+	agent   string // the SPIFFE ID of the caller, or ""
+	role    Role
+	lapse   lapse
+	isOver  atomic.Bool // the caller would not be let in any more
+	isFresh bool
+	number  int // of the connection, which chooses a worker of regd
 
 	lineEnd      time.Time  // when the line that is read has to have ended
 	row          []*request // those whose answer is not yet written
@@ -60,13 +64,15 @@ type session struct {
 // serve serves a connection to its end.
 func (s *session) serve(ctx context.Context) {
 	defer s.leave()
-	s.open.Store(s.conn, true)
+	s.open.Store(s.conn, s)
 	defer s.open.Delete(s.conn)
-	for !s.isStopping.Load() {
-		if s.isFull() && !s.writeAnswers(ctx, len(s.row)/2) || !s.hasLine() && !(s.writeAnswers(ctx, 0) && s.waitForLine()) {
+	for !s.mustEnd() {
+		if !s.makeRoom(ctx) {
 			return
 		}
-		line, code, err := wire.ReadLine(s.in, s.options.Limits.LineBytes, func() bool { return s.isOperator && s.takeSlot(ctx) })
+		line, code, err := wire.ReadLine(s.in, s.options.Limits.LineBytes, func() bool {
+			return s.role.mayChange() && s.takeSlot(ctx)
+		})
 		if err != nil {
 			s.noteLate(err, "line")
 			return
@@ -76,14 +82,55 @@ func (s *session) serve(ctx context.Context) {
 			s.refuse(ctx, code)
 			continue
 		}
-		if (isChange != s.isChanging || s.isFresh) && !s.writeAnswers(ctx, 0) {
-			return
-		}
-		if s.isChanging = isChange; isChange && !s.change(ctx, line) || !isChange && !s.query(ctx, line) {
+		if !s.forward(ctx, line, isChange) {
 			return
 		}
 	}
 	s.writeAnswers(ctx, 0)
+}
+
+// makeRoom writes answers while the row is full, and all of them if no other line has come. Then it waits for one. It
+// returns false if the session ends.
+func (s *session) makeRoom(ctx context.Context) bool {
+	if s.isFull() {
+		if !s.writeAnswers(ctx, len(s.row)/2) {
+			return false
+		}
+	}
+	if s.hasLine() {
+		return true
+	}
+	if !s.writeAnswers(ctx, 0) {
+		return false
+	}
+	return s.waitForLine()
+}
+
+// forward sends a line to the log or to the replica. It returns false if the session ends.
+func (s *session) forward(ctx context.Context, line []byte, isChange bool) bool {
+	if isChange != s.isChanging || s.isFresh {
+		if !s.writeAnswers(ctx, 0) {
+			return false
+		}
+	}
+	s.isChanging = isChange
+	if isChange && s.role.Kind == Registrar {
+		return s.register(ctx, line)
+	}
+	switch {
+	case isChange && s.lacksRoom(line):
+		s.refuse(ctx, wire.Busy)
+		return true
+	case isChange:
+		return s.change(ctx, line)
+	}
+	return s.query(ctx, line)
+}
+
+// lacksRoom returns true if there is no room for the token of a line. In the log, each replica would refuse the line.
+func (s *session) lacksRoom(line []byte) bool {
+	r, state := s.board.read()
+	return state.IsFull && r != nil && r.HasNewToken(line)
 }
 
 // refuse answers a line with a code, and pauses: a refused line needs no regd, so there is no turn for it.
@@ -97,35 +144,52 @@ func (s *session) refuse(ctx context.Context, code string) {
 // line that was not kept has a code already.
 func (s *session) sort(line []byte, code string) (sent []byte, isChange bool, refusal string) {
 	switch {
-	case code == wire.Busy && !s.isOperator: // an agent has no need of a long line
+	case code == wire.Busy && !s.role.mayChange(): // a query has no need of a long line
 		return nil, false, wire.NotAllowed
 	case code != "":
 		return nil, false, code
-	case !s.isOperator:
+	case s.unverified.Load() != nil:
+		return nil, false, wire.Unverified
+	case s.role.Kind == NoRole:
+		return nil, false, wire.NotAllowed
+	case s.role.Kind == Agent:
 		sent, refusal = wire.ForAgent(s.agent, line)
 		return sent, false, refusal
 	case wire.MayChange(line):
-		sent, refusal = wire.ForLog(line)
-		return sent, true, refusal
+		return s.sortChange(line)
 	case wire.Listings(line) > s.options.Limits.Listings:
 		return nil, false, wire.TooManyQueries
 	}
 	return line, false, ""
 }
 
-// isFull returns true if no further line may be under way before some are answered. Connections with lines under way have equal shares, so that one
-// with many lines doesn't hold up another with one.
+// sortChange is sort for a line that may be a change, of a caller that is no agent. That of a registrar is completed
+// when its turn has come.
+func (s *session) sortChange(line []byte) (sent []byte, isChange bool, refusal string) {
+	switch s.role.Kind {
+	case Operator:
+		sent, refusal = wire.ForLog(line)
+		return sent, true, refusal
+	case Registrar:
+		return line, true, ""
+	}
+	return nil, false, wire.NotAllowed
+}
+
+// isFull returns true if no further line may be under way before some are answered. Connections with lines under way
+// have equal shares, so that one with many lines doesn't hold up another with one.
 func (s *session) isFull() bool {
 	room := int64(queryRoom)
 	if s.isChanging {
 		room = changeRoom
 	}
 	count := len(s.row)
-	return count >= s.options.Limits.Lines || count*s.largest > replyRoom || count > 0 && int64(count)*s.active.Load() >= room
+	return count >= s.options.Limits.Lines || count*s.largest > replyRoom ||
+		count > 0 && int64(count)*s.active.Load() >= room
 }
 
-// hasLine returns true if the next line has arrived. It is false for a line that is longer than the buffer, so such a line is read when the lines
-// before it are answered, and a connection holds few bytes.
+// hasLine returns true if the next line has arrived. It is false for a line that is longer than the buffer, so such a
+// line is read when the lines before it are answered, and a connection holds few bytes.
 func (s *session) hasLine() bool {
 	arrived, _ := s.in.Peek(s.in.Buffered())
 	return bytes.IndexByte(arrived, '\n') >= 0
@@ -148,8 +212,10 @@ func (s *session) waitForLine() bool {
 
 // readUntil limits the time for reading. It returns false if nothing is to be read, because the gateway shuts down.
 func (s *session) readUntil(end time.Time) bool {
-	s.conn.SetReadDeadline(end)
-	if !s.isStopping.Load() { // asked last, since Shutdown ends the time of those that were not stopping before
+	if err := s.conn.SetReadDeadline(end); err != nil {
+		return false
+	}
+	if !s.mustEnd() { // asked last, since Shutdown ends the time of those that were not stopping before
 		return true
 	}
 	s.conn.SetReadDeadline(time.Now())
@@ -158,7 +224,7 @@ func (s *session) readUntil(end time.Time) bool {
 
 // noteLate counts a connection that ends because a time limit is over.
 func (s *session) noteLate(err error, reason string) {
-	if errors.Is(err, os.ErrDeadlineExceeded) && !s.isStopping.Load() {
+	if errors.Is(err, os.ErrDeadlineExceeded) && !s.mustEnd() {
 		s.ended.Inc(reason)
 	}
 }
@@ -214,16 +280,21 @@ func (s *session) add(q *request) *request {
 	return q
 }
 
-// change queues a line to be appended to the log, and refuses it if too many wait for too long. It returns false if the session ends.
+// change queues a line to be appended to the log, and refuses it if too many wait for too long. It returns false if the
+// session ends.
 func (s *session) change(ctx context.Context, line []byte) bool {
-	q := s.request(line)
+	return s.enqueue(ctx, s.request(line))
+}
+
+// enqueue is change for a request.
+func (s *session) enqueue(ctx context.Context, q *request) bool {
 	select {
 	case s.changes <- q:
 		s.add(q)
 		return true
 	default:
 	}
-	if len(s.row) > 0 && !s.writeAnswers(ctx, 0) { // they don't wait with it
+	if !s.writeAnswers(ctx, 0) { // they don't wait with it
 		return false
 	}
 	select {
@@ -238,10 +309,12 @@ func (s *session) change(ctx context.Context, line []byte) bool {
 	return true
 }
 
-// takeTurn waits until it is the turn of a caller that sends many queries together, and longer if there are many such callers. So there are few of
-// their lines in front of those of other callers, which wait for each answer and need no turn. It returns false if the session ends.
+// takeTurn waits until it is the turn of a caller that sends many queries together, and longer if there are many such
+// callers. So there are few of their lines in front of those of other callers, which wait for each answer and need no
+// turn. It returns false if the session ends.
 func (s *session) takeTurn(ctx context.Context) bool {
-	if s.streak++; s.hasTurn || s.streak <= fewLines {
+	s.streak++
+	if s.hasTurn || s.streak <= fewLines {
 		return true
 	}
 	if s.streak == fewLines+1 {
@@ -350,8 +423,9 @@ func (s *session) ask(q *request) {
 	r.Query(s.number, q.line, q.answer)
 }
 
-// writeAnswers writes answers, in order, until at most the given number of lines waits, and flushes them. It returns false if the connection is of
-// no more use. Where an answer doesn't come, whether the change was made is open: a line with a token may be sent again.
+// writeAnswers writes answers, in order, until at most the given number of lines waits, and flushes them. It returns
+// false if the connection is of no more use. Where an answer doesn't come, whether the change was made is open: a line
+// with a token may be sent again.
 func (s *session) writeAnswers(ctx context.Context, most int) bool {
 	for len(s.row) > most {
 		q := s.row[0]
@@ -370,11 +444,15 @@ func (s *session) writeAnswers(ctx context.Context, most int) bool {
 		if place := wire.Place(reply); place > s.place {
 			s.place = place
 		}
-		if s.lines++; !wire.IsRefusal(reply) {
+		s.lines++
+		if !wire.IsRefusal(reply) {
 			s.calls++
 		}
-		if s.out = wire.AppendReply(s.out, reply, s.calls, s.lines); len(s.out) > flushSize && !s.flush() {
-			return false
+		s.out = wire.AppendReply(s.out, reply, s.calls, s.lines)
+		if len(s.out) > flushSize {
+			if !s.flush() {
+				return false
+			}
 		}
 	}
 	return s.flush()
@@ -391,7 +469,8 @@ func (s *session) note(q *request, reply []byte) {
 		s.refusals.Inc(code)
 	}
 	s.unsent += int64(len(reply))
-	if s.largest -= s.largest / 8; s.largest < len(reply) {
+	s.largest -= s.largest / 8
+	if s.largest < len(reply) {
 		s.largest = len(reply)
 	}
 }
@@ -399,8 +478,10 @@ func (s *session) note(q *request, reply []byte) {
 // await returns the answer to a line, or nil. A query is asked again if regd ended before it ran it, and if the reply
 // is too old.
 func (s *session) await(ctx context.Context, q *request) []byte {
-	if len(q.reply) == 0 && !s.flush() {
-		return nil
+	if len(q.reply) == 0 { // it is waited for, and what is there is not
+		if !s.flush() {
+			return nil
+		}
 	}
 	begin := q.began
 	if s.progress.After(begin) {
@@ -447,12 +528,13 @@ func (s *session) receive(ctx context.Context, q *request, w *wait) (reply []byt
 	}
 }
 
-// isOld returns true if the worker that answered a query had not yet seen a commit that the caller had seen, or the replica had executed before a
-// fresh query was asked. With W1 it is any commit that the replica has executed.
+// isOld returns true if the worker that answered a query had not yet seen a commit that the caller had seen, or the
+// replica had executed before a fresh query was asked. With W1 it is any commit that the replica has executed.
 func (s *session) isOld(q *request, reply []byte) bool {
 	_, state := s.board.read()
 	place := wire.Place(reply)
-	return !wire.IsRefusal(reply) && (place < s.place || place < q.place || wire.Code(reply) == "W1" && place < state.Place)
+	return !wire.IsRefusal(reply) &&
+		(place < s.place || place < q.place || wire.Code(reply) == "W1" && place < state.Place)
 }
 
 // flush writes what is in out.
@@ -467,14 +549,15 @@ func (s *session) flush() bool {
 	}
 	s.held.Add(-s.unsent)
 	s.unsent = 0
-	if s.out = s.out[:0]; cap(s.out) > 4*flushSize {
+	s.out = s.out[:0]
+	if cap(s.out) > 4*flushSize {
 		s.out = nil
 	}
 	return !s.isBroken
 }
 
-// write writes a text in pieces, each of which has the time limit. So a caller that reads is not cut off in the middle of
-// a large reply. It has less time while the replies to all callers take much room.
+// write writes a text in pieces, each of which has the time limit. So a caller that reads is not cut off in the middle
+// of a large reply. It has less time while the replies to all callers take much room.
 func (s *session) write(text []byte) error {
 	for len(text) > 0 {
 		piece := text
@@ -485,7 +568,9 @@ func (s *session) write(text []byte) error {
 		if s.held.Load() > s.options.Limits.ReplyBytes/2 {
 			long /= 10
 		}
-		s.conn.SetWriteDeadline(time.Now().Add(long))
+		if err := s.conn.SetWriteDeadline(time.Now().Add(long)); err != nil {
+			return err
+		}
 		count, err := s.conn.Write(piece)
 		if err != nil {
 			return err
@@ -500,6 +585,7 @@ type request struct {
 	began   time.Time // when the line was read
 	line    []byte
 	isQuery bool        // its reply may be refused
+	isAdded bool        // the gateway has added revisions
 	place   uint64      // of the oldest book that may answer a query
 	reply   chan []byte // with room for one reply; nil if the answer can't be known
 	isTaken atomic.Bool // a change is to be appended, or its caller has left
@@ -509,14 +595,19 @@ type request struct {
 
 // take returns true if a change is to be appended, and false if its caller has left.
 func (q *request) take() bool {
-	return !isReset(q.session.conn) && q.isTaken.CompareAndSwap(false, true)
+	if isReset(q.session.conn) {
+		return false
+	}
+	return q.isTaken.CompareAndSwap(false, true)
 }
 
-// leave ends what a session does for a request. A change that is not yet taken will not be appended, and its line takes no more memory. A reply that still
-// comes takes no room.
+// leave ends what a session does for a request. A change that is not yet taken will not be appended, and its line takes
+// no more memory. A reply that still comes takes no room.
 func (q *request) leave() {
-	if !q.isQuery && q.isTaken.CompareAndSwap(false, true) {
-		q.line = nil
+	if !q.isQuery {
+		if q.isTaken.CompareAndSwap(false, true) {
+			q.line = nil
+		}
 	}
 	q.hasLeft.Store(true)
 	q.forget()
@@ -534,7 +625,8 @@ func (q *request) forget() {
 // answer stores the reply. Only the first one counts. A query whose reply finds no room is refused.
 func (q *request) answer(reply []byte) {
 	held := &q.session.held
-	if held.Add(int64(len(reply))) > q.session.options.Limits.ReplyBytes && q.isQuery {
+	bytes := held.Add(int64(len(reply)))
+	if bytes > q.session.options.Limits.ReplyBytes && q.isQuery {
 		held.Add(-int64(len(reply)))
 		q.session.noRoom.Error("replies take too much room", "limit", q.session.options.Limits.ReplyBytes)
 		reply = wire.Refusal(wire.Busy)

@@ -14,7 +14,6 @@ import (
 	"testing"
 	"time"
 
-	"regd/gateway/internal/etcd"
 	"regd/gateway/internal/replica"
 	"regd/gateway/internal/wire"
 )
@@ -42,7 +41,8 @@ func (f *failing) Accept() (net.Conn, error) {
 	return f.Listener.Accept()
 }
 
-// TestAccept checks that callers are accepted after errors, each of which is followed by a pause, until the context ends.
+// TestAccept checks that callers are accepted after errors, each of which is followed by a pause, until the context
+// ends.
 func TestAccept(t *testing.T) {
 	s := newSite(t)
 	g, _, _ := s.gateway("a")
@@ -84,7 +84,8 @@ func TestAccept(t *testing.T) {
 func TestRow(t *testing.T) {
 	s := newSite(t)
 	short := `{"ops":[{"op":"prune"}]}`
-	for line, want := range map[string]int{short: s.limits.Lines, short + strings.Repeat(" ", wire.MaxLine-len(short)): 1} {
+	for line, want := range map[string]int{short: s.limits.Lines,
+		short + strings.Repeat(" ", wire.MaxLine-len(short)): 1} {
 		g := New(s.log, Options{Limits: s.limits}) // which makes no entries of its changes
 		inner, outer := net.Pipe()
 		ctx, cancel := context.WithCancel(s.ctx)
@@ -134,10 +135,12 @@ func rowOf(s *site, answers ...[]byte) (*session, *written) {
 	return made, conn
 }
 
-// TestWriteAnswers checks that answers are written in few pieces that are not too long, and that those before an unknown one are written.
+// TestWriteAnswers checks that answers are written in few pieces that are not too long, and that those before an
+// unknown one are written.
 func TestWriteAnswers(t *testing.T) {
 	s := newSite(t)
-	long := []byte(`{"call":1,"place":1,"replies":["` + strings.Repeat("x", flushSize/4) + `"],"result":"committed"}`)
+	long := []byte(`{"call":1,"place":1,"replies":["` + strings.Repeat("x", flushSize/4) +
+		`"],"result":"committed"}`)
 	made, conn := rowOf(s, long, long, long, long, long, long, long, long, long, long)
 	if !made.writeAnswers(s.ctx, 0) || len(conn.sizes) != 3 || conn.sizes[0] > 2*flushSize {
 		t.Errorf("wrote %v bytes", conn.sizes)
@@ -162,12 +165,14 @@ func TestAnsweredRow(t *testing.T) {
 	}
 }
 
-// TestAnswersDoNotWait checks that an answer is sent although a later line of the caller gets none, or waits for a commit.
+// TestAnswersDoNotWait checks that an answer is sent although a later line of the caller gets none, or waits for a
+// commit.
 func TestAnswersDoNotWait(t *testing.T) {
 	s := newSite(t)
 	s.limits.After = 10 * time.Second
 	_, address, _ := s.gateway("a")
-	for name, second := range map[string]string{"an early line": `{"ops":[],"after":99}`, "a line without an answer": `{"ops":[{"op":"show","hint":"HANG"}]}`} {
+	for name, second := range map[string]string{"an early line": `{"ops":[],"after":99}`,
+		"a line without an answer": `{"ops":[{"op":"show","hint":"HANG"}]}`} {
 		conn, in := s.dial(address)
 		begin := time.Now()
 		fmt.Fprintf(conn, "%s\n%s\n", show, second)
@@ -179,8 +184,9 @@ func TestAnswersDoNotWait(t *testing.T) {
 	}
 }
 
-// TestFreshAnswersDoNotWait sends two fresh queries together. The worker is late, so the answer to the first one comes after two seconds. Only then is
-// etcd asked for the second one, and if it doesn't answer, the caller still has the first answer.
+// TestFreshAnswersDoNotWait sends two fresh queries together. The worker is late, so the answer to the first one comes
+// after two seconds. Only then is etcd asked for the second one, and if it doesn't answer, the caller still has the
+// first answer.
 func TestFreshAnswersDoNotWait(t *testing.T) {
 	t.Parallel()
 	s := newSite(t)
@@ -239,7 +245,8 @@ func TestFatalQuery(t *testing.T) {
 	t.Parallel()
 	s := newSite(t)
 	g, address, _ := s.gateway("a")
-	s.expect("a query that ends regd", s.call(address, `{"ops":[{"op":"show","hint":"KILL"}]}`), refusal(wire.Busy, 1))
+	s.expect("a query that ends regd", s.call(address, `{"ops":[{"op":"show","hint":"KILL"}]}`),
+		refusal(wire.Busy, 1))
 	within(t, "the replica stays", func() bool { return samples(t, g)["regd_gateway_replicas_ended_total"] > 0 })
 	s.expect("another one", s.call(address, show), answered(1, 0))
 	if ended := samples(t, g)["regd_gateway_replicas_ended_total"]; ended != 1 {
@@ -283,7 +290,8 @@ func TestListings(t *testing.T) {
 		got := s.call(address, line(3), line(4), line(3))
 		s.expect(name, got, answered(1, 0), refusal(wire.TooManyQueries, 2), answered(2, 0))
 	}
-	s.expect("others", s.call(address, `{"ops":[`+strings.Repeat(show[8:len(show)-2]+",", 63)+show[8:]), answered(1, 0))
+	s.expect("others", s.call(address, `{"ops":[`+strings.Repeat(show[8:len(show)-2]+",", 63)+show[8:]),
+		answered(1, 0))
 }
 
 // withoutReplica takes the replica from the board, so that queries wait.
@@ -377,7 +385,8 @@ func TestAnswerOnce(t *testing.T) {
 	}
 }
 
-// TestLateAnswer checks that an answer which is there is taken, however late it is. The clock may strike at any moment of a try.
+// TestLateAnswer checks that an answer which is there is taken, however late it is. The clock may strike at any moment
+// of a try.
 func TestLateAnswer(t *testing.T) {
 	s := newSite(t)
 	s.limits.Answer = time.Nanosecond
@@ -395,7 +404,8 @@ func TestLateQuery(t *testing.T) {
 	s := newSite(t)
 	s.limits.Answer, s.limits.After = time.Second, 2*time.Second
 	_, address, _ := s.gateway("a")
-	s.expect("an early query", s.call(address, `{"ops":[{"op":"show","hint":"SLOW"}],"after":99}`), `{"call":1,"code":"W1","place":0,"result":"refused"}`)
+	s.expect("an early query", s.call(address, `{"ops":[{"op":"show","hint":"SLOW"}],"after":99}`),
+		`{"call":1,"code":"W1","place":0,"result":"refused"}`)
 }
 
 // TestPastAfter checks that a query with the number of a commit that is there doesn't wait for the lines before it.
@@ -417,25 +427,28 @@ func TestAsksAgain(t *testing.T) {
 	s := newSite(t)
 	g, usual, fresh := s.gateway("a")
 	for _, address := range []string{usual, fresh} { // one for each of the workers
-		s.expect("a change", s.call(usual, `{"ops":[{"op":"prune","hint":"LATE"}]}`), committed(1, 1+int(g.accepted.Load())/2))
+		s.expect("a change", s.call(usual, `{"ops":[{"op":"prune","hint":"LATE"}]}`),
+			committed(1, 1+int(g.accepted.Load())/2))
 		if answers := s.call(address, show); len(answers) != 1 {
 			t.Errorf("got %q", answers)
 		}
 	}
 	var asked struct{ Call int }
 	r, _ := g.board.read()
-	if err := json.Unmarshal(r.Ask([]byte(show)), &asked); err != nil || asked.Call < 4 || asked.Call > 1010 { // one in 2 ms
+	// one in 2 ms
+	if err := json.Unmarshal(r.Ask([]byte(show)), &asked); err != nil || asked.Call < 4 || asked.Call > 1010 {
 		t.Errorf("asked %d times, %v", asked.Call, err)
 	}
 	within(t, "old replies are held", func() bool { return g.held.Load() == 0 })
 }
 
-// TestPausesOfReplicas checks that there are pauses before the log is read again, and before another replica is started.
+// TestPausesOfReplicas checks that there are pauses before the log is read again, and before another replica is
+// started.
 func TestPausesOfReplicas(t *testing.T) {
 	t.Parallel()
 	s := newSite(t)
 	g, _, _ := s.gateway("a")
-	within(t, "no watch", func() bool { return s.store.Counts().Watches == 1 })
+	s.watches(1)
 	s.store.Refuse(1 << 30)
 	s.store.TellWatches(`{"error":{"message":"x"}}`)
 	s.store.Recount()
@@ -445,11 +458,13 @@ func TestPausesOfReplicas(t *testing.T) {
 		t.Errorf("the log was read again: %v", counts)
 	}
 	s.store.Refuse(0)
-	s.log.Append(s.ctx, 1, etcd.JoinEntry("x", [][]byte{[]byte(`{"ops":[{"op":"prune","hint":"KILL"}]}`)}))
+	s.append(kill)
 	within(t, "the replica stays", func() bool { now, _ := g.board.read(); return now == nil })
 	s.store.Recount()
+	begin := time.Now()
 	time.Sleep(time.Second)
-	if counts := s.store.Counts(); counts.Pages > 6 {
+	// the machine may be busy, and the second a long one
+	if counts := s.store.Counts(); counts.Pages > 2+int(time.Since(begin)/againTime) {
 		t.Errorf("other replicas were started: %v", counts)
 	}
 }
@@ -459,7 +474,7 @@ func TestSlowReplica(t *testing.T) {
 	t.Parallel()
 	s := newSite(t)
 	for entry := uint64(1); entry <= 50; entry++ { // a tenth of a second each
-		s.log.Append(s.ctx, entry, etcd.JoinEntry(fmt.Sprint(entry), [][]byte{[]byte(`{"ops":[{"op":"prune","hint":"SLOW"}]}`)}))
+		s.append(`{"ops":[{"op":"prune","hint":"SLOW"}]}`)
 	}
 	g, _, _ := s.gateway("a")
 	time.Sleep(3 * againTime)
@@ -475,10 +490,11 @@ func TestSlowReplica(t *testing.T) {
 	}
 }
 
-// TestFreshHead checks that those who wait for etcd share one request, and that no caller gets the answer to one that failed.
+// TestFreshHead checks that those who wait for etcd share one request, and that no caller gets the answer to one that
+// failed.
 func TestFreshHead(t *testing.T) {
 	s := newSite(t)
-	s.log.Append(s.ctx, 1, []byte("a"))
+	s.append("a")
 	g := New(s.log, Options{Limits: s.limits})
 	s.store.Refuse(1 << 30)
 	short, cancel := context.WithTimeout(s.ctx, 500*time.Millisecond)
@@ -532,8 +548,8 @@ func TestFreshHeadLeaves(t *testing.T) {
 	}
 }
 
-// TestFreshTurnedBack lets the log end before the last entry that the replica has executed, as after the restoration of a backup: no fresh query is answered
-// from that book.
+// TestFreshTurnedBack lets the log end before the last entry that the replica has executed, as after the restoration of
+// a backup: no fresh query is answered from that book.
 func TestFreshTurnedBack(t *testing.T) {
 	t.Parallel()
 	s := newSite(t)
@@ -544,7 +560,8 @@ func TestFreshTurnedBack(t *testing.T) {
 	s.expect("after that", s.call(fresh, show))
 }
 
-// TestReplicaIsAway checks that the gateway is not ready after its regd has ended, and that a regd which always ends is never ready.
+// TestReplicaIsAway checks that the gateway is not ready after its regd has ended, and that a regd which always ends is
+// never ready.
 func TestReplicaIsAway(t *testing.T) {
 	t.Parallel()
 	s := newSite(t)
@@ -558,9 +575,9 @@ func TestReplicaIsAway(t *testing.T) {
 		t.Error("there is no time without a replica")
 	}
 	within(t, "no other replica", func() bool { now, _ = g.board.read(); return now != nil })
-	s.log.Append(s.ctx, 1, etcd.JoinEntry("w", [][]byte{[]byte(prune)}))
+	s.append(prune)
 	within(t, "the entry is not executed", func() bool { _, state := g.board.read(); return state.Entry == 1 })
-	s.log.Append(s.ctx, 2, etcd.JoinEntry("x", [][]byte{[]byte(prune), []byte(`{"ops":[{"op":"prune","hint":"KILL"}]}`)}))
+	s.appendEntry(prune, kill)
 	within(t, "the replica stays", func() bool { now, _ = g.board.read(); return now == nil })
 	if _, state := g.board.read(); state != (replica.State{}) {
 		t.Errorf("the state of the replica stays: %v", state)
@@ -579,7 +596,8 @@ func TestReplicaIsAway(t *testing.T) {
 	if err := <-ended; err != context.Canceled {
 		t.Error(err)
 	}
-	if count := samples(t, other)["regd_gateway_replay_duration_seconds_count"]; count != 0 { // which also shows a short time
+	// which also shows a short time
+	if count := samples(t, other)["regd_gateway_replay_duration_seconds_count"]; count != 0 {
 		t.Errorf("it was ready %v times", count)
 	}
 }
@@ -587,10 +605,12 @@ func TestReplicaIsAway(t *testing.T) {
 // TestRunEnds checks that a gateway with the wrong checksum stops serving.
 func TestRunEnds(t *testing.T) {
 	s := newSite(t)
+	s.there("p", "a", "b")
 	for _, name := range []string{"a", "b"} {
 		s.log.Put(s.ctx, "sum/p/00000000000003e8/e/"+name, []byte("00"))
 	}
-	g := New(s.log, Options{Replies: "p", Name: "c", Limits: s.limits, Replica: replica.Options{Program: os.Args[0], Domain: "ex.org", Workers: 2}})
+	g := New(s.log, Options{Replies: "p", Name: "c", Limits: s.limits,
+		Replica: replica.Options{Program: os.Args[0], Domain: "ex.org", Workers: 2}})
 	isOver, begin := false, time.Now()
 	err := g.Run(s.ctx, func(ctx context.Context) error {
 		g.executed(replica.State{Entry: voteInterval - 1})

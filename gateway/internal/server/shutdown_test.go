@@ -12,8 +12,8 @@ import (
 	"time"
 )
 
-// TestShutdown shuts a gateway down while etcd refuses everything. The connections of callers that wait for nothing end immediately. What was read is answered when
-// etcd accepts it. What was not read has no effect.
+// TestShutdown shuts a gateway down while etcd refuses everything. The connections of callers that wait for nothing end
+// immediately. What was read is answered when etcd accepts it. What was not read has no effect.
 func TestShutdown(t *testing.T) {
 	t.Parallel()
 	s := newSite(t)
@@ -46,7 +46,8 @@ func TestShutdown(t *testing.T) {
 		}
 		return err != nil
 	})
-	if code, values := status(t, g); code != 503 || values["stopping"] != true || values["ready"] != false || get(g, "/ready").Code != 503 {
+	if code, values := status(t, g); code != 503 || values["stopping"] != true || values["ready"] != false ||
+		get(g, "/ready").Code != 503 {
 		t.Errorf("the status is %d, %v", code, values)
 	}
 	fmt.Fprint(busy, strings.Repeat(prune+"\n", 10))
@@ -72,7 +73,8 @@ func TestShutdown(t *testing.T) {
 	}
 }
 
-// TestShutdownRow checks that lines which were read together are all answered, and that later ones are not read, although they have arrived.
+// TestShutdownRow checks that lines which were read together are all answered, and that later ones are not read,
+// although they have arrived.
 func TestShutdownRow(t *testing.T) {
 	t.Parallel()
 	s := newSite(t)
@@ -90,7 +92,8 @@ func TestShutdownRow(t *testing.T) {
 	}
 	r, _ := g.board.read()
 	asked := make(chan string, 1)
-	r.Query(1, []byte(show), func(reply []byte) { asked <- string(reply) }) // the second one of its worker, after those of the connection
+	// the second one of its worker, after those of the connection
+	r.Query(1, []byte(show), func(reply []byte) { asked <- string(reply) })
 	if got, want := <-asked, answered(count+2, 0); got != want {
 		t.Errorf("after %d answers: got %s, want %s", count, got, want)
 	}
@@ -116,7 +119,8 @@ func TestShutdownLimit(t *testing.T) {
 	s.store.Refuse(0)
 }
 
-// TestShutdownRead shuts a gateway down while it reads: lines that come at any time are answered or have no effect, and each connection ends.
+// TestShutdownRead shuts a gateway down while it reads: lines that come at any time are answered or have no effect, and
+// each connection ends.
 func TestShutdownRead(t *testing.T) {
 	s := newSite(t)
 	g, address, _ := s.gateway("a")

@@ -1,6 +1,7 @@
 package server
 
 import (
+	"bufio"
 	"encoding/json"
 	"errors"
 	"fmt"
@@ -9,6 +10,7 @@ import (
 	"reflect"
 	"strconv"
 	"strings"
+	"syscall"
 	"testing"
 	"time"
 
@@ -29,7 +31,8 @@ func status(t *testing.T, g *Gateway) (int, map[string]any) {
 	t.Helper()
 	answer := get(g, "/status")
 	var values map[string]any
-	if err := json.Unmarshal(answer.Body.Bytes(), &values); err != nil || answer.Header().Get("Content-Type") != "application/json" {
+	if err := json.Unmarshal(answer.Body.Bytes(), &values); err != nil ||
+		answer.Header().Get("Content-Type") != "application/json" {
 		t.Fatalf("got %v, %v", answer, err)
 	}
 	return answer.Code, values
@@ -50,16 +53,22 @@ func TestStatus(t *testing.T) {
 	s.dial(address)
 	g.isDisputed.Store(true)
 	within(t, "no connection", func() bool { return g.sessions.Load() == 1 })
-	within(t, "the log doesn't end at the head", func() bool { _, values := status(t, g); return values["head"] == 2.0 })
+	within(t, "the log doesn't end at the head", func() bool {
+		_, values := status(t, g)
+		return values["head"] == 2.0
+	})
 	g.heard(5, 0)
 	r, state := g.board.read()
 	code, values := status(t, g)
 	silent, _ := values["silent"].(float64)
 	delete(values, "silent")
-	want := map[string]any{"name": "a", "program": "p", "ready": true, "disputed": true, "entry": float64(state.Entry), "place": 2.0,
-		"sum": fmt.Sprintf("%x", state.Sum), "head": 5.0, "lag": 3.0, "sessions": 1.0, "regd": float64(r.Pid()), "tokens": 1.0,
-		"stopping": false, "lost": false, "skipped": map[string]any{}, "failing": nil,
-		"etcd": []any{map[string]any{"url": s.store.URL, "bytes": 1048576.0, "used": 4096.0, "quota": 2097152.0}}}
+	want := map[string]any{"name": "a", "program": "p", "ready": true, "disputed": true,
+		"entry": float64(state.Entry), "place": 2.0,
+		"sum": fmt.Sprintf("%x", state.Sum), "head": 5.0, "lag": 3.0, "sessions": 1.0, "regd": float64(r.Pid()),
+		"tokens":   1.0,
+		"stopping": false, "lost": false, "unverified": nil, "skipped": map[string]any{}, "failing": nil,
+		"etcd": []any{map[string]any{"url": s.store.URL, "bytes": 1048576.0, "used": 4096.0,
+			"quota": 2097152.0}}}
 	if code != 200 || !reflect.DeepEqual(values, want) || silent > 5 {
 		t.Errorf("got %d, %v", code, values)
 	}
@@ -67,7 +76,8 @@ func TestStatus(t *testing.T) {
 		t.Errorf("a gateway that is ahead lags by %d", lag)
 	}
 	code, values = status(t, New(s.log, Options{Limits: s.limits}))
-	if code != 503 || values["ready"] != false || values["disputed"] != false || values["silent"].(float64) > 1 || values["lag"] != 0.0 {
+	if code != 503 || values["ready"] != false || values["disputed"] != false || values["silent"].(float64) > 1 ||
+		values["lag"] != 0.0 {
 		t.Errorf("without a replica: got %d, %v", code, values)
 	}
 }
@@ -103,7 +113,8 @@ func TestReady(t *testing.T) {
 	}
 }
 
-// TestOutdated checks that a gateway to which etcd doesn't answer for too long refuses the queries of its usual port, and is not ready.
+// TestOutdated checks that a gateway to which etcd doesn't answer for too long refuses the queries of its usual port,
+// and is not ready.
 func TestOutdated(t *testing.T) {
 	t.Parallel()
 	s := newSite(t)
@@ -130,17 +141,18 @@ func TestOutdated(t *testing.T) {
 	}
 }
 
-// TestLag holds the watch of a gateway while another one appends: the first one refuses queries while it is too far behind, and only then. Changes
-// and fresh queries wait.
+// TestLag holds the watch of a gateway while another one appends: the first one refuses queries while it is too far
+// behind, and only then. Changes and fresh queries wait.
 func TestLag(t *testing.T) {
 	t.Parallel()
 	s := newSite(t)
 	_, first, _ := s.gateway("a")
+	s.watches(1)
 	s.limits.Lag = 2
 	g, usual, fresh := s.gateway("b")
 	s.expect("changes", s.call(first, prune), committed(1, 1))
 	s.expect("a fresh query", s.call(fresh, show), answered(1, 1))
-	s.store.HoldWatch()
+	s.holdWatch(2)
 	for place := 2; place <= 4; place++ {
 		if place == 4 {
 			within(t, "the end of the log is not known", func() bool { return g.head.Load() == 3 })
@@ -157,8 +169,8 @@ func TestLag(t *testing.T) {
 	}
 }
 
-// TestOutdatedFresh checks that fresh queries are answered also while those of the usual port are refused: they ask etcd
-// themselves.
+// TestOutdatedFresh checks that fresh queries are answered also while those of the usual port are refused: they ask
+// etcd themselves.
 func TestOutdatedFresh(t *testing.T) {
 	t.Parallel()
 	s := newSite(t)
@@ -191,7 +203,8 @@ func samples(t *testing.T, g *Gateway) map[string]float64 {
 	}
 	all := map[string]float64{}
 	for _, line := range strings.Split(strings.TrimSpace(answer.Body.String()), "\n") {
-		if words := strings.Fields(line); words[1] == "TYPE" && (words[3] == "counter") != strings.HasSuffix(words[2], "_total") {
+		if words := strings.Fields(line); words[1] == "TYPE" &&
+			(words[3] == "counter") != strings.HasSuffix(words[2], "_total") {
 			t.Errorf("the name and the type don't agree: %s", line)
 		}
 		if name, value, _ := strings.Cut(line, " "); name != "#" {
@@ -219,7 +232,10 @@ func TestMetrics(t *testing.T) {
 	if err != nil {
 		t.Fatal(err)
 	}
-	within(t, "not all entries are executed", func() bool { _, state := g.board.read(); return state.Entry == head })
+	within(t, "not all entries are executed", func() bool {
+		_, state := g.board.read()
+		return state.Entry == head
+	})
 	within(t, "the log doesn't end at the head", func() bool { return g.head.Load() == head })
 	_, state := g.board.read()
 	g.heard(state.Entry+4, 7*time.Second)
@@ -227,12 +243,15 @@ func TestMetrics(t *testing.T) {
 	got := samples(t, g)
 	for name, want := range map[string]float64{
 		`info{name="a",program="p"}`: 1, "ready": 1, "disputed": 1, "connections": 1, "connections_total": 2,
-		"change_duration_seconds_count": 3, "query_duration_seconds_count": 2, `refusals_total{code="L2"}`: 1, `refusals_total{code="O3"}`: 1,
+		"change_duration_seconds_count": 3, "query_duration_seconds_count": 2, `refusals_total{code="L2"}`: 1,
+		`refusals_total{code="O3"}`: 1,
 		`refusals_total{code="G5"}`: 0, `connections_ended_total{reason="idle"}`: 0,
-		"append_duration_seconds_count": float64(state.Entry), "changes_waiting": 0, "reply_bytes": 0, "changes_dropped_total": 0,
-		"log_entry": float64(state.Entry), "log_lag_entries": 4, "commit_number": 2,
+		"append_duration_seconds_count": float64(state.Entry), "changes_waiting": 0, "reply_bytes": 0,
+		"changes_dropped_total": 0,
+		"log_entry":             float64(state.Entry), "log_lag_entries": 4, "commit_number": 2,
 		"replay_duration_seconds_count": 1, "replicas_ended_total": 0, "failing_entry": 0, "lines_skipped": 0,
-		"etcd_failures_total": 0, "etcd_members": 1, "etcd_members_healthy": 1, "etcd_database_bytes": 1 << 20, "etcd_quota_bytes": 1 << 21,
+		"etcd_failures_total": 0, "etcd_members": 1, "etcd_members_healthy": 1, "etcd_database_bytes": 1 << 20,
+		"etcd_quota_bytes": 1 << 21,
 	} {
 		if value, ok := got["regd_gateway_"+name]; !ok || value != want {
 			t.Errorf("%s: got %v", name, value)
@@ -248,7 +267,9 @@ func TestMetrics(t *testing.T) {
 	s.store.Refuse(0)
 	r, _ := g.board.read()
 	r.Close()
-	within(t, "no other replica", func() bool { return samples(t, g)["regd_gateway_replay_duration_seconds_count"] == 2 })
+	within(t, "no other replica", func() bool {
+		return samples(t, g)["regd_gateway_replay_duration_seconds_count"] == 2
+	})
 	if got := samples(t, g); got["regd_gateway_replicas_ended_total"] != 1 || got["regd_gateway_ready"] != 1 {
 		t.Errorf("got %v", got)
 	}
@@ -285,12 +306,70 @@ func TestEnded(t *testing.T) {
 // TestMembersDown checks the metrics of an etcd of which one member is down.
 func TestMembersDown(t *testing.T) {
 	var p metrics.Page
-	addMembers(&p, "x_", []etcd.Member{{Bytes: 5, Quota: 9}, {Bytes: 7, Quota: 8, Alarms: []string{"a"}}, {Error: "down"}})
-	for _, want := range []string{"x_members 3", "x_members_healthy 2", "x_database_bytes 7", "x_quota_bytes 8", "x_alarms 1"} {
+	addMembers(&p, "x_",
+		[]etcd.Member{{Bytes: 5, Quota: 9}, {Bytes: 7, Quota: 8, Alarms: []string{"a"}}, {Error: "down"}})
+	for _, want := range []string{"x_members 3", "x_members_healthy 2", "x_database_bytes 7", "x_quota_bytes 8",
+		"x_alarms 1"} {
 		if !strings.Contains(p.String(), "\n"+want+"\n") {
 			t.Errorf("%s is missing in %s", want, p.String())
 		}
 	}
+}
+
+// TestStatusConnections checks that few connections for the state are accepted, another one when one of them ends, and
+// all of them after errors of the listener.
+func TestStatusConnections(t *testing.T) {
+	s := newSite(t)
+	s.limits.StatusConnections = 2
+	on, err := net.Listen("tcp", "127.0.0.1:0")
+	if err != nil {
+		t.Fatal(err)
+	}
+	defer on.Close()
+	listener := &busy{Listener: on}
+	go New(s.log, Options{Limits: s.limits}).ServeStatus(listener)
+	ask := func() (net.Conn, *bufio.Reader) {
+		conn, in := s.dial(on.Addr().String())
+		conn.SetDeadline(time.Now().Add(s.patience / 4))
+		fmt.Fprint(conn, "GET /ready HTTP/1.1\r\nHost: g\r\n\r\n")
+		return conn, in
+	}
+	answers := func(in *bufio.Reader) {
+		t.Helper()
+		if line, err := in.ReadString('\n'); !strings.Contains(line, " 503 ") {
+			t.Fatalf("got %q, %v", line, err)
+		}
+	}
+	for round := 0; round < 3; round++ { // so that places are given back
+		first, one := ask()
+		second, two := ask()
+		answers(one)
+		answers(two)
+		third, in := ask()
+		third.SetReadDeadline(time.Now().Add(200 * time.Millisecond))
+		if line, err := in.ReadString('\n'); err == nil {
+			t.Errorf("a third one is answered: %s", line)
+		}
+		third.SetReadDeadline(time.Now().Add(s.patience / 4))
+		first.Close()
+		answers(in)
+		second.Close()
+		third.Close()
+	}
+}
+
+// busy is a listener that has no free descriptor at first.
+type busy struct {
+	net.Listener
+	calls int
+}
+
+func (b *busy) Accept() (net.Conn, error) {
+	b.calls++
+	if b.calls <= 3 {
+		return nil, &net.OpError{Op: "accept", Err: syscall.EMFILE}
+	}
+	return b.Listener.Accept()
 }
 
 // TestStatusLimits checks that half a request for the state, and answers that aren't read, end their connections.

@@ -6,7 +6,6 @@ import (
 	"fmt"
 	"time"
 
-	"regd/gateway/internal/logline"
 	"regd/gateway/internal/replica"
 )
 
@@ -19,24 +18,29 @@ const votesWatched, votesLeft = 4, 64
 // ErrOutvoted is returned when a majority of the gateways has another checksum.
 var ErrOutvoted = errors.New("a majority of the gateways has another checksum")
 
-// judge returns what votes, which are checksums by the names of gateways, say about one of them: whether any is different, and whether a
-// majority agrees on another checksum.
-func judge(own string, votes map[string]string) (isDisputed, isOutvoted bool) {
+// judge returns what votes, which are checksums by the names of gateways, say about one of them: whether any is
+// different, and whether a majority of the gateways that are there agrees on another checksum. There is a value for
+// each of these.
+func judge(own string, votes, there map[string]string) (isDisputed, isOutvoted bool) {
 	counts := map[string]int{}
-	for _, sum := range votes {
-		counts[sum]++
+	for name, sum := range votes {
 		isDisputed = isDisputed || sum != own
-		isOutvoted = isOutvoted || sum != own && 2*counts[sum] > len(votes)
+		if there[name] == "" {
+			continue
+		}
+		counts[sum]++
+		isOutvoted = isOutvoted || sum != own && 2*counts[sum] > len(there)
 	}
 	return isDisputed, isOutvoted
 }
 
 // compare votes, and looks at the votes of the other gateways, until this one is outvoted or the context ends.
 //
-// A vote is the checksum of all commits and refusals up to an entry, stored under the version of the replies, the entry's number and name, and the gateway. Votes
-// of different versions are not compared, and neither are those of replicas that have left out different lines. After etcd was restored from a
-// backup, an entry that was lost may have the number of a new one, but not its name. Two votes that differ don't decide anything: both gateways
-// go on until a third one votes.
+// A vote is the checksum of all commits and refusals up to an entry, stored under the version of the replies, the
+// entry's number and name, and the gateway. Votes of different versions are not compared, and neither are those of
+// replicas that have left out different lines. After etcd was restored from a backup, an entry that was lost may have
+// the number of a new one, but not its name. Two votes that differ don't decide anything: both gateways go on until a
+// third one votes.
 func (g *Gateway) compare(ctx context.Context) error {
 	for last := []replica.State{}; ; {
 		select {
@@ -44,32 +48,46 @@ func (g *Gateway) compare(ctx context.Context) error {
 			return ctx.Err()
 		case <-time.After(g.options.Limits.Votes):
 		case mark := <-g.marks:
-			if last = append(last, mark); len(last) > votesWatched {
+			last = append(last, mark)
+			if len(last) > votesWatched {
 				last = last[1:]
 			}
 			if err := g.vote(ctx, mark); err != nil {
 				return err
 			}
 		}
-		isDisputed := false
-		for _, mark := range last {
-			votes, err := g.log.List(ctx, g.votesOn(mark))
-			if err != nil {
-				return err
-			}
-			own := fmt.Sprintf("%x", mark.Sum)
-			votes[g.options.Name] = own
-			isDifferent, isOutvoted := judge(own, votes)
-			if isDifferent {
-				logline.Error("checksums differ", "entry", mark.Entry, "sum", own, "votes", votes)
-			}
-			if isOutvoted {
-				return ErrOutvoted
-			}
-			isDisputed = isDisputed || isDifferent
+		err := g.look(ctx, last)
+		if err != nil {
+			return err
 		}
-		g.isDisputed.Store(isDisputed)
 	}
+}
+
+// look looks at the votes on some entries. It returns ErrOutvoted if this gateway is outvoted.
+func (g *Gateway) look(ctx context.Context, last []replica.State) error {
+	there, err := g.gatewaysThere(ctx)
+	if err != nil {
+		return err
+	}
+	isDisputed := false
+	for _, mark := range last {
+		votes, err := g.log.List(ctx, g.votesOn(mark))
+		if err != nil {
+			return err
+		}
+		own := fmt.Sprintf("%x", mark.Sum)
+		votes[g.options.Name] = own
+		isDifferent, isOutvoted := judge(own, votes, there)
+		if isDifferent {
+			logDispute(mark.Entry, own, votes, len(there))
+		}
+		if isOutvoted {
+			return ErrOutvoted
+		}
+		isDisputed = isDisputed || isDifferent
+	}
+	g.isDisputed.Store(isDisputed)
+	return nil
 }
 
 // votesOn returns the folder of the votes on the entry of a mark. It is in a folder of all entries with this number.

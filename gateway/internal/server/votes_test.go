@@ -25,7 +25,7 @@ func TestJudge(t *testing.T) {
 			votes[fmt.Sprint(i)] = sum
 		}
 		got := "agreed"
-		if isDisputed, isOutvoted := judge(c.own, votes); isOutvoted {
+		if isDisputed, isOutvoted := judge(c.own, votes, votes); isOutvoted {
 			got = "outvoted"
 		} else if isDisputed {
 			got = "disputed"
@@ -36,11 +36,37 @@ func TestJudge(t *testing.T) {
 	}
 }
 
-// TestLooks checks that a gateway looks at the votes again although it has none of its own to add, and forgets a difference that is gone or old.
+// there makes gateways of a version of replies be there.
+func (s *site) there(replies string, names ...string) {
+	for _, name := range names {
+		if err := s.log.Put(s.ctx, presenceFolder+name, []byte("run "+replies)); err != nil {
+			s.t.Fatal(err)
+		}
+	}
+}
+
+// TestJudgeThere checks that a majority is one of the gateways that are there, and not of those that have voted.
+func TestJudgeThere(t *testing.T) {
+	votes := map[string]string{"own": "a", "b": "b", "c": "b"}
+	for names, want := range map[string]bool{"own b c": true, "own b c d": false, "own b c d e": false,
+		"own b": false, "own c d": false, "own": false} {
+		there := map[string]string{}
+		for _, name := range strings.Fields(names) {
+			there[name] = "run"
+		}
+		if isDisputed, isOutvoted := judge("a", votes, there); isOutvoted != want || !isDisputed {
+			t.Errorf("of %s: got %v", names, isOutvoted)
+		}
+	}
+}
+
+// TestLooks checks that a gateway looks at the votes again although it has none of its own to add, and forgets a
+// difference that is gone or old.
 func TestLooks(t *testing.T) {
 	s := newSite(t)
 	s.limits.Votes = 20 * time.Millisecond
 	g := New(s.log, Options{Replies: "p", Name: "a", Limits: s.limits})
+	s.there("p", "b")
 	ctx, stop := context.WithCancel(s.ctx)
 	ended := make(chan error, 1)
 	go func() { ended <- g.compare(ctx) }()
@@ -57,6 +83,7 @@ func TestLooks(t *testing.T) {
 		g.marks <- replica.State{Entry: entry * voteInterval}
 	}
 	within(t, "an old dispute", func() bool { return !g.isDisputed.Load() })
+	s.there("p", "c")
 	vote("b", "2")
 	vote("c", "2")
 	time.Sleep(200 * time.Millisecond)
@@ -76,13 +103,15 @@ func TestVotesOn(t *testing.T) {
 	}
 }
 
-// TestLostEntry checks that votes on an entry which was lost when etcd was restored say nothing about the new entry of this number.
+// TestLostEntry checks that votes on an entry which was lost when etcd was restored say nothing about the new entry of
+// this number.
 func TestLostEntry(t *testing.T) {
 	s := newSite(t)
 	s.limits.Votes = 20 * time.Millisecond
 	ctx, stop := context.WithCancel(s.ctx)
 	ended := make(chan error, 3)
 	var gateways []*Gateway
+	s.there("p", "a", "b", "c")
 	for _, name := range []string{"a", "b", "c"} {
 		g := New(s.log, Options{Replies: "p", Name: name, Limits: s.limits})
 		gateways = append(gateways, g)
@@ -120,6 +149,8 @@ func TestVotes(t *testing.T) {
 			time.Sleep(10 * time.Millisecond)
 		}
 	}
+	s.there("p", "wrong", "right", "third")
+	s.there("q", "upgraded")
 	ended := map[string]chan error{}
 	start := func(replies, name string, sum byte) *Gateway {
 		g, end := New(s.log, Options{Replies: replies, Name: name, Limits: s.limits}), make(chan error, 1)

@@ -20,7 +20,10 @@ type fields = map[string]any
 
 // text returns an operation as JSON.
 func text(op fields) string {
-	made, _ := json.Marshal(op) // which can't fail for what was read from JSON
+	made, err := json.Marshal(op)
+	if err != nil {
+		panic(err) // it was read from JSON
+	}
 	return string(made)
 }
 
@@ -32,7 +35,8 @@ func (n names) note(line []byte) {
 	var batch struct {
 		Ops []struct{ Op, Agent, Domain string }
 	}
-	json.Unmarshal(line, &batch) // also after an error: of equal keys regd takes the last one, whatever the others are
+	// also after an error: of equal keys regd takes the last one, whatever the others are
+	_ = json.Unmarshal(line, &batch)
 	for _, op := range batch.Ops {
 		switch op.Op {
 		case "set_agent":
@@ -95,7 +99,8 @@ func show(r *replica.Replica, query string) (shown reply, err error) {
 		Code    string
 		Replies []reply
 	}
-	in := json.NewDecoder(bytes.NewReader(r.Ask([]byte(fmt.Sprintf(`{"ops":[%s],"after":%d}`, query, r.State().Place)))))
+	line := fmt.Sprintf(`{"ops":[%s],"after":%d}`, query, r.State().Place)
+	in := json.NewDecoder(bytes.NewReader(r.Ask([]byte(line))))
 	in.UseNumber()
 	err = in.Decode(&answer)
 	if err == nil && (strings.HasPrefix(answer.Code, "L") || answer.Code == "W1" || answer.Code == wire.Busy) {
@@ -124,8 +129,8 @@ func batches(ops []string) (lines []string) {
 	return lines
 }
 
-// bookLines returns lines that make the book of a replica, to which no change is sent meanwhile. A bundle is set as often as its sequence
-// says, and an entry is created and then updated as often as its revision says.
+// bookLines returns lines that make the book of a replica, to which no change is sent meanwhile. A bundle is set as
+// often as its sequence says, and an entry is created and then updated as often as its revision says.
 func bookLines(r *replica.Replica, names names) ([]string, error) {
 	var queries, ops []string
 	put := func(count uint64, op fields) {

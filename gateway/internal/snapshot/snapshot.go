@@ -1,14 +1,18 @@
 // Package snapshot makes snapshots of the book, and cuts the log behind them.
 //
-// regd can't load a book, so a snapshot is a list of lines that make the same one: all rows with their revisions and sequences, at the same
-// commit number, and the retained tokens with their replies. Lost are the earlier books, which a page can read by `at` for 64 commits, and the
-// record of which batch came when. Before a snapshot is published, another regd executes it and is compared with the first one.
+// regd can't load a book, so a snapshot is a list of lines that make the same one: all rows with their revisions and
+// sequences, at the same commit number, and the retained tokens with their replies. Lost are the earlier books, which a
+// page can read by `at` for 64 commits, and the record of which batch came when. Before a snapshot is published,
+// another regd executes it and is compared with the first one.
 package snapshot
 
 import (
 	"bytes"
 	"context"
+	"crypto/sha256"
+	"encoding/hex"
 	"encoding/json"
+	"errors"
 	"fmt"
 	"reflect"
 
@@ -21,11 +25,29 @@ import (
 // chunkSize is the most bytes of a snapshot in one key of etcd.
 const chunkSize = 1 << 19
 
-// head is the value of the key snapshot. It names the chunks, which are written first. No other call of Make has the ID.
+// head is the value of the key snapshot. It names the chunks, which are written first, and has a hash of what they
+// hold. No other call of Make has the ID.
 type head struct {
+	Format int
 	Entry  uint64
-	ID     string `json:",omitempty"`
+	Name   string // of this entry, with which the snapshot ends
+	ID     string
 	Chunks int
+	Hash   string // SHA-256 of the content
+}
+
+// check returns an error unless this gateway can read the snapshot.
+func (h head) check() error {
+	if h.Format != etcd.Format {
+		return fmt.Errorf("%w: the snapshot has format %d", etcd.ErrFormat, h.Format)
+	}
+	return nil
+}
+
+// hashOf returns the hash of a content.
+func hashOf(text []byte) string {
+	sum := sha256.Sum256(text)
+	return hex.EncodeToString(sum[:])
 }
 
 // content is what the chunks hold together, as JSON.
@@ -40,22 +62,58 @@ func (h head) chunk(number int) string {
 	return fmt.Sprintf("snapshot/%016x/%s%08x", h.Entry, h.ID, number)
 }
 
-// read returns the newest snapshot. It is empty if there is none.
+// position returns where the content ends in the log.
+func (c content) position() etcd.Position {
+	if c.Entry == 0 {
+		return etcd.Start
+	}
+	return etcd.Position{Entry: c.Entry, Name: c.Name, Time: c.Time}
+}
+
+// read returns the newest snapshot, which is verified. It is empty if there is none.
 func read(ctx context.Context, log *etcd.Log) (c content, err error) {
-	text, err := log.Get(ctx, "snapshot")
-	if err != nil || text == nil {
+	first, err := log.Get(ctx, "snapshot")
+	if err != nil || first == nil {
 		return c, err
 	}
 	var h head
-	err = json.Unmarshal(text, &h)
-	text = make([]byte, 0, h.Chunks*chunkSize)
-	for i := 0; i < h.Chunks && err == nil; i++ {
-		var chunk []byte
-		chunk, err = log.GetLarge(ctx, h.chunk(i), chunkSize)
+	err = json.Unmarshal(first, &h)
+	if err != nil {
+		return c, fmt.Errorf("%w: the head of the snapshot is %.100q", etcd.ErrDamaged, first)
+	}
+	err = h.check()
+	if err != nil {
+		return c, err
+	}
+	c, err = h.content(ctx, log)
+	if errors.Is(err, etcd.ErrDamaged) {
+		now, failed := log.Get(ctx, "snapshot")
+		if failed == nil && !bytes.Equal(now, first) {
+			err = errors.New("a newer snapshot has taken the place of one that was read")
+		}
+	}
+	return c, err
+}
+
+// content reads the chunks of a snapshot. It returns ErrDamaged if they are not those that the head names.
+func (h head) content(ctx context.Context, log *etcd.Log) (c content, err error) {
+	var text []byte
+	for i := 0; i < h.Chunks; i++ {
+		chunk, err := log.GetLarge(ctx, h.chunk(i), chunkSize)
+		if err != nil {
+			return content{}, err
+		}
+		if chunk == nil {
+			break // the hash says it
+		}
 		text = append(text, chunk...)
 	}
-	if err == nil {
-		err = json.Unmarshal(text, &c) // which fails if a newer snapshot has taken its place meanwhile
+	if hashOf(text) != h.Hash {
+		return content{}, fmt.Errorf("%w: the snapshot of entry %d", etcd.ErrDamaged, h.Entry)
+	}
+	err = json.Unmarshal(text, &c)
+	if err == nil && (c.Entry != h.Entry || c.Name != h.Name) {
+		err = fmt.Errorf("%w: the snapshot of entry %d ends with entry %d", etcd.ErrDamaged, h.Entry, c.Entry)
 	}
 	return c, err
 }
@@ -72,21 +130,22 @@ func Skip(ctx context.Context, log *etcd.Log, line etcd.Line, id string) error {
 	return log.Skip(ctx, line, id)
 }
 
-// Load makes the newest snapshot in an empty replica, and returns the number of the first entry after it: 1 if there is no snapshot.
-func Load(ctx context.Context, log *etcd.Log, r *replica.Replica) (uint64, error) {
+// Load makes the newest snapshot in an empty replica, and returns where it ends: at the log's beginning if there is
+// none.
+func Load(ctx context.Context, log *etcd.Log, r *replica.Replica) (etcd.Position, error) {
 	c, err := read(ctx, log)
 	if err == nil {
 		err = c.fill(r)
 	}
-	return c.Entry + 1, err
+	return c.position(), err
 }
 
 // fill makes the book of a snapshot in an empty replica.
 func (c content) fill(r *replica.Replica) error { return r.Restore(c.State, c.Lines, c.Tokens) }
 
-// Make makes a snapshot of the book that was left by the entry `keep` before the last one, and deletes the log up to it. It makes none if that
-// would not shorten the log. If the log loses that entry meanwhile, because etcd is restored from a backup or another call has cut the log, the
-// snapshot doesn't count, and Make deletes nothing.
+// Make makes a snapshot of the book that was left by the entry `keep` before the last one, and deletes the log up to
+// it. It makes none if that would not shorten the log. If the log loses that entry meanwhile, because etcd is restored
+// from a backup or another call has cut the log, the snapshot doesn't count, and Make deletes nothing.
 func Make(ctx context.Context, log *etcd.Log, options replica.Options, keep uint64) error {
 	old, err := read(ctx, log)
 	if err != nil {
@@ -97,15 +156,24 @@ func Make(ctx context.Context, log *etcd.Log, options replica.Options, keep uint
 		return err
 	}
 	last -= keep
-	entry, _ := log.GetLarge(ctx, etcd.EntryKey(last), 1<<20) // its error and the next one are those of the context, and come again
-	skips, _ := log.Skips(ctx)
+	entry, err := log.GetLarge(ctx, etcd.EntryKey(last), 1<<20)
+	if err != nil {
+		return err
+	}
+	skips, err := log.Skips(ctx)
+	if err != nil {
+		return err
+	}
 	names := names{}
-	c, err := build(ctx, options, names, func(r *replica.Replica) error { return replay(log, old, r, names, last, skips) })
+	c, err := build(ctx, options, names, func(r *replica.Replica) error {
+		return replay(log, old, r, names, last, skips)
+	})
 	if err != nil {
 		return err
 	}
 	if uint64(len(c.Lines)) > c.Place {
-		logline.Info("no snapshot, because it would be longer than the log", "lines", len(c.Lines), "commits", c.Place)
+		logline.Info("no snapshot, because it would be longer than the log", "lines", len(c.Lines),
+			"commits", c.Place)
 		return nil
 	}
 	if err := c.verify(ctx, options, names); err != nil {
@@ -127,7 +195,9 @@ func Make(ctx context.Context, log *etcd.Log, options replica.Options, keep uint
 }
 
 // build starts a regd, whose book fill makes, and returns the snapshot of it.
-func build(ctx context.Context, options replica.Options, names names, fill func(*replica.Replica) error) (c content, err error) {
+func build(
+	ctx context.Context, options replica.Options, names names, fill func(*replica.Replica) error,
+) (c content, err error) {
 	r, err := replica.Start(ctx, options, func(replica.State) {})
 	if err != nil {
 		return c, err
@@ -141,7 +211,8 @@ func build(ctx context.Context, options replica.Options, names names, fill func(
 }
 
 // replay makes a snapshot in an empty replica, and executes the entries after it up to the last one, but for skipped
-// lines. It notes all names, and returns an error if regd has shown one that it has not noted: the snapshot would lose it.
+// lines. It notes all names, and returns an error if regd has shown one that it has not noted: the snapshot would lose
+// it.
 func replay(log *etcd.Log, old content, r *replica.Replica, names names, last uint64, skips etcd.Skips) error {
 	for _, line := range old.Lines {
 		names.note([]byte(line))
@@ -152,21 +223,20 @@ func replay(log *etcd.Log, old content, r *replica.Replica, names names, last ui
 	reading, stop := context.WithCancel(r.Context())
 	defer stop()
 	shown := showing{}
-	_, err := log.Follow(reading, old.Entry+1, old.Name, func(end uint64) {
+	_, err := log.Follow(reading, old.position(), func(end uint64) {
 		if end < last { // etcd was restored from a backup
 			stop()
 		}
-	}, func(number uint64, value []byte) {
-		if number > last {
+	}, func(e etcd.Entry) {
+		if e.Entry > last {
 			return
 		}
-		name, lines := etcd.SplitEntry(value)
-		for _, line := range lines {
+		for _, line := range e.Lines {
 			names.note(line)
 		}
-		isSkipped := func(i int) bool { return skips[etcd.Line{Entry: number, Number: i + 1}] != "" }
-		r.Apply(number, name, lines, isSkipped, shown.take)
-		if number == last {
+		isSkipped := func(i int) bool { return skips[etcd.Line{Entry: e.Entry, Number: i + 1}] != "" }
+		r.Apply(Executable(e), isSkipped, shown.take)
+		if e.Entry == last {
 			stop()
 		}
 	})
@@ -175,6 +245,14 @@ func replay(log *etcd.Log, old content, r *replica.Replica, names names, last ui
 		return fmt.Errorf("the replay ended at entry %d: %w", r.State().Entry, err)
 	}
 	return shown.check(names)
+}
+
+// Executable returns what a replica executes of an entry.
+func Executable(e etcd.Entry) replica.Entry {
+	return replica.Entry{
+		Number: e.Entry, Name: e.Name, Time: e.Time, Keep: e.Keep, Room: e.Room, Lines: e.Lines,
+		Added: e.Added,
+	}
 }
 
 // A showing has the names in replies of regd, or the error of one that can't be read.
@@ -196,7 +274,8 @@ func (s *showing) take(_ int, reply []byte) {
 // check returns an error if regd has shown a name that is not among the noted ones.
 func (s *showing) check(noted names) error {
 	if missed := s.names.without(noted); missed != "" {
-		return fmt.Errorf("a snapshot would lose what %s shows, which no line of the log is known to have set", missed)
+		return fmt.Errorf("a snapshot would lose what %s shows, which no line of the log is known to have set",
+			missed)
 	}
 	return s.err
 }
@@ -218,17 +297,29 @@ func (c content) verify(ctx context.Context, options replica.Options, names name
 	return err
 }
 
-// publish writes the chunks, each if the one before it is still there, and then, if the log still has the snapshot's last entry, the head that makes them
-// count. It returns the head. So if etcd is restored meanwhile, no chunk is missing.
+// publish writes the snapshot if the log still has its last entry. It returns the head.
 func (c content) publish(ctx context.Context, log *etcd.Log, entry []byte) ([]byte, error) {
-	text, _ := json.Marshal(c) // no error: it holds strings, bytes and numbers
-	h, before := head{Entry: c.Entry, ID: wire.NewID()}, []map[string]any{}
+	return c.store(ctx, log, log.Has(etcd.EntryKey(c.Entry), entry))
+}
+
+// store writes the chunks, each if the one before it is still there, and then, if a condition holds, the head that
+// makes them count. It returns the head. So if etcd is restored meanwhile, no chunk is missing.
+func (c content) store(ctx context.Context, log *etcd.Log, condition map[string]any) ([]byte, error) {
+	text, err := json.Marshal(c)
+	if err != nil {
+		return nil, err
+	}
+	h := head{Format: etcd.Format, Entry: c.Entry, Name: c.Name, ID: wire.NewID(), Hash: hashOf(text)}
+	before := []map[string]any{}
 	for rest := bytes.NewBuffer(text); rest.Len() > 0; h.Chunks++ {
 		if err := log.Put(ctx, h.chunk(h.Chunks), rest.Next(chunkSize), before...); err != nil {
 			return nil, err
 		}
 		before = []map[string]any{log.Exists(h.chunk(h.Chunks))}
 	}
-	text, _ = json.Marshal(h)
-	return text, log.Put(ctx, "snapshot", text, append(before, log.Has(etcd.EntryKey(c.Entry), entry))...)
+	text, err = json.Marshal(h)
+	if err != nil {
+		return nil, err
+	}
+	return text, log.Put(ctx, "snapshot", text, append(before, condition)...)
 }

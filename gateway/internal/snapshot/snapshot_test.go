@@ -3,6 +3,7 @@ package snapshot
 import (
 	"context"
 	"encoding/json"
+	"errors"
 	"fmt"
 	"math/rand"
 	"os"
@@ -35,11 +36,34 @@ func miniature(t *testing.T, ctx context.Context, entries uint64) (replica.Optio
 		t.Fatal(err)
 	}
 	for entry := uint64(1); entry <= entries; entry++ {
-		if _, err := log.Append(ctx, entry, etcd.JoinEntry(fmt.Sprint(entry), [][]byte{[]byte(replica.EmptyLine)})); err != nil {
+		if err := appended(ctx, log, fmt.Sprint(entry), replica.EmptyLine); err != nil {
 			t.Fatal(err)
 		}
 	}
 	return replica.Options{Program: os.Args[0], Domain: "ex.org", Workers: 2}, store, log
+}
+
+// appended appends an entry with an ID.
+func appended(ctx context.Context, log *etcd.Log, id string, lines ...string) error {
+	d := etcd.Draft{ID: id}
+	for _, line := range lines {
+		d.Lines = append(d.Lines, []byte(line))
+	}
+	_, err := log.Append(ctx, etcd.Start, d)
+	return err
+}
+
+// nameOf returns the name of an entry.
+func nameOf(t *testing.T, ctx context.Context, log *etcd.Log, number uint64) etcd.Position {
+	value, err := log.Get(ctx, etcd.EntryKey(number))
+	if err != nil {
+		t.Fatal(err)
+	}
+	e, err := etcd.ReadEntry(number, value)
+	if err != nil {
+		t.Fatal(err)
+	}
+	return e.Position
 }
 
 func TestMain(m *testing.M) {
@@ -47,7 +71,8 @@ func TestMain(m *testing.M) {
 	os.Exit(m.Run())
 }
 
-// TestMakeVerifies lets the regd end that would execute a snapshot for the second time: no snapshot is made, and nothing is cut.
+// TestMakeVerifies lets the regd end that would execute a snapshot for the second time: no snapshot is made, and
+// nothing is cut.
 func TestMakeVerifies(t *testing.T) {
 	ctx, cancel := context.WithTimeout(context.Background(), time.Minute)
 	defer cancel()
@@ -80,7 +105,7 @@ func TestPublish(t *testing.T) {
 	if json.Unmarshal(text, &h); err != nil || h.Chunks != 3 {
 		t.Fatalf("got %v, %v", h, err)
 	}
-	keys := []string{"r/" + h.chunk(0), "r/" + h.chunk(1), "r/" + h.chunk(2), "r/snapshot"}
+	keys := []string{"r/2/" + h.chunk(0), "r/2/" + h.chunk(1), "r/2/" + h.chunk(2), "r/2/snapshot"}
 	var puts []string
 	for _, key := range store.Puts()[before:] {
 		if len(puts) == 0 || puts[len(puts)-1] != key { // a request without an answer is repeated
@@ -93,7 +118,8 @@ func TestPublish(t *testing.T) {
 	if got, err := read(ctx, log); err != nil || !reflect.DeepEqual(got, c) {
 		t.Errorf("read %v", err)
 	}
-	for number := 2; number >= 0; number-- { // a newer snapshot deletes all pieces together, so a reader misses the last ones
+	// a newer snapshot deletes all pieces together, so a reader misses the last ones
+	for number := 2; number >= 0; number-- {
 		log.Delete(ctx, h.chunk(number), h.chunk(number)+"0")
 		if _, err := read(ctx, log); err == nil {
 			t.Errorf("a snapshot of %d pieces was read", number)
@@ -101,7 +127,79 @@ func TestPublish(t *testing.T) {
 	}
 }
 
-// TestPublishRestored restores a backup between the pieces of a snapshot: it is not published without the pieces that were lost.
+// TestDamagedSnapshot flips a bit in each byte of a snapshot's head and in some of its pieces, one after another, and
+// takes a piece away: it is not read. One that is replaced while it is read is not damaged.
+func TestDamagedSnapshot(t *testing.T) {
+	ctx, cancel := context.WithTimeout(context.Background(), time.Minute)
+	defer cancel()
+	_, store, log := miniature(t, ctx, 0)
+	c := content{State: replica.State{Entry: 7, Name: etcd.Origin, Place: 3}, Lines: []string{replica.EmptyLine}}
+	log.Put(ctx, etcd.EntryKey(7), []byte("seven"))
+	if _, err := c.publish(ctx, log, []byte("seven")); err != nil {
+		t.Fatal(err)
+	}
+	whole := store.Backup()
+	for key, value := range whole {
+		if !strings.HasPrefix(key, "r/2/snapshot") {
+			continue
+		}
+		for at := range value {
+			store.Damage(key, at)
+			_, err := read(ctx, log)
+			if !errors.Is(err, etcd.ErrDamaged) && !errors.Is(err, etcd.ErrFormat) {
+				t.Errorf("%s, %d: got %v", key, at, err)
+			}
+			store.Damage(key, at)
+		}
+	}
+	if got, err := read(ctx, log); err != nil || !reflect.DeepEqual(got, c) {
+		t.Errorf("as it was: got %v, %v", got, err)
+	}
+	var h head
+	if err := json.Unmarshal(whole["r/2/snapshot"], &h); err != nil {
+		t.Fatal(err)
+	}
+	if err := log.Delete(ctx, h.chunk(0), h.chunk(0)+"0"); err != nil {
+		t.Fatal(err)
+	}
+	if _, err := read(ctx, log); !errors.Is(err, etcd.ErrDamaged) {
+		t.Errorf("without a piece: got %v", err)
+	}
+	if _, err := h.content(ctx, log); !errors.Is(err, etcd.ErrDamaged) {
+		t.Errorf("without a piece: got %v", err)
+	}
+}
+
+// TestReplacedSnapshot publishes another snapshot while one is read, and takes the pieces of that away.
+func TestReplacedSnapshot(t *testing.T) {
+	ctx, cancel := context.WithTimeout(context.Background(), time.Minute)
+	defer cancel()
+	_, store, log := miniature(t, ctx, 0)
+	log.Put(ctx, etcd.EntryKey(7), []byte("seven"))
+	c := content{State: replica.State{Entry: 7, Name: etcd.Origin, Place: 3}}
+	first, err := c.publish(ctx, log, []byte("seven"))
+	if err != nil {
+		t.Fatal(err)
+	}
+	var h head
+	if err := json.Unmarshal(first, &h); err != nil {
+		t.Fatal(err)
+	}
+	store.BeforeRange(2, func() {
+		if _, err := c.publish(ctx, log, []byte("seven")); err != nil {
+			t.Error(err)
+		}
+		if err := log.Delete(ctx, h.chunk(0), h.chunk(0)+"0"); err != nil {
+			t.Error(err)
+		}
+	})
+	if _, err := read(ctx, log); err == nil || errors.Is(err, etcd.ErrDamaged) {
+		t.Errorf("got %v", err)
+	}
+}
+
+// TestPublishRestored restores a backup between the pieces of a snapshot: it is not published without the pieces that
+// were lost.
 func TestPublishRestored(t *testing.T) {
 	ctx, cancel := context.WithTimeout(context.Background(), time.Minute)
 	defer cancel()
@@ -110,14 +208,17 @@ func TestPublishRestored(t *testing.T) {
 		log.Put(ctx, etcd.EntryKey(7), []byte("seven"))
 		backup := store.Backup()
 		store.Before(number, func() { store.Restore(backup) })
-		c := content{State: replica.State{Entry: 7, Place: 3}, Lines: []string{strings.Repeat("x", 2*chunkSize), "y"}}
-		if _, err := c.publish(ctx, log, []byte("seven")); err == nil || strings.Contains(strings.Join(store.Keys(), " "), "snapshot") {
+		c := content{State: replica.State{Entry: 7, Place: 3},
+			Lines: []string{strings.Repeat("x", 2*chunkSize), "y"}}
+		if _, err := c.publish(ctx, log, []byte("seven")); err == nil ||
+			strings.Contains(strings.Join(store.Keys(), " "), "snapshot") {
 			t.Errorf("before request %d: %v, %v", number, err, store.Keys())
 		}
 	}
 }
 
-// TestPublishTogether publishes two snapshots of one entry at the same time, which another version of regd may have made: none has a piece of the other.
+// TestPublishTogether publishes two snapshots of one entry at the same time, which another version of regd may have
+// made: none has a piece of the other.
 func TestPublishTogether(t *testing.T) {
 	ctx, cancel := context.WithTimeout(context.Background(), time.Minute)
 	defer cancel()
@@ -134,9 +235,10 @@ func TestPublishTogether(t *testing.T) {
 	}
 }
 
-// TestMakeWhileRestored restores a backup, with an older snapshot, before each transaction of a snapshot, in turn, and the log grows again. If the snapshot
-// counts, it can be read. Otherwise etcd has the older one. The log has all entries after it. The backup has the last entry of a snapshot that keeps
-// more entries, and not that of one that keeps fewer.
+// TestMakeWhileRestored restores a backup, with an older snapshot, before each transaction of a snapshot, in turn, and
+// the log grows again. If the snapshot counts, it can be read. Otherwise etcd has the older one. The log has all
+// entries after it. The backup has the last entry of a snapshot that keeps more entries, and not that of one that keeps
+// fewer.
 func TestMakeWhileRestored(t *testing.T) {
 	ctx, cancel := context.WithTimeout(context.Background(), time.Minute)
 	defer cancel()
@@ -149,7 +251,10 @@ func TestMakeWhileRestored(t *testing.T) {
 			backup := store.Backup()
 			grow := func(prefix string) {
 				for entry := uint64(10); entry <= 12; entry++ {
-					log.Append(ctx, entry, etcd.JoinEntry(prefix+fmt.Sprint(entry), [][]byte{[]byte(replica.EmptyLine)}))
+					err := appended(ctx, log, prefix+fmt.Sprint(entry), replica.EmptyLine)
+					if err != nil {
+						t.Error(err)
+					}
 				}
 			}
 			grow("")
@@ -158,8 +263,10 @@ func TestMakeWhileRestored(t *testing.T) {
 			err := Make(ctx, log, options, keep)
 			c, failed := read(ctx, log)
 			isMade := err == nil
-			if isMade != (c.Entry == 12-keep) || !isMade && c.Entry != 3 || failed != nil || isMade && isRestored && keep == 2 || !isMade && !isRestored {
-				t.Errorf("keep %d, before request %d: the snapshot of entry %d, %v, %v", keep, number, c.Entry, err, failed)
+			if isMade != (c.Entry == 12-keep) || !isMade && c.Entry != 3 || failed != nil ||
+				isMade && isRestored && keep == 2 || !isMade && !isRestored {
+				t.Errorf("keep %d, before request %d: the snapshot of entry %d, %v, %v", keep, number,
+					c.Entry, err, failed)
 			}
 			head, _ := log.Head(ctx)
 			for entry := c.Entry + 1; entry <= head; entry++ {
@@ -194,34 +301,48 @@ func TestReplayTurnedBack(t *testing.T) {
 	ctx, cancel := context.WithTimeout(context.Background(), time.Minute)
 	defer cancel()
 	options, _, log := miniature(t, ctx, 5)
-	for name, isRight := range map[string]bool{"2": true, "lost": false} {
+	at := nameOf(t, ctx, log, 2)
+	for name, isRight := range map[string]bool{at.Name: true, etcd.Origin: false} {
 		r, err := replica.Start(ctx, options, func(replica.State) {})
 		if err != nil {
 			t.Fatal(err)
 		}
 		defer r.Close()
-		if err := replay(log, content{State: replica.State{Entry: 2, Name: name, Place: 2}}, r, names{}, 4, nil); (err == nil) != isRight {
+		old := content{State: replica.State{Entry: 2, Name: name, Time: at.Time, Place: 2}}
+		if err := replay(log, old, r, names{}, 4, nil); (err == nil) != isRight {
 			t.Errorf("after the entry %s: got %v", name, err)
 		}
 	}
 }
 
-// TestReplaySkips checks that a snapshot leaves out the lines that are skipped, and that none of its own can be skipped.
+// TestReplaySkips checks that a snapshot leaves out the lines that are skipped, and that none of its own can be
+// skipped.
 func TestReplaySkips(t *testing.T) {
 	ctx, cancel := context.WithTimeout(context.Background(), time.Minute)
 	defer cancel()
-	options, _, log := miniature(t, ctx, 9)
+	options, store, log := miniature(t, ctx, 9)
 	if err := Skip(ctx, log, etcd.Line{Entry: 2, Number: 1}, "a"); err != nil {
 		t.Fatal(err)
 	}
+	copied := etcdtest.New() // with all entries
+	t.Cleanup(copied.CloseClientConnections)
+	copied.Restore(store.Backup())
+	other := etcd.New([]string{copied.URL}, "r/", nil)
 	if err := Make(ctx, log, options, 5); err != nil {
 		t.Fatal(err)
 	}
 	c, err := read(ctx, log)
-	if want := (replica.State{Entry: 5, Name: "5", Place: 4, Sum: c.Sum, Skipped: 1}); err != nil || c.State != want {
+	at := nameOf(t, ctx, other, 5)
+	want := replica.State{Entry: 5, Name: at.Name, Time: at.Time, Place: 4, Sum: c.Sum, Skipped: 1}
+	if err != nil || c.State != want {
 		t.Errorf("got %v, %v", c.State, err)
 	}
-	log.Put(ctx, etcd.EntryKey(5), etcd.JoinEntry("5", [][]byte{[]byte(replica.EmptyLine)})) // which a snapshot deletes after it is published
+	// which a snapshot deletes after it is published
+	fifth, err := other.Get(ctx, etcd.EntryKey(5))
+	if err != nil {
+		t.Fatal(err)
+	}
+	log.Put(ctx, etcd.EntryKey(5), fifth)
 	if err := Skip(ctx, log, etcd.Line{Entry: 5, Number: 1}, "b"); err == nil {
 		t.Error("a line of the snapshot was skipped")
 	}
@@ -237,12 +358,17 @@ func TestSkipMeanwhile(t *testing.T) {
 	options, store, log := miniature(t, ctx, 9)
 	folder, program := t.TempDir(), options.Program
 	options.Program = filepath.Join(folder, "slow") // which waits when it is started for the second time
-	text := fmt.Sprintf("#!/bin/sh\nmkdir %[1]s/begun || while [ ! -e %[1]s/go ]; do sleep 0.01; done\nexec %[2]s \"$@\"\n", folder, program)
+	text := fmt.Sprintf(
+		"#!/bin/sh\nmkdir %[1]s/begun || while [ ! -e %[1]s/go ]; do sleep 0.01; done\nexec %[2]s \"$@\"\n",
+		folder, program)
 	if err := os.WriteFile(options.Program, []byte(text), 0o700); err != nil {
 		t.Fatal(err)
 	}
 	go func() {
-		for _, err := os.Stat(folder + "/begun"); err != nil && ctx.Err() == nil; _, err = os.Stat(folder + "/begun") {
+		for ctx.Err() == nil {
+			if _, err := os.Stat(folder + "/begun"); err == nil {
+				break
+			}
 			time.Sleep(time.Millisecond)
 		}
 		if err := log.Skip(ctx, etcd.Line{Entry: 2, Number: 1}, "a"); err != nil {
@@ -250,15 +376,19 @@ func TestSkipMeanwhile(t *testing.T) {
 		}
 		os.WriteFile(folder+"/go", nil, 0o600)
 	}()
-	if err := Make(ctx, log, options, 5); err == nil || strings.Contains(strings.Join(store.Keys(), " "), "snapshot") {
+	if err := Make(ctx, log, options, 5); err == nil ||
+		strings.Contains(strings.Join(store.Keys(), " "), "snapshot") {
 		t.Errorf("got %v, %v", err, store.Keys())
 	}
 }
 
-// TestNote checks that the names of a line are noted as regd takes them: of equal keys the last one counts, whatever the others are.
+// TestNote checks that the names of a line are noted as regd takes them: of equal keys the last one counts, whatever
+// the others are.
 func TestNote(t *testing.T) {
 	names := names{}
-	names.note([]byte(`{"ops":5,"ops":[{"op":"set_agent","agent":7,"agent":"a"},{"op":"set_bundle","domain":[],"domain":"b"},{"op":1,"op":"set_agent","agent":"c"}]}`))
+	names.note([]byte(
+		`{"ops":5,"ops":[{"op":"set_agent","agent":7,"agent":"a"},` +
+			`{"op":"set_bundle","domain":[],"domain":"b"},{"op":1,"op":"set_agent","agent":"c"}]}`))
 	if len(names) != 3 || !names[`{"agent":"a","op":"show_agent"}`] || !names[`{"domain":"b","op":"show_bundle"}`] {
 		t.Errorf("got %v", names)
 	}
@@ -268,8 +398,10 @@ func TestNote(t *testing.T) {
 func TestTold(t *testing.T) {
 	shown := names{}
 	for _, reply := range []string{
-		`{"call":3,"place":1,"replies":[{"agent":{"id":"a","selectors":["x:1"]}},{"entry":null},{"agent":null}],"result":"committed"}`,
-		`{"call":4,"place":2,"replies":[{"bundle":{"domain":"b","sequence":0,"text":"{\"agent\":1}"}},{"bundle":null}],"result":"committed"}`,
+		`{"call":3,"place":1,"replies":[{"agent":{"id":"a","selectors":["x:1"]}},{"entry":null},` +
+			`{"agent":null}],"result":"committed"}`,
+		`{"call":4,"place":2,"replies":[{"bundle":{"domain":"b","sequence":0,"text":"{\"agent\":1}"}},` +
+			`{"bundle":null}],"result":"committed"}`,
 		`{"call":5,"place":3,"replies":[{"pruned":[]}],"result":"committed"}`, `{"code":"L2","line":9}`,
 		`{"call":6,"place":1,"replies":[{"agent":{"id":"dropped","selectors":[]}}],"result":"repeated"}`,
 	} {
@@ -289,12 +421,13 @@ func TestTold(t *testing.T) {
 	}
 }
 
-// TestMissedName makes a snapshot of a log of which regd shows an agent that the gateway hasn't found in any line: there is none, and the log stays.
+// TestMissedName makes a snapshot of a log of which regd shows an agent that the gateway hasn't found in any line:
+// there is none, and the log stays.
 func TestMissedName(t *testing.T) {
 	ctx, cancel := context.WithTimeout(context.Background(), time.Minute)
 	defer cancel()
 	options, store, log := miniature(t, ctx, 3)
-	if _, err := log.Append(ctx, 4, etcd.JoinEntry("4", [][]byte{[]byte(`{"ops":[{"op":"prune","hint":"AGENT"}]}`)})); err != nil {
+	if err := appended(ctx, log, "4", `{"ops":[{"op":"prune","hint":"AGENT"}]}`); err != nil {
 		t.Fatal(err)
 	}
 	before := strings.Join(store.Keys(), " ")
@@ -317,7 +450,8 @@ func TestVerifyStored(t *testing.T) {
 	}
 }
 
-// TestShow checks that a regd that runs out of memory makes no snapshot, and neither does one of whose last commit the queries don't know yet.
+// TestShow checks that a regd that runs out of memory makes no snapshot, and neither does one of whose last commit the
+// queries don't know yet.
 func TestShow(t *testing.T) {
 	ctx, cancel := context.WithTimeout(context.Background(), time.Minute)
 	defer cancel()
@@ -327,9 +461,11 @@ func TestShow(t *testing.T) {
 		t.Fatal(err)
 	}
 	defer r.Close()
-	for i, query := range []string{`{"op":"show"}`, `{"op":"show"}`, `{"op":"show","hint":"L6"}`, `{"op":"show","hint":"KILL"}`} {
+	for i, query := range []string{`{"op":"show"}`, `{"op":"show"}`, `{"op":"show","hint":"L6"}`,
+		`{"op":"show","hint":"KILL"}`} {
 		if i == 1 {
-			r.Apply(1, "e", [][]byte{[]byte(`{"ops":[{"op":"prune","hint":"LATE"}]}`)}, nil, func(int, []byte) {})
+			late := []byte(`{"ops":[{"op":"prune","hint":"LATE"}]}`)
+			r.Apply(replica.Entry{Number: 1, Lines: [][]byte{late}}, nil, func(int, []byte) {})
 			r.Settle()
 		}
 		if _, err := show(r, query); (err == nil) != (i == 0) {
@@ -345,7 +481,9 @@ func TestPages(t *testing.T) {
 	r := started(t, ctx)
 	var ops []string
 	for number := 0; number < 1200; number++ {
-		ops = append(ops, fmt.Sprintf(`{"op":"create","id":"00000000-0000-4000-8000-%012x","parent":"spiffe://ex.org/spire/agent/n","identity":"spiffe://ex.org/w%d","selectors":["u:1"]}`,
+		ops = append(ops, fmt.Sprintf(`{"op":"create","id":"00000000-0000-4000-8000-%012x",`+
+			`"parent":"spiffe://ex.org/spire/agent/n","identity":"spiffe://ex.org/w%d",`+
+			`"selectors":["u:1"]}`,
 			number, number))
 	}
 	if err := r.Restore(replica.State{Place: uint64(len(batches(ops)))}, batches(ops), nil); err != nil {
@@ -360,13 +498,18 @@ func TestPages(t *testing.T) {
 // randomLine returns a change of one of a few rows, sometimes with a token, and sometimes one that regd refuses.
 func randomLine(random *rand.Rand, number int) string {
 	id := fmt.Sprintf(`"id":"00000000-0000-4000-8000-%012x"`, random.Intn(30))
-	entry := fmt.Sprintf(`%s,"parent":"spiffe://ex.org/spire/agent/n%d","identity":"spiffe://ex.org/w%d","selectors":["u:%d"],"hint":"%d","domains":[%s]`,
-		id, random.Intn(3), random.Intn(9), random.Intn(3), number, []string{"", `"b0.org"`, `"b0.org","b1.org"`}[random.Intn(3)])
+	entry := fmt.Sprintf(`%s,"parent":"spiffe://ex.org/spire/agent/n%d","identity":"spiffe://ex.org/w%d",`+
+		`"selectors":["u:%d"],"hint":"%d","domains":[%s]`,
+		id, random.Intn(3), random.Intn(9), random.Intn(3), number,
+		[]string{"", `"b0.org"`, `"b0.org","b1.org"`}[random.Intn(3)])
 	agent := fmt.Sprintf(`"agent":"spiffe://ex.org/spire/agent/n%d"`, random.Intn(3))
 	op := []string{
-		`{"op":"create",` + entry + `}`, `{"op":"create",` + entry + `}`, `{"op":"update",` + entry + `}`, `{"op":"delete",` + id + `}`,
-		`{"op":"set_agent",` + agent + `,"selectors":["x:1"]}`, `{"op":"set_\u0061gent",` + agent + `,"selectors":[]}`, `{"op":"drop_agent",` + agent + `}`,
-		fmt.Sprintf(`{"op":"set_bundle","domain":"b%d.org","text":"\"\\%d"}`, random.Intn(3), number), `{"op":"drop_bundle","domain":"b1.org","mode":"dissociate"}`,
+		`{"op":"create",` + entry + `}`, `{"op":"create",` + entry + `}`, `{"op":"update",` + entry + `}`,
+		`{"op":"delete",` + id + `}`,
+		`{"op":"set_agent",` + agent + `,"selectors":["x:1"]}`,
+		`{"op":"set_\u0061gent",` + agent + `,"selectors":[]}`, `{"op":"drop_agent",` + agent + `}`,
+		fmt.Sprintf(`{"op":"set_bundle","domain":"b%d.org","text":"\"\\%d"}`, random.Intn(3), number),
+		`{"op":"drop_bundle","domain":"b1.org","mode":"dissociate"}`,
 	}[random.Intn(9)]
 	token := ""
 	if random.Intn(3) == 0 {
@@ -385,7 +528,8 @@ func site(t *testing.T, ctx context.Context) (*etcdtest.Server, *etcd.Log, *repl
 	}
 	random := rand.New(rand.NewSource(1))
 	for entry := uint64(1); entry <= 400; entry++ {
-		if _, err := log.Append(ctx, entry, etcd.JoinEntry(fmt.Sprint(entry), [][]byte{[]byte(randomLine(random, int(entry))), []byte(replica.EmptyLine)})); err != nil {
+		line := randomLine(random, int(entry))
+		if err := appended(ctx, log, fmt.Sprint(entry), line, replica.EmptyLine); err != nil {
 			t.Fatal(err)
 		}
 	}
@@ -415,8 +559,8 @@ func TestMake(t *testing.T) {
 			t.Fatal(err)
 		}
 		loaded, err := Load(ctx, log, started(t, ctx))
-		if last := 400 - keep; err != nil || loaded != last+1 {
-			t.Fatalf("the log begins at %d, %v", loaded, err)
+		if last := 400 - keep; err != nil || loaded.Entry != last {
+			t.Fatalf("the snapshot ends at %v, %v", loaded, err)
 		}
 		r, again := started(t, ctx), names{}
 		c, err := read(ctx, log)
@@ -434,7 +578,7 @@ func TestMake(t *testing.T) {
 		if len(want) == 0 || strings.Join(got, "\n") != strings.Join(want, "\n") {
 			t.Errorf("keep %d: another book", keep)
 		}
-		if keys := store.Keys(); len(keys) > int(keep)+4 {
+		if keys := store.Keys(); len(keys) > int(keep)+6 {
 			t.Errorf("keep %d: %d keys stay", keep, len(keys))
 		}
 	}
@@ -444,7 +588,8 @@ func TestMake(t *testing.T) {
 	}
 }
 
-// TestSizes makes a snapshot with several chunks and with more bytes than a line has, and none if that would be longer than the log. It needs REGD.
+// TestSizes makes a snapshot with several chunks and with more bytes than a line has, and none if that would be longer
+// than the log. It needs REGD.
 func TestSizes(t *testing.T) {
 	ctx, cancel := context.WithTimeout(context.Background(), time.Minute)
 	defer cancel()
@@ -457,8 +602,7 @@ func TestSizes(t *testing.T) {
 		return fmt.Sprintf(`{"op":"set_bundle","domain":"b%d.org","text":"%s"}`, number, text)
 	}
 	add := func(entry uint64, ops ...string) {
-		line := []byte(`{"ops":[` + strings.Join(ops, ",") + `]}`)
-		if _, err := log.Append(ctx, entry, etcd.JoinEntry(fmt.Sprint(entry), [][]byte{line})); err != nil {
+		if err := appended(ctx, log, fmt.Sprint(entry), `{"ops":[`+strings.Join(ops, ",")+`]}`); err != nil {
 			t.Fatal(err)
 		}
 	}
@@ -471,19 +615,22 @@ func TestSizes(t *testing.T) {
 	}
 	var agents []string
 	for number := 6; number < 26; number++ {
-		agents = append(agents, fmt.Sprintf(`{"op":"set_agent","agent":"spiffe://ex.org/spire/agent/n%d","selectors":[]}`, number))
+		agents = append(agents, fmt.Sprintf(
+			`{"op":"set_agent","agent":"spiffe://ex.org/spire/agent/n%d","selectors":[]}`, number))
 		add(uint64(number-4), bundle(number))
 	}
 	for entry := uint64(22); entry < 26; entry++ {
-		add(entry, strings.Split(strings.ReplaceAll(strings.Join(agents, "\n"), "agent/n", fmt.Sprintf("agent/n%d-", entry)), "\n")...)
+		add(entry, strings.Split(strings.ReplaceAll(strings.Join(agents, "\n"), "agent/n",
+			fmt.Sprintf("agent/n%d-", entry)), "\n")...)
 	}
 	if err := Make(ctx, log, options(t), 0); err != nil {
 		t.Fatal(err)
 	}
 	r := started(t, ctx)
-	next, err := Load(ctx, log, r)
-	if keys := strings.Join(store.Keys(), " "); err != nil || next != 26 || r.State().Place != 25 || strings.Count(keys, "r/snapshot/") < 3 {
-		t.Errorf("got %d, %d, %v, %s", next, r.State().Place, err, keys)
+	last, err := Load(ctx, log, r)
+	if keys := strings.Join(store.Keys(), " "); err != nil || last.Entry != 25 || r.State().Place != 25 ||
+		strings.Count(keys, "r/2/snapshot/") < 3 {
+		t.Errorf("got %v, %d, %v, %s", last, r.State().Place, err, keys)
 	}
 }
 

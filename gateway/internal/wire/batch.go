@@ -5,8 +5,8 @@ import (
 	"encoding/json"
 )
 
-// MaxQueries is the most queries of a line for the log, or of an agent's. regd keeps the replies of a batch that also changes something, and the gateway
-// those of a batch with a token.
+// MaxQueries is the most queries of a line for the log, or of an agent's. regd keeps the replies of a batch that also
+// changes something, and the gateway those of a batch with a token.
 const MaxQueries = 4
 
 const (
@@ -24,17 +24,19 @@ const (
 	TooLong        = "G6" // the line is longer than this gateway accepts
 	Skipped        = "G7" // an operator has skipped the line
 	Outdated       = "G8" // the gateway's book may be too old for a query
+	Unverified     = "G9" // the log doesn't verify
 )
 
 // changes has the names of regd's operations, and whether they change the book.
 var changes = map[string]bool{
 	"create": true, "update": true, "delete": true, "prune": true,
 	"set_agent": true, "drop_agent": true, "set_bundle": true, "drop_bundle": true,
-	"show": false, "show_agent": false, "show_bundle": false, "children": false, "page": false, "authorised": false, "trust": false,
+	"show": false, "show_agent": false, "show_bundle": false, "children": false, "page": false, "authorised": false,
+	"trust": false,
 }
 
-// A batch is what the gateway has to know of a line with a list of operations. Whether regd accepts the line is not known. Of equal keys the last
-// one counts.
+// A batch is what the gateway has to know of a line with a list of operations. Whether regd accepts the line is not
+// known. Of equal keys the last one counts.
 type batch struct {
 	ops              []map[string]any
 	changes, queries int
@@ -42,35 +44,43 @@ type batch struct {
 	token, after     any   // nil if absent or null
 }
 
-// readBatch returns false if the line is not an object with a list of 1 to 64 objects under ops; regd refuses such a line. What it accepts,
-// regd may still refuse.
+// readBatch returns false if the line is not an object with a list of 1 to 64 objects under ops; regd refuses such a
+// line. What it accepts, regd may still refuse.
 func readBatch(line []byte) (b batch, ok bool) {
 	in := decoder(line)
-	if open, _ := in.Token(); open != json.Delim('{') || !json.Valid(line) {
+	if open, err := in.Token(); err != nil || open != json.Delim('{') || !json.Valid(line) {
 		return b, false
 	}
 	var list, other json.RawMessage
 	listEnd := 0
-	for in.More() { // no call fails, since the line is valid
-		switch key, _ := in.Token(); key {
+	for in.More() {
+		key, err := in.Token()
+		if err != nil {
+			return b, false
+		}
+		var value any = &other
+		switch key {
 		case "ops":
-			in.Decode(&list)
-			listEnd = int(in.InputOffset())
+			value = &list
 		case "token":
-			in.Decode(&b.token)
+			value = &b.token
 		case "after":
-			in.Decode(&b.after)
-		default:
-			in.Decode(&other)
+			value = &b.after
+		}
+		if err := in.Decode(value); err != nil {
+			return b, false
+		}
+		if key == "ops" {
+			listEnd = int(in.InputOffset())
 		}
 	}
 	in = decoder(list)
-	if open, _ := in.Token(); open != json.Delim('[') {
+	if open, err := in.Token(); err != nil || open != json.Delim('[') {
 		return b, false
 	}
 	for in.More() {
 		var op map[string]any
-		if in.Decode(&op) != nil || op == nil || len(b.ops) == maxOps {
+		if err := in.Decode(&op); err != nil || op == nil || len(b.ops) == maxOps {
 			return b, false
 		}
 		b.ops = append(b.ops, op)
@@ -93,8 +103,9 @@ func decoder(text []byte) *json.Decoder {
 	return in
 }
 
-// ForLog returns what the log gets for an operator's line, or the code with which the gateway refuses it. Each create without an id gets one,
-// so that every replica makes the same entries. A line with a token stays as it is: there regd requires the ids.
+// ForLog returns what the log gets for an operator's line, or the code with which the gateway refuses it. Each create
+// without an id gets one, so that every replica makes the same entries. A line with a token stays as it is: there regd
+// requires the ids.
 func ForLog(line []byte) (made []byte, code string) {
 	b, ok := readBatch(line)
 	room := idRoom * len(b.missing)

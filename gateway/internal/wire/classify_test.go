@@ -10,7 +10,8 @@ func TestMayChange(t *testing.T) {
 		{`{"ops":[{"op":"show","id":"00000000-0000-0000-0000-000000000001"}]}`, false},
 		{`{"ops":[{"op":"authorised","agent":"spiffe://ex.org/spire/agent/create"}]}`, false},
 		{`{"ops":[{"op":"page","size":1,"at":3}],"after":3}`, false},
-		{`{"ops":[{"op":"show_agent","agent":"a"},{"op":"show_bundle","domain":"b"},{"op":"children","parent":"c"},{"op":"trust","agent":"d"}]}`, false},
+		{`{"ops":[{"op":"show_agent","agent":"a"},{"op":"show_bundle","domain":"b"},` +
+			`{"op":"children","parent":"c"},{"op":"trust","agent":"d"}]}`, false},
 		{``, false},
 		{`{"ops":[{"op":"create"`, true},
 		{`{"ops":[{"op":"update"}]}`, true},

@@ -17,18 +17,20 @@ var seeds = []string{
 	`{"call":1,"place":2,"replies":[],"result":"committed"}`, `{"code":"L5","field":"x","line":3,"op":0}`,
 }
 
-// FuzzAdditions checks that what the gateway adds keeps a line valid, keeps all its bytes in their order, and gives every create an id.
+// FuzzAdditions checks that what the gateway adds keeps a line valid, keeps all its bytes in their order, and gives
+// every create an id.
 func FuzzAdditions(f *testing.F) {
 	for _, seed := range seeds {
 		f.Add([]byte(seed))
 	}
 	f.Fuzz(func(t *testing.T, line []byte) {
-		if tokened, ok := ReadTokened(line); ok {
+		if tokened, ok := ReadTokened(line, false); ok {
 			if !MayChange(line) {
 				t.Fatalf("%q has a token for a change, and isn't one", line)
 			}
 			var first, second map[string]any
-			if json.Unmarshal(tokened.Line, &first) != nil || first["token"] != nil || json.Unmarshal(tokened.Probe, &second) != nil || second["after"] == nil {
+			if json.Unmarshal(tokened.Line, &first) != nil || first["token"] != nil ||
+				json.Unmarshal(tokened.Probe, &second) != nil || second["after"] == nil {
 				t.Fatalf("%q became %q and %q", line, tokened.Line, tokened.Probe)
 			}
 		}
@@ -42,7 +44,8 @@ func FuzzAdditions(f *testing.F) {
 		}
 		again, ok := readBatch(made)
 		drawn := len(b.missing) - len(again.missing)
-		if !ok || len(again.ops) != len(b.ops) || len(made) != len(line)+idRoom*drawn || b.token == nil && len(again.missing) > 0 {
+		if !ok || len(again.ops) != len(b.ops) || len(made) != len(line)+idRoom*drawn ||
+			b.token == nil && len(again.missing) > 0 {
 			t.Fatalf("%q became %q", line, made)
 		}
 		at := 0
@@ -60,7 +63,8 @@ func FuzzAdditions(f *testing.F) {
 	})
 }
 
-// FuzzReplies checks that no bytes of a reply make the functions on replies fail, and that renumbering keeps all other bytes.
+// FuzzReplies checks that no bytes of a reply make the functions on replies fail, and that renumbering keeps all other
+// bytes.
 func FuzzReplies(f *testing.F) {
 	for _, seed := range seeds {
 		f.Add([]byte(seed))
@@ -73,13 +77,15 @@ func FuzzReplies(f *testing.F) {
 		After(reply)
 		tail := append([]byte{}, Tail(reply)...)
 		made := AppendReply(nil, reply, 3, 4)
-		if !bytes.Contains(made, tail) || !bytes.Equal(Tail(made[:len(made)-1]), tail) && bytes.Contains(reply, lineKey) {
+		if !bytes.Contains(made, tail) ||
+			!bytes.Equal(Tail(made[:len(made)-1]), tail) && bytes.Contains(reply, lineKey) {
 			t.Fatalf("%q became %q", reply, made)
 		}
 	})
 }
 
-// TestOracle runs random lines through `regd plain`, which never commits or repeats one that is taken for a query. It needs REGD.
+// TestOracle runs random lines through `regd plain`, which never commits or repeats one that is taken for a query. It
+// needs REGD.
 func TestOracle(t *testing.T) {
 	program := os.Getenv("REGD")
 	if program == "" {
@@ -122,22 +128,29 @@ func randomLine(random *rand.Rand) []byte {
 		if random.Intn(8) == 0 {
 			at := random.Intn(len(text))
 			const digits = "0123456789abcdef"
-			text = text[:at] + `\u00` + string([]byte{digits[text[at]>>4], digits[text[at]&15]}) + text[at+1:]
+			text = text[:at] + `\u00` +
+				string([]byte{digits[text[at]>>4], digits[text[at]&15]}) + text[at+1:]
 		}
 		return `"` + text + `"`
 	}
 	agent := func() string { return `"spiffe://ex.org/spire/agent/n` + pick("1", "2", "3") + `"` }
 	id := func() string { return `"00000000-0000-0000-0000-00000000000` + pick("1", "2", "3") + `"` }
 	op := func() string {
-		name := pick("create", "update", "delete", "show", "show_agent", "children", "page", "authorised", "trust", "prune",
+		name := pick("create", "update", "delete", "show", "show_agent", "children", "page", "authorised",
+			"trust", "prune",
 			"set_agent", "drop_agent", "set_bundle", "drop_bundle", "show_bundle")
 		keys := map[string]string{
-			"create": `"parent":` + agent() + `,"identity":"spiffe://ex.org/w","selectors":["u:` + pick("1", "2") + `"]`,
-			"update": `"id":` + id() + `,"parent":` + agent() + `,"identity":"spiffe://ex.org/w","selectors":["u:1"]`,
-			"delete": `"id":` + id(), "show": `"id":` + id(), "show_agent": `"agent":` + agent(), "children": `"parent":` + agent(),
-			"page": `"size":5`, "authorised": `"agent":` + agent(), "trust": `"agent":` + agent(), "prune": `"before":0`,
+			"create": `"parent":` + agent() + `,"identity":"spiffe://ex.org/w","selectors":["u:` +
+				pick("1", "2") + `"]`,
+			"update": `"id":` + id() + `,"parent":` + agent() +
+				`,"identity":"spiffe://ex.org/w","selectors":["u:1"]`,
+			"delete": `"id":` + id(), "show": `"id":` + id(), "show_agent": `"agent":` + agent(),
+			"children": `"parent":` + agent(),
+			"page":     `"size":5`, "authorised": `"agent":` + agent(), "trust": `"agent":` + agent(),
+			"prune":     `"before":0`,
 			"set_agent": `"agent":` + agent() + `,"selectors":["x:1"]`, "drop_agent": `"agent":` + agent(),
-			"set_bundle": `"domain":"b.org","text":"` + pick("", "create", "{}") + `"`, "drop_bundle": `"domain":"b.org"`, "show_bundle": `"domain":"b.org"`,
+			"set_bundle":  `"domain":"b.org","text":"` + pick("", "create", "{}") + `"`,
+			"drop_bundle": `"domain":"b.org"`, "show_bundle": `"domain":"b.org"`,
 		}[name]
 		key := spelled("op") + pick(":", " :", ": ") + spelled(name)
 		if random.Intn(10) == 0 {
@@ -145,7 +158,8 @@ func randomLine(random *rand.Rand) []byte {
 		}
 		return "{" + pick(key+","+keys, keys+","+key) + "}"
 	}
-	line := "{" + spelled("ops") + ":[" + op() + pick("", "", ","+op()) + "]" + pick("", "", `,"after":0`, `,"token":"00000000-0000-0000-0000-00000000000`+pick("7", "8", "9")+`"`) + "}"
+	line := "{" + spelled("ops") + ":[" + op() + pick("", "", ","+op()) + "]" + pick("", "", `,"after":0`,
+		`,"token":"00000000-0000-0000-0000-00000000000`+pick("7", "8", "9")+`"`) + "}"
 	if random.Intn(10) == 0 {
 		line = pick(" ", "\t", "[", "{\"ops\":[],") + line
 	}

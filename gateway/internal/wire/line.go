@@ -1,8 +1,9 @@
 // Package wire looks at request lines and replies of regd as bytes.
 //
-// It decides which lines have to go through the log, which ones the gateway refuses, and what it adds to a line. It reads as little of a line
-// as it can, and never judges it: a malformed line reaches regd as the caller sent it, and regd names its fault. Keys are added to a line and
-// never rewritten, because of equal keys in one object regd takes the last value.
+// It decides which lines have to go through the log, which ones the gateway refuses, and what it adds to a line. It
+// reads as little of a line as it can, and never judges it: a malformed line reaches regd as the caller sent it, and
+// regd names its fault. Keys are added to a line and never rewritten, because of equal keys in one object regd takes
+// the last value.
 package wire
 
 import (
@@ -14,9 +15,10 @@ import (
 // MaxLine is the largest number of bytes in a line, without its line feed.
 const MaxLine = 1 << 20
 
-// ReadLine reads a line without its line feed. When the line outgrows the buffer of in, it calls hasRoom, and doesn't keep the line if that is
-// false. It returns the code with which a line is refused: L3 if the input ends in it, Busy if it was not kept, and if it has more than the given number
-// of bytes TooLong, or L1 if regd refuses it too. An error means that there is no line; io.EOF that the input ended.
+// ReadLine reads a line without its line feed. When the line outgrows the buffer of in, it calls hasRoom, and doesn't
+// keep the line if that is false. It returns the code with which a line is refused: L3 if the input ends in it, Busy if
+// it was not kept, and if it has more than the given number of bytes TooLong, or L1 if regd refuses it too. An error
+// means that there is no line; io.EOF that the input ended.
 func ReadLine(in *bufio.Reader, most int, hasRoom func() bool) (line []byte, code string, err error) {
 	size, isKept := 0, true
 	for err = bufio.ErrBufferFull; err == bufio.ErrBufferFull; {
@@ -25,7 +27,8 @@ func ReadLine(in *bufio.Reader, most int, hasRoom func() bool) (line []byte, cod
 		if err == bufio.ErrBufferFull && size == 0 {
 			isKept = hasRoom()
 		}
-		if size += len(part); isKept && size <= most+1 {
+		size += len(part)
+		if isKept && size <= most+1 {
 			line = append(line, part...)
 		}
 	}
@@ -53,9 +56,9 @@ var changeNames = [][]byte{
 	[]byte(`"set_agent"`), []byte(`"drop_agent"`), []byte(`"set_bundle"`), []byte(`"drop_bundle"`),
 }
 
-// MayChange returns false only if no reader of JSON can find a change in the line. Without a backslash every string of a line is in it
-// as it is, so a line without the name of a change holds none. A query or a malformed line for which it returns true goes through the log,
-// which costs time and changes nothing.
+// MayChange returns false only if no reader of JSON can find a change in the line. Without a backslash every string of
+// a line is in it as it is, so a line without the name of a change holds none. A query or a malformed line for which it
+// returns true goes through the log, which costs time and changes nothing.
 func MayChange(line []byte) bool {
 	if bytes.IndexByte(line, '\\') >= 0 {
 		return true

@@ -19,7 +19,8 @@ const space = " \t\r"
 // IsRefusal returns true if regd refused the line before it ran it.
 func IsRefusal(reply []byte) bool { return !bytes.HasPrefix(reply, callKey) }
 
-// Tail returns the part of a reply that is the same on every replica: what follows the call number, or what precedes the line number.
+// Tail returns the part of a reply that is the same on every replica: what follows the call number, or what precedes
+// the line number.
 func Tail(reply []byte) []byte {
 	if IsRefusal(reply) {
 		tail, _, _ := bytes.Cut(reply, lineKey)
@@ -95,6 +96,9 @@ func Code(reply []byte) string {
 
 // IsCommitted returns true if the reply reports a commit.
 func IsCommitted(reply []byte) bool { return bytes.HasSuffix(reply, committed) }
+
+// IsRepeated returns true if the reply reports a commit of an earlier line with the same token.
+func IsRepeated(reply []byte) bool { return bytes.HasSuffix(reply, repeated) }
 
 // Repeated returns the reply to a line that was committed before, made of the tail of its first reply.
 func Repeated(tail []byte) []byte {

@@ -10,14 +10,17 @@ import (
 
 func TestAppendReply(t *testing.T) {
 	for _, c := range []struct{ reply, want string }{
-		{`{"call":99,"place":3,"replies":[],"result":"committed"}`, `{"call":5,"place":3,"replies":[],"result":"committed"}`},
-		{`{"call":99,"code":"W1","place":3,"result":"refused"}`, `{"call":5,"code":"W1","place":3,"result":"refused"}`},
+		{`{"call":99,"place":3,"replies":[],"result":"committed"}`,
+			`{"call":5,"place":3,"replies":[],"result":"committed"}`},
+		{`{"call":99,"code":"W1","place":3,"result":"refused"}`,
+			`{"call":5,"code":"W1","place":3,"result":"refused"}`},
 		{`{"code":"L2","line":99}`, `{"code":"L2","line":8}`},
 		{`{"code":"L5","field":"zz","line":99,"op":0}`, `{"code":"L5","field":"zz","line":8,"op":0}`},
 		{`{"code":"L5","field":",\"line\":7","line":99}`, `{"code":"L5","field":",\"line\":7","line":8}`},
 		{string(Refusal("G1")), `{"code":"G1","line":8}`},
 		{string(Refused("O9", 12)), `{"call":5,"code":"O9","place":12,"result":"refused"}`},
-		{string(Repeated(Tail([]byte(`{"call":1,"place":3,"replies":[],"result":"committed"}`)))), `{"call":5,"place":3,"replies":[],"result":"repeated"}`},
+		{string(Repeated(Tail([]byte(`{"call":1,"place":3,"replies":[],"result":"committed"}`)))),
+			`{"call":5,"place":3,"replies":[],"result":"repeated"}`},
 	} {
 		if got := string(AppendReply(nil, []byte(c.reply), 5, 8)); got != c.want+"\n" {
 			t.Errorf("%s: got %s", c.reply, got)
@@ -39,14 +42,17 @@ func TestReplyParts(t *testing.T) {
 		t.Error("full")
 	}
 	for line, want := range map[string]uint64{
-		`{"ops":[],"after":7}`: 7, `{"ops":[],"after": 7}`: 7, `{"ops":[],"after" :7}`: 7, `{"after" : 7,"ops":[]}`: 7, "{\"after\"\t:\t7}": 7, `{"after":x}`: 0,
-		`{"after":3,"ops":[],"after":7}`: 7, `{"ops":[{"op":"show","hint":"after"}],"after":7}`: 7, `{"ops":["after",5],"after":7}`: 7, `"after"`: 0, `"after":`: 0,
+		`{"ops":[],"after":7}`: 7, `{"ops":[],"after": 7}`: 7, `{"ops":[],"after" :7}`: 7,
+		`{"after" : 7,"ops":[]}`: 7, "{\"after\"\t:\t7}": 7, `{"after":x}`: 0,
+		`{"after":3,"ops":[],"after":7}`: 7, `{"ops":[{"op":"show","hint":"after"}],"after":7}`: 7,
+		`{"ops":["after",5],"after":7}`: 7, `"after"`: 0, `"after":`: 0,
 	} {
 		if got := After([]byte(line)); got != want {
 			t.Errorf("%s: got %d", line, got)
 		}
 	}
-	if After([]byte(`{"ops":[],"after": 7}`)) != 7 || After([]byte(`{"ops":[]}`)) != 0 || After([]byte(`{"after":18446744073709551615`)) != 1<<64-1 {
+	if After([]byte(`{"ops":[],"after": 7}`)) != 7 || After([]byte(`{"ops":[]}`)) != 0 ||
+		After([]byte(`{"after":18446744073709551615`)) != 1<<64-1 {
 		t.Error("after")
 	}
 }
@@ -118,7 +124,9 @@ func TestReadLineBounds(t *testing.T) {
 // TestReadLongReply reads a line that is longer than those of callers may be.
 func TestReadLongReply(t *testing.T) {
 	long := strings.Repeat("x", 2*MaxLine)
-	if line, code, err := ReadLine(bufio.NewReader(strings.NewReader(long+"\n")), 1<<62, func() bool { return true }); string(line) != long || code != "" || err != nil {
+	in := bufio.NewReader(strings.NewReader(long + "\n"))
+	line, code, err := ReadLine(in, 1<<62, func() bool { return true })
+	if string(line) != long || code != "" || err != nil {
 		t.Errorf("got %d bytes, %s, %v", len(line), code, err)
 	}
 }

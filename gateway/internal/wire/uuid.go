@@ -20,8 +20,9 @@ func NewID() string {
 const hyphened = `[0-9a-f]{8}-[0-9a-f]{4}-[0-9a-f]{4}-[0-9a-f]{4}-[0-9a-f]{12}`
 
 var (
-	uuidForms = regexp.MustCompile(`(?i)^([0-9a-f]{32}|` + hyphened + `|\{` + hyphened + `\}|urn:uuid:` + hyphened + `)$`)
-	digits    = strings.NewReplacer("urn:uuid:", "", "-", "", "{", "", "}", "")
+	uuidForms = regexp.MustCompile(`(?i)^([0-9a-f]{32}|` + hyphened + `|\{` + hyphened + `\}|urn:uuid:` +
+		hyphened + `)$`)
+	digits = strings.NewReplacer("urn:uuid:", "", "-", "", "{", "", "}", "")
 )
 
 // readUUID returns the 32 digits of a UUID in lower case, for each of the four forms that regd accepts.

@@ -1,28 +1,29 @@
 """Compares acknowledged changes with a replay of the log through `regd plain`."""
 import collections
+import datetime
 import json
+import re
 
-from gatewaytools import plain, rules
+from gatewaytools import logs, plain, rules
 
 Fault = collections.namedtuple("Fault", "kind line reply")
-# a line of the log with its reply; `number` is that of its entry
-Replayed = collections.namedtuple("Replayed", "number line reply")
+# a line of the log with its reply; `number` is that of its entry, and `at` its own number there
+Replayed = collections.namedtuple("Replayed", "number line reply at caller entry", defaults=(0, "", plain.NO_ENTRY))
 
 
 def replay(program, domain, entries, snapshot=None, queries=()):
     """Returns what the log's lines are answered by the reference, the commit number before them, and the replies to queries at the end."""
     with plain.Plain(program, domain) as reference:
-        numbered = [(entry.number, line) for entry in entries for line in entry.lines]
+        numbered = [(entry, line, sent) for entry in entries for line, sent in zip(entry.lines, entry.sent)]
         base = 0
         if snapshot:
             for reply in reference.run(snapshot.lines):
                 if not reply.endswith(b'"committed"}'):
                     raise RuntimeError(f"a line of the snapshot was not committed: {reply.decode()}")
             base = snapshot.place
-        keeper = plain.Reference(reference, snapshot.tokens if snapshot else ())
-        keeper.place = base
-        replies = keeper.run([line for _, line in numbered])
-        replayed = [Replayed(number, line, reply) for (number, line), reply in zip(numbered, replies)]
+        replies = plain.Reference(reference, snapshot).run([line for _, line, _ in numbered], [entry for entry, _, _ in numbered],
+                                                                [sent[0] for _, _, sent in numbered])
+        replayed = [Replayed(entry.number, line, reply, *sent, entry) for (entry, line, sent), reply in zip(numbered, replies)]
         return replayed, base, [plain.tail(reply) for reply in reference.run(list(queries))]
 
 
@@ -82,8 +83,54 @@ def faults(acknowledged, replayed, base=0):
         if not is_repeated:
             told.add(place)
         token = rules.token_of(line)
-        if token is not None and by_token[token] > 1 and len(by_token) <= rules.MOST_TOKENS:
+        if token is not None and by_token[token] > 1:
             yield Fault("doubled", line, reply)
+
+
+def gaps(entries, snapshot, head):
+    """Yields a fault for each place where the log isn't one chain from the snapshot, or from its beginning, to its end."""
+    number, name = (snapshot.entry, snapshot.name) if snapshot else (0, logs.ORIGIN)
+    for entry in entries:
+        if entry.number != number + 1 or entry.before != name:
+            yield Fault("gap", b"entry %d after %d" % (entry.number, number), b"")
+        number, name = entry.number, entry.name
+    if (number, name) != head:
+        yield Fault("gap", b"the log ends with entry %d" % number, b"")
+
+
+def time_text(milliseconds):
+    """Returns the time of an entry as records have it."""
+    return f"{datetime.datetime.utcfromtimestamp(milliseconds // 1000).isoformat()}.{milliseconds % 1000:03}Z"
+
+
+def outcome_of(reply):
+    """Returns what a record says of a reply without the numbers of calls and lines: the outcome, the code and the commit number."""
+    code = re.match(rb'\{?"code":"(\w+)"', reply)
+    if code:
+        return "refused", code[1].decode(), plain.place_of(reply) or 0
+    result = re.search(rb'"result":"(\w+)"\}$', reply)
+    return result[1].decode(), "", plain.place_of(reply) or 0
+
+
+def record_faults(changes, replayed, base, skips=()):
+    """Yields a fault for each change of a gateway's record that the log doesn't have, or has otherwise.
+
+    `changes` are objects of the record. Those that got no answer are not compared, and neither are those up to the entry `base`, of a snapshot.
+    """
+    by_line = {(one.number, one.at): one for one in replayed}
+    for change in changes:
+        at = change["entry"], change["line"]
+        if change["outcome"] == "unknown" or at[0] <= base:
+            continue
+        text = json.dumps(change).encode()
+        one = by_line.get(at)
+        if at in skips or one is None:
+            if at not in skips or change.get("code") != "G7":
+                yield Fault("not in the log", text, b"")
+            continue
+        said = change["outcome"], change.get("code", ""), change.get("place", 0)
+        if said != outcome_of(one.reply) or (change["caller"], change["time"]) != (one.caller, time_text(one.entry.time)):
+            yield Fault("recorded otherwise", text, one.reply)
 
 
 def recorded(file):
@@ -104,23 +151,25 @@ def wrong_reads(program, domain, replayed, base, snapshot, events):
     for event in events:
         if event.get("read") and event["place"] >= base:
             answers[event["place"]][event["query"].encode()][plain.tail(event["answer"].encode())] += 1
-    lines, asked = [], []
+    lines, entries, numbers, asked = [], [], [], []
 
-    def ask(place):
+    def ask(place, entry):
         for query in answers.get(place, ()):
             asked.append((len(lines), place, query))
             lines.append(query)
+            entries.append(entry)
+            numbers.append(0)
 
-    ask(base)
+    ask(base, plain.NO_ENTRY)
     for one in replayed:
         lines.append(one.line)
+        entries.append(one.entry)
+        numbers.append(one.at)
         if one.reply.endswith(b'"committed"}'):
-            ask(plain.place_of(one.reply))
+            ask(plain.place_of(one.reply), one.entry)
     with plain.Plain(program, domain) as reference:
         list(reference.run(snapshot.lines if snapshot else []))
-        keeper = plain.Reference(reference, snapshot.tokens if snapshot else ())
-        keeper.place = base
-        replies = list(keeper.run(lines))
+        replies = list(plain.Reference(reference, snapshot).run(lines, entries, numbers))
     right = sum(answers[place][query][replies[at]] for at, place, query in asked)
     return sum(sum(counts.values()) for queries in answers.values() for counts in queries.values()) - right
 

@@ -1,14 +1,19 @@
 """Tests of the checker itself: planted faults make it fail. And of the tables of docs/GATEWAY.md. They need no program."""
 import datetime
+import hashlib
+import json
+import os
 import pathlib
 import re
+import socket
 import subprocess
 import tempfile
+import time
 import unittest
 from unittest import mock
 
 from regdtools import operations as table
-from gatewaytools import auditing, operations, rules, tools
+from gatewaytools import auditing, logs, network, operations, plain, removals, rules, tools
 
 TOKEN = "00000000-0000-4000-8000-00000000000"
 
@@ -131,6 +136,89 @@ class Faults(unittest.TestCase):
         self.assertEqual(kinds([(change(9), reply(1))], [], base=1), [])
 
 
+def entry(number, before, lines=(b"{}",), time=1000, **more):
+    """Returns the value of an entry, and its name."""
+    header = {"entry": number, "before": before, "time": time, "id": f"run.{number}", **more}
+    value = b"\n".join([json.dumps(header).encode(), *lines]) + b"\n"
+    name = hashlib.sha256(value).hexdigest()
+    return name.encode() + b" " + value, name
+
+
+class Chain(unittest.TestCase):
+    def setUp(self):
+        self.values, self.names = [], [logs.ORIGIN]
+        for number in range(1, 4):
+            value, name = entry(number, self.names[-1], callers=["spiffe://ex.org/a", ""], by=[1])
+            self.values.append(value)
+            self.names.append(name)
+
+    def entries(self):
+        return [logs.read_entry(number, value) for number, value in enumerate(self.values, 1)]
+
+    def test_nothing_wrong(self):
+        entries = self.entries()
+        self.assertEqual(list(auditing.gaps(entries, None, (3, self.names[3]))), [])
+        self.assertEqual((entries[0].lines, entries[0].sent, entries[0].time), ([b"{}"], [(1, "")], 1000))
+        snapshot = logs.Snapshot(2, self.names[2], 2, [], [])
+        self.assertEqual(list(auditing.gaps(entries[2:], snapshot, (3, self.names[3]))), [])
+
+    def test_a_bit(self):
+        for at in range(len(self.values[1])):
+            value = bytearray(self.values[1])
+            value[at] ^= 1
+            with self.assertRaises((logs.Damaged, ValueError)):
+                logs.read_entry(2, bytes(value))
+
+    def test_another_number(self):
+        with self.assertRaises(logs.Damaged):
+            logs.read_entry(3, self.values[1])
+
+    def test_entries_that_do_not_follow(self):
+        first, second, third = self.entries()
+        logs.follows(second, first.name, first.time)
+        for before, time in ((third.name, 0), (first.name, 1001)):
+            with self.assertRaises(logs.Damaged):
+                logs.follows(second, before, time)
+
+    def test_gaps(self):
+        first, second, third = self.entries()
+        other = second._replace(before=third.name)
+        for entries, snapshot, end in (([first, third], None, (3, third.name)), ([first, other, third], None, (3, third.name)),
+                                       ([first, second], None, (3, third.name)), ([first, second, third], None, (3, second.name)),
+                                       ([third], logs.Snapshot(2, "lost", 2, [], []), (3, third.name)), ([], None, (1, first.name))):
+            self.assertEqual({fault.kind for fault in auditing.gaps(entries, snapshot, end)}, {"gap"})
+
+
+class Records(unittest.TestCase):
+    """The record of a gateway, compared with the log."""
+
+    def setUp(self):
+        entry = plain.NO_ENTRY._replace(time=1_000_000_000_123)
+        self.replayed = [auditing.Replayed(number, change(number), rest(number), 2, "spiffe://ex.org/a", entry) for number in (7, 8)]
+        self.right = {"time": "2001-09-09T01:46:40.123Z", "caller": "spiffe://ex.org/a", "entry": 7, "line": 2, "place": 7, "outcome": "committed"}
+
+    def kinds(self, base=0, skips=(), **more):
+        return [fault.kind for fault in auditing.record_faults([{**self.right, **more}], self.replayed, base, skips)]
+
+    def test_nothing_wrong(self):
+        self.assertEqual(self.kinds(), [])
+        self.assertEqual(self.kinds(outcome="unknown", entry=0), [])
+        self.assertEqual(self.kinds(entry=99, base=99), [])
+        self.assertEqual(self.kinds(entry=9, outcome="refused", code="G7", place=0, skips={(9, 2)}), [])
+
+    def test_wrong(self):
+        for more in ({"time": "2001-09-09T01:46:40.124Z"}, {"caller": "spiffe://ex.org/b"}, {"place": 8}, {"outcome": "repeated"},
+                     {"outcome": "refused", "code": "O3"}):
+            self.assertEqual(self.kinds(**more), ["recorded otherwise"])
+        for more in ({"entry": 9}, {"line": 1}, {"skips": {(7, 2)}}):
+            self.assertEqual(self.kinds(**more), ["not in the log"])
+
+    def test_outcomes(self):
+        for reply, want in ((rest(7), ("committed", "", 7)), (b'"code":"O3","op":0,"place":7,"result":"refused"}', ("refused", "O3", 7)),
+                            (b'{"code":"L2"', ("refused", "L2", 0)), (b'"place":7,"replies":[],"result":"answered"}', ("answered", "", 7))):
+            self.assertEqual(auditing.outcome_of(reply), want)
+
+
 class StaleReads(unittest.TestCase):
     def test_order(self):
         write = {"from": 10, "to": 20, "place": 5, "reply": '"committed"}'}
@@ -154,6 +242,52 @@ class Go(unittest.TestCase):
             warning = tools.go_warning(version, datetime.date(*today))
             self.assertEqual(warning is None, oldest is None, version)
             self.assertIn(f"fixes go1.{oldest} and later" if oldest else "", warning or "")
+
+
+class Network(unittest.TestCase):
+    """A node `m` sends back what it gets from this process, the node `g`."""
+
+    def setUp(self):
+        self.network = network.Network(lambda: {"g": os.getpid()})
+        self.addCleanup(self.network.close)
+        listener = socket.create_server(("127.0.0.1", 0))
+        self.addCleanup(listener.close)
+        port = self.network.listen("m", listener.getsockname()[1])
+        self.conn = socket.create_connection(("127.0.0.1", port), 10)
+        self.addCleanup(self.conn.close)
+        self.inner, _ = listener.accept()
+        self.addCleanup(self.inner.close)
+
+    def comes(self, conn, seconds=0.2):
+        conn.settimeout(seconds)
+        try:
+            return conn.recv(10)
+        except TimeoutError:
+            return None
+
+    def test_directions(self):
+        with self.network.cut((["g"], ["m"])):
+            self.conn.sendall(b"there")
+            self.inner.sendall(b"back")
+            self.assertEqual(self.comes(self.conn, 10), b"back")
+            self.assertIsNone(self.comes(self.inner))
+        self.assertEqual(self.comes(self.inner, 10), b"there")
+
+    def test_delay(self):
+        self.network.set(["m"], ["g"], delay=0.3)
+        begin = time.monotonic()
+        self.inner.sendall(b"back")
+        self.assertEqual(self.comes(self.conn, 10), b"back")
+        self.assertGreaterEqual(time.monotonic() - begin, 0.3)
+        self.network.heal()
+        self.conn.shutdown(socket.SHUT_WR)
+        self.assertEqual(self.comes(self.inner, 10), b"")
+
+
+class Mutants(unittest.TestCase):
+    def test_tests(self):
+        for test in sorted({one.test[0] for one in removals.all_mutants()}):
+            self.assertEqual(len(removals.packages_of(tools.SOURCES, test)), 1, test)
 
 
 class Rules(unittest.TestCase):

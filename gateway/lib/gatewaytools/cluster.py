@@ -12,7 +12,7 @@ import time
 import urllib.error
 import urllib.request
 
-from gatewaytools import logs
+from gatewaytools import logs, network
 
 DOMAIN = "ex.org"
 
@@ -42,15 +42,21 @@ def wait_for(condition, seconds, what):
 
 
 class Etcd:
-    """A cluster whose members are started and killed one by one. Their data is in a folder."""
+    """A cluster whose members are started and killed one by one. Their data is in a folder. With a network, members and gateways reach each
+    other through it, and the tests don't."""
 
-    def __init__(self, folder, count=3, words=()):
+    def __init__(self, folder, count=3, words=(), has_network=False):
         self.folder, self.count, self.words = pathlib.Path(folder), count, list(words)
         shutil.rmtree(self.folder, ignore_errors=True)
         self.folder.mkdir(parents=True)
         self.clients = [free_port() for _ in range(count)]
         self.peers = [free_port() for _ in range(count)]
         self.members = [None] * count
+        self.gateways = []
+        self.network = network.Network(self.processes) if has_network else None
+        # those that members and gateways use
+        self.peer_ports = [self.led(f"m{number}", port) for number, port in enumerate(self.peers)]
+        self.client_ports = [self.led(f"m{number}", port) for number, port in enumerate(self.clients)]
         for number in range(count):
             self.start(number)
         for number in range(count):
@@ -62,29 +68,53 @@ class Etcd:
     def __exit__(self, *_):
         for number in range(self.count):
             self.kill(number)
+        if self.network:
+            self.network.close()
+
+    def led(self, name, port):
+        """Returns the port by which others reach a node."""
+        return self.network.listen(name, port) if self.network else port
+
+    def processes(self):
+        """Returns the numbers of the processes by the names of members and gateways."""
+        members = {f"m{number}": member.pid for number, member in enumerate(self.members) if member}
+        return members | {f"g{gateway.number}": gateway.process.pid for gateway in self.gateways if gateway.process}
 
     @property
     def urls(self):
         return [f"http://127.0.0.1:{port}" for port in self.clients]
 
+    @property
+    def urls_of_gateways(self):
+        return [f"http://127.0.0.1:{port}" for port in self.client_ports] if self.network else self.urls
+
     def start(self, number):
-        client, peer = self.urls[number], f"http://127.0.0.1:{self.peers[number]}"
-        cluster = ",".join(f"m{other}=http://127.0.0.1:{port}" for other, port in enumerate(self.peers))
+        client, peer, told = self.urls[number], f"http://127.0.0.1:{self.peers[number]}", f"http://127.0.0.1:{self.peer_ports[number]}"
+        cluster = ",".join(f"m{other}=http://127.0.0.1:{port}" for other, port in enumerate(self.peer_ports))
         with open(self.folder / f"{number}.log", "ab") as log:
             self.members[number] = subprocess.Popen(
                 ["etcd", "--name", f"m{number}", "--data-dir", str(self.folder / str(number)), "--listen-client-urls", client,
-                 "--advertise-client-urls", client, "--listen-peer-urls", peer, "--initial-advertise-peer-urls", peer,
+                 "--advertise-client-urls", client, "--listen-peer-urls", peer, "--initial-advertise-peer-urls", told,
                  "--initial-cluster", cluster, "--initial-cluster-state", "new", "--logger", "zap", "--log-level", "error", *self.words],
                 stdout=log, stderr=log)
 
     def wait(self, number):
+        """Waits until a member answers. On a busy machine that takes long after a start."""
         def answers():
+            if self.members[number].poll() is not None:
+                raise RuntimeError(f"etcd member {number} has ended: {self.said(number)}")
             try:
                 logs.Store([self.urls[number]]).get("x")
                 return True
             except OSError:
                 return False
-        wait_for(answers, 30, f"etcd member {number}")
+        try:
+            wait_for(answers, 90, "")
+        except TimeoutError:
+            raise TimeoutError(f"etcd member {number}: {self.said(number)}") from None
+
+    def said(self, number):
+        return (self.folder / f"{number}.log").read_text(errors="replace")[-1000:]
 
     def kill(self, number):
         if self.members[number].poll() is None:
@@ -95,12 +125,12 @@ class Etcd:
         """Replaces the data of all members by a backup, and starts them again."""
         for number in range(self.count):
             self.kill(number)
-        cluster = ",".join(f"m{other}=http://127.0.0.1:{port}" for other, port in enumerate(self.peers))
+        cluster = ",".join(f"m{other}=http://127.0.0.1:{port}" for other, port in enumerate(self.peer_ports))
         for number in range(self.count):
             data = self.folder / str(number)
             shutil.rmtree(data)
             subprocess.run(["etcdctl", "snapshot", "restore", str(backup), "--name", f"m{number}", "--data-dir", str(data), "--initial-cluster", cluster,
-                            "--initial-advertise-peer-urls", f"http://127.0.0.1:{self.peers[number]}", "--initial-cluster-token", "restored"],
+                            "--initial-advertise-peer-urls", f"http://127.0.0.1:{self.peer_ports[number]}", "--initial-cluster-token", "restored"],
                            env={**os.environ, "ETCDCTL_API": "3"}, check=True, capture_output=True)
         for number in range(self.count):
             self.start(number)
@@ -139,6 +169,7 @@ class Gateway:
         self.folder.mkdir(parents=True, exist_ok=True)
         self.port, self.fresh, self.status_port = free_port(), free_port(), free_port()
         self.process = None
+        self.etcd.gateways.append(self)
         self.start()
 
     def __enter__(self):
@@ -154,7 +185,7 @@ class Gateway:
     def start(self, waits=True):
         with open(self.log, "ab") as log:
             self.process = subprocess.Popen(
-                [self.program, "-domain", DOMAIN, "-regd", self.regd, "-etcd", ",".join(self.etcd.urls), "-name", f"g{self.number}",
+                [self.program, "-domain", DOMAIN, "-regd", self.regd, "-etcd", ",".join(self.etcd.urls_of_gateways), "-name", f"g{self.number}",
                  "-listen", f"127.0.0.1:{self.port}", "-fresh", f"127.0.0.1:{self.fresh}", "-status", f"127.0.0.1:{self.status_port}",
                  *self.words], stdout=subprocess.PIPE, stderr=log)
         if waits and not self.process.stdout.readline().startswith(b'{"listening"'):

@@ -14,11 +14,12 @@ GATEWAYS = 3
 
 
 class Site:
-    """Three etcd members, three gateways, and callers that send for some time."""
+    """Three etcd members, three gateways, and callers that send for some time. With a network, members and gateways reach the members through
+    it."""
 
-    def __init__(self, programs, folder, etcd_words=(), regds=None):
+    def __init__(self, programs, folder, etcd_words=(), regds=None, has_network=False):
         self.programs, self.folder = programs, pathlib.Path(folder)
-        self.etcd = cluster.Etcd(self.folder / "etcd", MEMBERS, etcd_words)
+        self.etcd = cluster.Etcd(self.folder / "etcd", MEMBERS, etcd_words, has_network)
         self.gateways = []
         for number in range(GATEWAYS):
             regd = (regds or {}).get(number, programs.regd)
@@ -175,6 +176,58 @@ def snapshots(site):
     site.notes.append(f"{sum(made)} snapshots")
 
 
+# ---- the faults of the network
+
+ALL_MEMBERS = [f"m{number}" for number in range(MEMBERS)]
+ALL_GATEWAYS = [f"g{number}" for number in range(GATEWAYS)]
+
+
+def leader_and_others(site):
+    """Returns the names of the member that leads and of the others."""
+    leader = f"m{site.etcd.leader()}"
+    return [leader], [name for name in ALL_MEMBERS if name != leader]
+
+
+def cut_off_gateway(site):
+    """A gateway that reaches no member, while the others do. It answers queries of the usual port."""
+    with site.etcd.network.cut((["g0"], ALL_MEMBERS), (ALL_MEMBERS, ["g0"])):
+        time.sleep(6)
+        [answer] = site.gateways[0].call(cluster.page(), seconds=2)
+        assert answer.endswith(b'"answered"}'), answer
+        assert site.gateways[0].get("/ready/changes")[0] == 503, "a gateway that is cut off is ready for changes"
+
+
+def cut_off_leader(site):
+    """A leader that reaches no other member, and that gateways reach: they must not take what it has for the end of the log."""
+    leader, others = leader_and_others(site)
+    with site.etcd.network.cut((leader, others), (others, leader)):
+        time.sleep(6)
+
+
+def lost_one_way(site):
+    """What is sent in one direction is lost: the answers to a gateway, its requests, and what the leader sends to the others."""
+    with site.etcd.network.cut((ALL_MEMBERS, ["g1"])):
+        time.sleep(4)
+    with site.etcd.network.cut((["g2"], ALL_MEMBERS)):
+        time.sleep(4)
+    leader, others = leader_and_others(site)
+    with site.etcd.network.cut((leader, others)):
+        time.sleep(4)
+
+
+def far_members(site):
+    """Members that are far from each other, and further from the gateways."""
+    site.etcd.network.set(ALL_MEMBERS, ALL_MEMBERS, delay=0.05)
+    for gateway, delay in zip(ALL_GATEWAYS, (0.05, 0.15, 0.3)):
+        site.etcd.network.set([gateway], ALL_MEMBERS, delay=delay)
+        site.etcd.network.set(ALL_MEMBERS, [gateway], delay=delay)
+    time.sleep(6)
+    site.etcd.network.heal()
+
+
+OF_NETWORK = {fault.__name__: fault for fault in (cut_off_gateway, cut_off_leader, lost_one_way, far_members)}
+
+
 def everything(site):
     for fault in (killed_regds, killed_gateways, killed_leader, killed_follower, stopped_regd):
         fault(site)
@@ -182,6 +235,7 @@ def everything(site):
 
 FAULTS = {fault.__name__: fault for fault in (nothing, killed_regds, killed_gateways, killed_leader, killed_follower, lost_majority,
                                               stopped_members, stopped_regd, hung_regd, stopped_gateway, killed_all, snapshots, everything)}
+FAULTS |= OF_NETWORK
 
 
 # ---- what is checked
@@ -238,7 +292,7 @@ def sent_again(site, acknowledged):
 def run(programs, folder, name, callers=40, fresh=False):
     """Runs one fault under load. Returns the number of acknowledged changes, the answers of load, notes and faults."""
     fault = FAULTS[name]
-    with Site(programs, folder) as site:
+    with Site(programs, folder, has_network=name in OF_NETWORK) as site:
         done = subprocess.run([programs.load, "-addresses", f"127.0.0.1:{site.gateways[0].port}", "-populate", "-seconds", "0"], capture_output=True)
         if done.returncode:
             raise RuntimeError(done.stderr)
@@ -266,4 +320,5 @@ def run(programs, folder, name, callers=40, fresh=False):
         return len(acknowledged), seen, site.notes, found
 
 
-LENGTHS = {"nothing": 4, "everything": 26, "snapshots": 16, "stopped_members": 15, "hung_regd": 18, "killed_all": 14, "killed_leader": 12}
+LENGTHS = {"nothing": 4, "everything": 26, "snapshots": 16, "stopped_members": 15, "hung_regd": 18, "killed_all": 14, "killed_leader": 12,
+           "lost_one_way": 17}

@@ -54,10 +54,15 @@ def changed(folder, mutant):
             (folder / path).write_text(text)
 
 
+def packages_of(folder, test):
+    """Returns the folders of the packages that have a unit test of this name. Names have to be different, since a mutant names no package."""
+    return sorted({file.parent for file in folder.rglob("*_test.go") if f"func {test}(" in file.read_text()})
+
+
 def noticed(folder, mutant, env):
     """Runs the test of a mutant with it in a folder of sources. Returns the tests that fail then."""
     [test] = mutant.test
-    package = next(file.parent for file in sorted(folder.rglob("*_test.go")) if f"func {test}(" in file.read_text())
+    [package] = packages_of(folder, test)
     words = ["test", "-count=1", "-vet=off", "-ldflags=-s -w", "-timeout", "70s", "-run", f"^{test}$", f"./{package.relative_to(folder)}"]
     with changed(folder, mutant), tools.started_go(*words, cwd=folder, env=env, stdout=subprocess.PIPE, stderr=subprocess.STDOUT, text=True,
                                                    errors="replace", start_new_session=True) as process:

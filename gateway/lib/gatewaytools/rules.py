@@ -13,7 +13,10 @@ LISTINGS = (b'"page"', b'"children"', b'"authorised"', b'"trust"')
 MOST_LISTINGS = 16
 MOST_OPS = 64
 MOST_BYTES = 1 << 20
-MOST_TOKENS = 65536
+# for how many milliseconds tokens are retained, and how many bytes they may take, if an entry doesn't say it
+TOKEN_TIME, TOKEN_ROOM = 300_000, 1 << 30
+# about what a token takes in addition to its reply; how many entries are between two counts of the bytes
+TOKEN_OWN_BYTES, COUNT_INTERVAL = 256, 16
 ID_BYTES, TOKEN_BYTES = 44, 64
 DEFAULTS = {"hint": "", "expiry": 0, "x509_svid_ttl": 0, "jwt_svid_ttl": 0, "domains": [], "mode": "restrict", "match": "superset"}
 

@@ -349,30 +349,40 @@ class SecureEtcd(cluster.Etcd):
 
 
 def tokens(programs, folder):
-    """The last 65,536 tokens are retained and no others, also by a gateway that starts again, from the log and from a snapshot."""
-    count = rules.MOST_TOKENS + 100
+    """Changes with tokens are sent again after over 65,536 others, which the gateway makes at its highest rate: each gets its first replies, also from
+    a gateway that starts again, from the log and from a snapshot. When a token's time is over, by the times of the log, it is forgotten."""
+    count = 80_000
     lines = [b'{"ops":[{"op":"prune","before":0}],"token":"00000000-0000-4000-8000-%012x"}' % number for number in range(count)]
-    with cluster.Etcd(pathlib.Path(folder) / "etcd", 1) as etcd, cluster.Gateway(programs.gateway, programs.regd, etcd, folder, 0) as gateway:
+    folder = pathlib.Path(folder)
+    with cluster.Etcd(folder / "etcd", 1) as etcd, cluster.Gateway(programs.gateway, programs.regd, etcd, folder / "usual", 0) as gateway:
+        begin = time.monotonic()
         first = differential.answers_of(gateway.port, b"".join(line + b"\n" for line in lines))
+        rate = count / (time.monotonic() - begin)
         expect(all(answer.endswith(b'"committed"}') for answer in first), True, "all changes")
 
-        def boundary(oldest):
-            """Checks which token is the oldest one. Afterwards the next one is."""
-            repeated, again = gateway.call(lines[oldest], lines[oldest - 1])
-            expect(plain.tail(repeated), plain.tail(first[oldest]).replace(b'"committed"}', b'"repeated"}'), "the oldest retained token")
-            expect(again.endswith(b'"committed"}'), True, "a forgotten token")
+        def repeats(some):
+            """Sends some changes again, each of which has to be repeated."""
+            again = differential.answers_of(gateway.port, b"".join(lines[number] + b"\n" for number in some))
+            want = [plain.tail(first[number]).replace(b'"committed"}', b'"repeated"}') for number in some]
+            expect([plain.tail(answer) for answer in again] == want, True, "all repeats")
 
-        boundary(100)
+        repeats(range(count))
         gateway.kill()
         gateway.start()
-        boundary(101)
+        repeats(range(0, count, 7))
         words = [programs.gateway, "-domain", cluster.DOMAIN, "-etcd", etcd.urls[0], "-regd", programs.regd, "-snapshot", "-keep", "1"]
         subprocess.run(words, check=True, capture_output=True)
         gateway.kill()
         gateway.start()
-        boundary(102)
-        expect(gateway.status()["tokens"], rules.MOST_TOKENS, "tokens")
-    return f"{count} tokens, the oldest retained one as expected, three times"
+        repeats(range(3, count, 7))
+        expect(gateway.status()["tokens"], count, "tokens")
+        short = ["-prefix", "short/", "-limit-answer", "2s", "-token-time", "2s"]
+        with cluster.Gateway(programs.gateway, programs.regd, etcd, folder / "short", 1, short) as other:
+            for _ in range(2):
+                for result in (b'"committed"}', b'"repeated"}'):
+                    expect(other.call(lines[0])[0].endswith(result), True, f"a change {result.decode()}")
+                time.sleep(2.5)
+    return f"{count} changes at {rate:.0f} a second, all repeated; forgotten after their time"
 
 
 # ---- many callers

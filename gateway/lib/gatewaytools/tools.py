@@ -12,12 +12,12 @@ TOP = next(top for top in pathlib.Path(__file__).resolve().parents if (top / "HA
 SOURCES = TOP / "gateway"
 # the commands that are needed, by their Debian packages
 COMMANDS = {"go": "golang-go", "etcd": "etcd-server", "etcdctl": "etcd-client", "haproxy": "haproxy", "openssl": "openssl", "jq": "jq", "nc": "netcat-openbsd", "curl": "curl",
-            "systemd-analyze": "systemd"}
+            "systemd-analyze": "systemd", "zsh": "zsh", "fish": "fish"}
 
 # the number of a release of Go, and its year and month
 KNOWN_GO = 24, 2025, 2
 
-Programs = collections.namedtuple("Programs", "gateway regd load")
+Programs = collections.namedtuple("Programs", "gateway regd load regdctl", defaults=[""])
 
 
 def commands_of(parts):
@@ -26,6 +26,7 @@ def commands_of(parts):
     alone = ("fast", "unit-race", "fuzz/", "oracle", "removals")
     if not all(part.startswith(alone) for part in parts):
         commands += ["etcd", "etcdctl", "haproxy", "openssl", "curl"]
+    commands += ["zsh", "fish"] * ("client/shell" in parts) + ["nc"] * ("client/speed" in parts)
     return commands + ["systemd-analyze"] * ("operation/units" in parts)
 
 
@@ -83,9 +84,9 @@ def warn_of_go():
 
 
 def build(folder, regd, *words):
-    """Builds the gateway and the load generator in a folder outside the tree."""
+    """Builds the gateway, its client and the load generator in a folder outside the tree."""
     folder = pathlib.Path(folder)
     folder.mkdir(parents=True, exist_ok=True)
-    for name, package in (("regd-gateway", "."), ("load", "./load")):
+    for name, package in (("regd-gateway", "."), ("load", "./load"), ("regdctl", "./regdctl")):
         go("build", *words, "-o", str(folder / name), package, check=True)
-    return Programs(str(folder / "regd-gateway"), os.fspath(regd), str(folder / "load"))
+    return Programs(str(folder / "regd-gateway"), os.fspath(regd), str(folder / "load"), str(folder / "regdctl"))

@@ -31,12 +31,18 @@ type Server struct {
 
 	untilBefore int // transactions
 	before      func()
+
+	leases map[string]map[string]bool // their keys
+
+	untilRange  int // requests for keys
+	beforeRange func()
 }
 
 // Counts says what a server was asked for.
 type Counts struct {
 	Requests     int // but for watches and states
 	Transactions int // with a condition
+	Refused      int // of those
 	Pages        int // transactions without one
 	Watches      int
 	Pairs, Bytes int // the most pairs, and bytes of their values, in one answer
@@ -53,17 +59,20 @@ type object = map[string]any
 
 // New starts a server.
 func New() *Server {
-	s := &Server{values: map[string][]byte{}, revision: 1, changed: make(chan struct{})}
+	s := &Server{values: map[string][]byte{}, revision: 1, changed: make(chan struct{}),
+		leases: map[string]map[string]bool{}}
 	mux := http.NewServeMux()
 	mux.HandleFunc("/v3/watch", s.watch)
 	for path, handle := range map[string]func(*request) object{
 		"/v3/kv/range": s.find, "/v3/kv/txn": s.transact,
-		"/v3/maintenance/status": s.status,
+		"/v3/maintenance/status": s.status, "/v3/lease/grant": s.grant, "/v3/lease/keepalive": s.renew,
+		"/v3/lease/revoke": s.revoke,
 	} {
 		mux.HandleFunc(path, s.handler(handle))
 	}
 	mux.HandleFunc("/metrics", func(w http.ResponseWriter, _ *http.Request) {
-		fmt.Fprint(w, "# TYPE etcd_server_quota_backend_bytes gauge\netcd_server_quota_backend_bytes 2.097152e+06\n")
+		fmt.Fprint(w,
+			"# TYPE etcd_server_quota_backend_bytes gauge\netcd_server_quota_backend_bytes 2.097152e+06\n")
 	})
 	s.Server = httptest.NewServer(mux)
 	return s
@@ -78,7 +87,8 @@ func (s *Server) Refuse(count int) { s.mu.Lock(); s.refuse = count; s.mu.Unlock(
 // Fill makes the server refuse what needs space, or no longer.
 func (s *Server) Fill(isFull bool) { s.mu.Lock(); s.isFull = isFull; s.mu.Unlock() }
 
-// HoldAnswers makes the server execute transactions with a condition, and not answer them until the function that it returns is called.
+// HoldAnswers makes the server execute transactions with a condition, and not answer them until the function that it
+// returns is called.
 func (s *Server) HoldAnswers() (release func()) {
 	holding := make(chan struct{})
 	s.mu.Lock()
@@ -105,11 +115,22 @@ func (s *Server) Before(number int, call func()) {
 	s.mu.Unlock()
 }
 
-// begin notes that a transaction has arrived.
-func (s *Server) begin() {
+// BeforeRange is Before for requests for keys that are no transactions.
+func (s *Server) BeforeRange(number int, call func()) {
 	s.mu.Lock()
-	s.untilBefore--
-	isDue, call := s.untilBefore == 0, s.before
+	s.untilRange, s.beforeRange = number, call
+	s.mu.Unlock()
+}
+
+// begin notes that a request has arrived.
+func (s *Server) begin(isTransaction bool) {
+	s.mu.Lock()
+	left, call := &s.untilRange, s.beforeRange
+	if isTransaction {
+		left, call = &s.untilBefore, s.before
+	}
+	*left--
+	isDue := *left == 0
 	s.mu.Unlock()
 	if isDue {
 		call()
@@ -148,6 +169,15 @@ func (s *Server) Backup() map[string][]byte {
 // Restore makes the server have what a backup has, and nothing else.
 func (s *Server) Restore(backup map[string][]byte) { s.mu.Lock(); s.values = backup; s.mu.Unlock() }
 
+// Damage flips a bit of a value, as a broken disk does.
+func (s *Server) Damage(key string, at int) {
+	s.mu.Lock()
+	defer s.mu.Unlock()
+	value := append([]byte{}, s.values[key]...)
+	value[at] ^= 1
+	s.values[key] = value
+}
+
 // Puts returns the keys that were stored, in the order of that.
 func (s *Server) Puts() (keys []string) {
 	s.mu.Lock()
@@ -164,6 +194,7 @@ type request struct {
 	Key           []byte
 	RangeEnd      []byte `json:"range_end"`
 	Value         []byte
+	Lease, ID     string
 	Limit         int  `json:"limit,string"`
 	KeysOnly      bool `json:"keys_only"`
 	Target        string
@@ -195,7 +226,8 @@ func (r *request) puts() bool {
 	return false
 }
 
-// hold waits while answers are held. An answer that is short enough for the server's buffer is sent when its handler is over.
+// hold waits while answers are held. An answer that is short enough for the server's buffer is sent when its handler is
+// over.
 func (s *Server) hold(ctx context.Context) {
 	s.mu.Lock()
 	holding := s.holding
@@ -216,9 +248,7 @@ func (s *Server) handler(handle func(*request) object) http.HandlerFunc {
 			http.Error(w, err.Error(), http.StatusBadRequest)
 			return
 		}
-		if r.URL.Path == "/v3/kv/txn" {
-			s.begin()
-		}
+		s.begin(r.URL.Path == "/v3/kv/txn")
 		if len(in.Compare) > 0 {
 			defer s.hold(r.Context())
 		}
@@ -233,6 +263,9 @@ func (s *Server) handler(handle func(*request) object) http.HandlerFunc {
 		}
 		if s.refuse > 0 {
 			s.refuse--
+			if len(in.Compare) > 0 {
+				s.counts.Refused++
+			}
 			http.Error(w, "refused", http.StatusServiceUnavailable)
 			return
 		}
@@ -256,6 +289,44 @@ func (s *Server) Alarm(alarms ...string) { s.mu.Lock(); s.alarms = alarms; s.mu.
 
 func (s *Server) status(*request) object {
 	return object{"dbSize": "1048576", "dbSizeInUse": "4096", "errors": s.alarms}
+}
+
+// grant answers with a new lease, which ends when EndLeases is called.
+func (s *Server) grant(*request) object {
+	id := strconv.Itoa(len(s.leases) + 1)
+	s.leases[id] = map[string]bool{}
+	return object{"ID": id}
+}
+
+// renew answers whether there is a lease.
+func (s *Server) renew(in *request) object {
+	if s.leases[in.ID] == nil {
+		return object{"result": object{"ID": in.ID}}
+	}
+	return object{"result": object{"ID": in.ID, "TTL": "15"}}
+}
+
+// EndLeases ends all leases, as if they were not renewed, and deletes their keys.
+func (s *Server) EndLeases() {
+	s.mu.Lock()
+	defer s.mu.Unlock()
+	for id := range s.leases {
+		s.endLease(id)
+	}
+}
+
+// revoke ends a lease.
+func (s *Server) revoke(in *request) object {
+	s.endLease(in.ID)
+	return object{}
+}
+
+// endLease deletes the keys of a lease. s.mu is locked.
+func (s *Server) endLease(id string) {
+	for key := range s.leases[id] {
+		delete(s.values, key)
+	}
+	s.leases[id] = nil
 }
 
 func (s *Server) find(in *request) object {
@@ -286,6 +357,9 @@ func (s *Server) find(in *request) object {
 func (s *Server) put(in *request) object {
 	s.revision++
 	s.values[string(in.Key)] = in.Value
+	if in.Lease != "" {
+		s.leases[in.Lease][string(in.Key)] = true
+	}
 	s.tell(event{s.revision, in.Key, in.Value, false})
 	return object{}
 }
@@ -325,7 +399,8 @@ func (s *Server) transact(in *request) object {
 	holds := true
 	for _, one := range in.Compare {
 		value, has := s.values[string(one.Key)]
-		holds = holds && (one.Target == "CREATE" && has == (one.Result == "GREATER") || one.Target == "VALUE" && has && string(value) == string(one.Value))
+		holds = holds && (one.Target == "CREATE" && has == (one.Result == "GREATER") ||
+			one.Target == "VALUE" && has && string(value) == string(one.Value))
 	}
 	steps := in.Success
 	if !holds {
@@ -380,8 +455,10 @@ func (s *Server) watch(w http.ResponseWriter, r *http.Request) {
 			if one.isDelete && len(from.Filters) > 0 { // which is NODELETE
 				continue
 			}
-			if one.revision >= from.StartRevision && string(from.Key) <= string(one.key) && string(one.key) < string(from.RangeEnd) {
-				out.Encode(object{"result": object{"events": []object{{"kv": object{"key": one.key, "value": one.value}}}}})
+			if one.revision >= from.StartRevision && string(from.Key) <= string(one.key) &&
+				string(one.key) < string(from.RangeEnd) {
+				event := object{"kv": object{"key": one.key, "value": one.value}}
+				out.Encode(object{"result": object{"events": []object{event}}})
 			}
 		}
 		w.(http.Flusher).Flush()

@@ -1,12 +1,13 @@
-// Package regdtest has a regd in miniature for unit tests. A test binary calls Main first in TestMain, and names itself as the program.
+// Package regdtest has a regd in miniature for unit tests. A test binary calls Main first in TestMain, and names itself
+// as the program.
 //
-// It knows prune, which commits and reports its number, show, after, and token, which it ignores. Some hints in a line
-// make it misbehave: L5, L6, L7, L8 and O8 are replied as codes, KILL ends the process, HANG makes it answer nothing
-// more on this connection, and SLOW makes it take a tenth of a second. With WAIT a line takes a second, and with HALT
-// four seconds, in which the other connections are answered. LARGE makes a reply of 100 kB. With LATE a change is seen
-// by the other connections after two seconds. With AGENT a prune shows an agent. With DROP there is no reply, with TWICE
-// it comes twice, and with SWAP after that to the next line, as if regd were wrong. For the domain shared.org the
-// connections number their calls together, and for hung.org it never listens.
+// It knows prune, which commits and reports its number, show, which shows two entries, after, and token, which it
+// ignores. Some hints in a line make it misbehave: L5, L6, L7, L8 and O8 are replied as codes, KILL ends the process,
+// HANG makes it answer nothing more on this connection, and SLOW makes it take a tenth of a second. With WAIT a line
+// takes a second, and with HALT four seconds, in which the other connections are answered. LARGE makes a reply of 100
+// kB. With LATE a change is seen by the other connections after two seconds. With AGENT a prune shows an agent. With
+// DROP there is no reply, with TWICE it comes twice, and with SWAP after that to the next line, as if regd were wrong.
+// For the domain shared.org the connections number their calls together, and for hung.org it never listens.
 package regdtest
 
 import (
@@ -82,6 +83,30 @@ func (b *book) serve(conn net.Conn, isWriter bool) {
 	}
 }
 
+// wait takes the time that a line asks for, in which the other connections are answered.
+func wait(text []byte) {
+	for word, long := range map[string]time.Duration{"WAIT": time.Second, "HALT": 4 * time.Second} {
+		if bytes.Contains(text, []byte(word)) {
+			time.Sleep(long)
+		}
+	}
+}
+
+// entryIDs is what the IDs of the entries that there are begin with.
+const entryIDs = "00000000-0000-4000-8000-"
+
+// entryOf returns the reply to a show: two entries are there.
+func entryOf(id string) string {
+	const form = `{"entry":{"id":"%s","identity":"spiffe://ex.org/%s","revision":%d}}`
+	switch strings.TrimPrefix(id, entryIDs) {
+	case "000000000001":
+		return fmt.Sprintf(form, id, "team/web", 3)
+	case "000000000002":
+		return fmt.Sprintf(form, id, "other/web", 4)
+	}
+	return `{"entry":null}`
+}
+
 // send sends a reply, and the one that was kept back, unless the line says otherwise. It returns a reply that is to be
 // sent after the next one.
 func send(conn net.Conn, text []byte, reply, kept string) string {
@@ -106,7 +131,7 @@ func (b *book) nextCall() int {
 
 func (b *book) reply(text []byte, isWriter bool) (reply string, isCall bool) {
 	var request struct {
-		Ops   []struct{ Op, Hint string }
+		Ops   []struct{ Op, Hint, ID string }
 		After uint64
 	}
 	if json.Unmarshal(text, &request) != nil {
@@ -115,11 +140,7 @@ func (b *book) reply(text []byte, isWriter bool) (reply string, isCall bool) {
 	if bytes.Contains(text, []byte("HANG")) {
 		select {}
 	}
-	for word, long := range map[string]time.Duration{"WAIT": time.Second, "HALT": 4 * time.Second} {
-		if bytes.Contains(text, []byte(word)) {
-			time.Sleep(long)
-		}
-	}
+	wait(text)
 	b.mu.Lock()
 	defer b.mu.Unlock()
 	for _, code := range []string{"L5", "L6", "L7", "L8", "O8"} {
@@ -149,13 +170,22 @@ func (b *book) reply(text []byte, isWriter bool) (reply string, isCall bool) {
 		if op.Op == "prune" {
 			b.place++
 			if bytes.Contains(text, []byte("AGENT")) {
-				return fmt.Sprintf(`"place":%d,"replies":[{"agent":{"id":"a","selectors":[]}}],"result":"committed"`, b.place), true
+				const shown = `"replies":[{"agent":{"id":"a","selectors":[]}}]`
+				return fmt.Sprintf(`"place":%d,%s,"result":"committed"`, b.place, shown), true
 			}
-			return fmt.Sprintf(`"place":%d,"replies":[{"pruned":["%d"]}],"result":"committed"`, b.place, b.place), true
+			return fmt.Sprintf(`"place":%d,"replies":[{"pruned":["%d"]}],"result":"committed"`,
+				b.place, b.place), true
 		}
 	}
-	if bytes.Contains(text, []byte("LARGE")) {
-		return fmt.Sprintf(`"place":%d,"replies":["%s"],"result":"answered"`, place, strings.Repeat("x", 100_000)), true
+	shown := ""
+	switch {
+	case bytes.Contains(text, []byte(entryIDs)):
+		for _, op := range request.Ops {
+			shown += "," + entryOf(op.ID)
+		}
+		shown = shown[1:]
+	case bytes.Contains(text, []byte("LARGE")):
+		shown = `"` + strings.Repeat("x", 100_000) + `"`
 	}
-	return fmt.Sprintf(`"place":%d,"replies":[],"result":"answered"`, place), true
+	return fmt.Sprintf(`"place":%d,"replies":[%s],"result":"answered"`, place, shown), true
 }

@@ -46,7 +46,8 @@ func (m *Maker) certificate(subject, issuer string, public any, bytes int) []byt
 	id := &url.URL{Scheme: "spiffe", Host: "ex.org", Path: "/operator"}
 	made := &x509.Certificate{SerialNumber: big.NewInt(m.serial), Subject: pkix.Name{CommonName: subject},
 		NotBefore: time.Now().Add(-time.Hour), NotAfter: time.Now().Add(time.Hour), URIs: []*url.URL{id},
-		IsCA: m.serial%2 == 0, BasicConstraintsValid: true, ExtKeyUsage: []x509.ExtKeyUsage{x509.ExtKeyUsageClientAuth}}
+		IsCA: m.serial%2 == 0, BasicConstraintsValid: true,
+		ExtKeyUsage: []x509.ExtKeyUsage{x509.ExtKeyUsageClientAuth}}
 	if bytes > 0 {
 		made.ExtraExtensions = []pkix.Extension{{Id: []int{1, 2, 3, 4}, Value: make([]byte, bytes)}}
 	}
@@ -124,7 +125,8 @@ func (m *Maker) Chain(number int) (kind string, chain [][]byte) {
 	case 5:
 		return "a large chain", [][]byte{m.usual(), m.signed("nobody", "nobody", 17_000+m.random.Intn(30_000))}
 	case 6:
-		return "a circle", [][]byte{m.usual(), m.signed("a", "b", 0), m.signed("b", "a", 0), m.signed("b", "nobody", 0)}
+		return "a circle",
+			[][]byte{m.usual(), m.signed("a", "b", 0), m.signed("b", "a", 0), m.signed("b", "nobody", 0)}
 	case 7:
 		return "damaged bytes", [][]byte{m.usual(), m.Damage(m.usual())}
 	case 8:
