@@ -19,7 +19,7 @@ from regdtools.program import ROOT, program
 
 PORT = "8471"
 SECONDS = 120
-TOOLS = ["bash", "jq", "nc", "openssl", "python3"]
+TOOLS = ["bash", "go", "jq", "nc", "openssl", "python3"]
 FENCE = re.compile(r"(\s*)(`{3,})\s*(\S*)")
 
 

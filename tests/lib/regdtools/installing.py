@@ -2,9 +2,10 @@
 
 scripts/install and scripts/package take the same list of files. Below the prefix are
 
-    bin                     regd, regd-gateway
+    bin                     regd, regd-gateway, regdctl
     lib/systemd/system      the units of deploy/, with the paths of these programs
     lib/sysusers.d          the users of the units
+    share/bash-completion, share/zsh, share/fish    the completion of regdctl
     share/doc/regd          the pages at the root, docs/ and examples/
     share/regd/deploy       the other files of deploy/
     share/regd/manifest     what scripts/install has put there; a package has none
@@ -20,6 +21,7 @@ import os
 import pathlib
 import re
 import shutil
+import subprocess
 import sys
 import tempfile
 from typing import NamedTuple
@@ -60,27 +62,43 @@ def regular(folder):
     return [path for path in sorted(folder.iterdir()) if path.is_file() and not path.name.startswith(".")]
 
 
-def built_gateway():
-    """Returns the gateway, which the command go builds from the sources as they are."""
+# where shells look for the completion of regdctl below a prefix
+COMPLETIONS = {
+    "bash": "share/bash-completion/completions/regdctl",
+    "zsh": "share/zsh/vendor-completions/_regdctl",
+    "fish": "share/fish/vendor_completions.d/regdctl.fish",
+}
+
+
+def built_by_go():
+    """Returns the items that the command go builds from the sources as they are: the gateway, and its client with completions."""
     if not shutil.which("go"):
         raise Missing("the command go is missing (Debian's package golang-go)")
     tools.warn_of_go()
     with tempfile.TemporaryDirectory(prefix="regd-install-") as folder:
-        program = pathlib.Path(folder) / "regd-gateway"
         # go stores what it compiles in a folder that one of these variables names
         places = {} if {"HOME", "GOPATH"} & {*os.environ} else {"GOPATH": f"{folder}/path"}
         if not {"HOME", "GOCACHE", "XDG_CACHE_HOME"} & {*os.environ}:
             places["GOCACHE"] = f"{folder}/cache"
-        if tools.go("build", "-trimpath", "-buildvcs=false", "-o", str(program), ".", env=places).returncode:
-            raise Missing("the gateway doesn't compile")
-        return program.read_bytes()
+        found = []
+        for name, package in (("regd-gateway", "."), ("regdctl", "./regdctl")):
+            program = pathlib.Path(folder) / name
+            # the client is for other machines, too, so it needs no library
+            env = places | ({"CGO_ENABLED": "0"} if name == "regdctl" else {})
+            if tools.go("build", "-trimpath", "-buildvcs=false", "-o", str(program), package, env=env).returncode:
+                raise Missing(f"{name} doesn't compile")
+            found.append(Item(f"bin/{name}", program.read_bytes(), True))
+        for shell, path in COMPLETIONS.items():
+            script = subprocess.run([program, "completion", shell], check=True, capture_output=True).stdout
+            found.append(Item(path, script, False))
+        return found
 
 
 def items(prefix):
     """Returns the files of an installation at a prefix. The program is the proved one, and nothing here builds it."""
     if not is_current(BUILT):
         raise Missing("regd is not proved and built from the sources as they are: run scripts/prove first")
-    found = [Item("bin/regd", BUILT.read_bytes(), True), Item("bin/regd-gateway", built_gateway(), True)]
+    found = [Item("bin/regd", BUILT.read_bytes(), True), *built_by_go()]
     for path in regular(DEPLOY):
         text = path.read_bytes()
         if path.suffix in UNITS:

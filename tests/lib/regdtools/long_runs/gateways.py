@@ -14,7 +14,8 @@ from gatewaytools import auditing, cluster, faults, tools
 
 # faults with the seconds that each takes under load
 LENGTHS = {"killed_regds": 7, "killed_gateways": 8, "killed_leader": 10, "killed_follower": 5, "lost_majority": 9, "stopped_members": 14,
-           "stopped_regd": 5, "hung_regd": 18, "stopped_gateway": 5, "killed_all": 12, "snapshots": 16}
+           "stopped_regd": 5, "hung_regd": 18, "stopped_gateway": 5, "killed_all": 12, "snapshots": 16, "cut_off_gateway": 9, "cut_off_leader": 9,
+           "lost_one_way": 15, "far_members": 9}
 # faults of replicas and gateways, and faults of etcd, of which one of each may occur at the same time
 OF_REPLICAS = ["killed_regds", "stopped_regd", "stopped_gateway"]
 OF_ETCD = ["killed_leader", "killed_follower", "stopped_members"]
@@ -25,9 +26,11 @@ CALLERS, PAUSE = [1, 10, 20], "10ms"
 READY_SECONDS = 60
 
 
-def drawn_fault(draw):
+def drawn_fault(draw, has_network):
     """Returns one or two faults, the number of callers, and whether they use the port for linearizable reads."""
-    names = [draw.choice(OF_REPLICAS), draw.choice(OF_ETCD)] if draw.random() < 0.3 else [draw.choice(list(LENGTHS))]
+    of_network = list(faults.OF_NETWORK) if has_network else []
+    some = [*of_network, *(name for name in LENGTHS if name not in faults.OF_NETWORK)]
+    names = [draw.choice(OF_REPLICAS), draw.choice(OF_ETCD + of_network)] if draw.random() < 0.3 else [draw.choice(some)]
     return {"faults": names, "callers": draw.choice(CALLERS), "fresh": draw.random() < 0.3}
 
 
@@ -38,10 +41,10 @@ def seconds_of(fault):
 class Run:
     """A site under load, and what was found."""
 
-    def __init__(self, programs, folder, counts):
-        self.site = faults.Site(programs, folder)
+    def __init__(self, programs, folder, counts, has_network):
+        self.site = faults.Site(programs, folder, has_network=has_network)
         self.programs, self.counts = programs, counts
-        self.played, self.changes = [], 0
+        self.played, self.changes, self.reads = [], 0, []
 
     def populate(self):
         address = f"127.0.0.1:{self.site.gateways[0].port}"
@@ -73,14 +76,18 @@ class Run:
             self.counts["linearizable reads"] += sum(bool(value.get("read")) for value in values)
             if stale := auditing.stale_reads(values):
                 raise Wrong(f"{stale} stale reads")
+            self.reads += [value for value in values if value.get("read")]
         with open(self.site.folder / "record", "a") as whole:
             whole.writelines(line + "\n" for line in events)
         self.changes += sum('"line":' in line for line in events)
         self.counts.update({f"answers {key}": seen[key] for key in ("lost", "resent", "repeated")})
 
     def check(self):
-        """Compares the acknowledged changes with a replay of the log, sends them again, and compares again."""
+        """Compares the acknowledged changes and the linearizable reads with a replay of the log, sends the changes again, and compares
+        again."""
         found, acknowledged = faults.checked(self.site)
+        if self.reads and (wrong := faults.wrong_reads(self.site, self.reads)):
+            found.append(f"{wrong} reads with another answer than the reference has at their commit")
         found += faults.sent_again(self.site, acknowledged)
         found += [f"after the repeats: {fault}" for fault in faults.checked(self.site)[0]]
         if found:
@@ -102,18 +109,20 @@ class LongGateway:
 
     def run(self, draw, amount, counts):
         begin = time.monotonic()
+        # the network costs processor time, and without it more changes are made
+        has_network = draw.random() < 0.5
 
         def following(run):
             is_over = time.monotonic() - begin > amount or run.changes > MOST_CHANGES
-            return None if is_over else drawn_fault(draw)
+            return None if is_over else drawn_fault(draw, has_network)
 
-        self.play(following, counts)
+        self.play(following, counts, has_network)
         counts[self.unit] += round(time.monotonic() - begin)
 
-    def play(self, following, counts):
+    def play(self, following, counts, has_network):
         """Plays the faults that `following` returns, up to None, and checks the site."""
         with tempfile.TemporaryDirectory(dir=self.folder.name) as folder:
-            run = Run(self.programs, folder, counts)
+            run = Run(self.programs, folder, counts, has_network)
             with run.site:
                 try:
                     run.populate()
@@ -129,7 +138,8 @@ class LongGateway:
         """Plays these faults. Returns what is wrong, or None."""
         rest = list(items)
         try:
-            self.play(lambda run: rest.pop(0) if rest else None, collections.Counter())
+            has_network = any(name in faults.OF_NETWORK for fault in items for name in fault["faults"])
+            self.play(lambda run: rest.pop(0) if rest else None, collections.Counter(), has_network)
         except Wrong as wrong:
             return wrong.reason
         return None
