@@ -175,6 +175,9 @@ func (c *Client) settle(ctx context.Context, line []byte, ops []Op, isChange boo
 		if err == nil && !answer.isTransient() {
 			return c.final(line, answer, ops, t.copies > 0)
 		}
+		if err != nil && t.err != nil && isOver(ctx) {
+			err = t.err // an attempt that was cut short says less than the one before
+		}
 		t.note(answer, ops, isSent, err)
 		if answer.Code == "W1" || answer.Code == "G8" || answer.Code == "G9" {
 			c.next() // another gateway may have a newer book, or a log that verifies
@@ -256,6 +259,12 @@ func (c *Client) replied(answer Answer) {
 	if c.options.Replied != nil {
 		c.options.Replied(answer.Line)
 	}
+}
+
+// isOver returns whether the context has ended, or is about to since its time is over.
+func isOver(ctx context.Context) bool {
+	end, hasEnd := ctx.Deadline()
+	return ctx.Err() != nil || hasEnd && !time.Now().Before(end)
 }
 
 // pause waits before the next attempt, or returns the error of the context.

@@ -133,19 +133,33 @@ func TestNoAnswerAtAll(t *testing.T) {
 	}
 }
 
-// TestEarlyForever checks that a line which was refused all the time, and never lost, is a refusal.
+// afterAnswers makes a context end when a client has read some answers, which is before its next pause.
+func afterAnswers(c *Client, count int) context.Context {
+	ctx, cancel := context.WithCancel(context.Background())
+	c.options.Trace = func(isSent bool, _ []byte) {
+		if isSent {
+			return
+		}
+		if count--; count == 0 {
+			cancel()
+		}
+	}
+	return ctx
+}
+
+// TestEarlyForever checks that a line which was refused all the time, and never lost, is a refusal, and that the pauses
+// between its copies grow.
 func TestEarlyForever(t *testing.T) {
 	f := serve(t, answers(refusal("W1")))
 	c, _ := calling(t, f.address)
-	short, cancel := context.WithTimeout(context.Background(), time.Second)
-	defer cancel()
-	_, err := c.Change(short, SetAgent(someAgent))
+	begin := time.Now()
+	_, err := c.Change(afterAnswers(c, 8), SetAgent(someAgent))
 	var refused *Refused
-	if !errors.As(err, &refused) || refused.Answer.Code != "W1" {
-		t.Errorf("got %v", err)
+	if !errors.As(err, &refused) || refused.Answer.Code != "W1" || len(f.received()) != 8 {
+		t.Errorf("got %v after %d lines", err, len(f.received()))
 	}
-	if count := len(f.received()); count < 4 || count > 40 {
-		t.Errorf("%d lines in a second", count)
+	if took := time.Since(begin); took < 120*time.Millisecond {
+		t.Errorf("8 lines in %s", took)
 	}
 }
 
@@ -253,16 +267,21 @@ func TestCallOnce(t *testing.T) {
 	}
 }
 
-// TestNoServer checks that what is no answer of a server is an error with its text.
+// TestNoServer checks that what is no answer of a server is an error with its text, also if the time is over when no
+// other answer has come.
 func TestNoServer(t *testing.T) {
 	for _, text := range []string{"HTTP/1.1 400 Bad Request", `{"a":1}`, `[]`} {
-		f := serve(t, answers(text))
-		c, _ := calling(t, f.address)
-		short, cancel := context.WithTimeout(context.Background(), 600*time.Millisecond)
-		_, err := c.Ask(short, Show("x"))
-		cancel()
+		c, _ := calling(t, serve(t, answers(text)).address)
+		_, err := c.Ask(afterAnswers(c, 3), Show("x"))
 		if err == nil || !strings.Contains(err.Error(), text) {
 			t.Errorf("%s: got %v", text, err)
+		}
+		c, _ = calling(t, serve(t, answers(text, silent)).address)
+		short, cancel := context.WithTimeout(context.Background(), time.Second)
+		_, err = c.Ask(short, Show("x"))
+		cancel()
+		if err == nil || !strings.Contains(err.Error(), text) {
+			t.Errorf("%s, then nothing: got %v", text, err)
 		}
 	}
 }
