@@ -11,6 +11,8 @@ from gatewaytools import auditing, cluster, plain
 
 MEMBERS = 3
 GATEWAYS = 3
+# each change of a run is sent again at its end, which on a busy machine may come after the usual five minutes
+RETENTION = ["-token-time", "1h"]
 
 
 class Site:
@@ -25,7 +27,7 @@ class Site:
             regd = (regds or {}).get(number, programs.regd)
             log = self.folder / f"gateway{number}.log"
             log.unlink(missing_ok=True)
-            self.gateways.append(cluster.Gateway(programs.gateway, regd, self.etcd, self.folder, number))
+            self.gateways.append(cluster.Gateway(programs.gateway, regd, self.etcd, self.folder, number, RETENTION))
         self.notes, self.loads = [], []
 
     def __enter__(self):
@@ -47,7 +49,7 @@ class Site:
 
     def snapshot(self, keep):
         words = [self.programs.gateway, "-domain", cluster.DOMAIN, "-etcd", ",".join(self.etcd.urls), "-regd", self.programs.regd,
-                 "-snapshot", "-keep", str(keep)]
+                 "-snapshot", "-keep", str(keep), *RETENTION]
         done = subprocess.run(words, capture_output=True, text=True, timeout=120)
         if done.returncode:
             raise RuntimeError(done.stderr)

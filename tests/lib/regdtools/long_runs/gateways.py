@@ -19,8 +19,8 @@ LENGTHS = {"killed_regds": 7, "killed_gateways": 8, "killed_leader": 10, "killed
 # faults of replicas and gateways, and faults of etcd, of which one of each may occur at the same time
 OF_REPLICAS = ["killed_regds", "stopped_regd", "stopped_gateway"]
 OF_ETCD = ["killed_leader", "killed_follower", "stopped_members"]
-# After this many acknowledged changes a site ends: a gateway keeps the last 65,536 tokens, and each change is sent again. During one more
-# fault the callers send fewer than 20,000 changes, since each waits 10 milliseconds before each line and half of the lines are changes.
+# After this many acknowledged changes a site ends, since each of them is sent again. During one more fault the callers send fewer than
+# 20,000 changes: each waits 10 milliseconds before each line, and half of the lines are changes.
 MOST_CHANGES = 40_000
 CALLERS, PAUSE = [1, 10, 20], "10ms"
 READY_SECONDS = 60
