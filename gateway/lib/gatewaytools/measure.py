@@ -31,6 +31,23 @@ def rows_of(what, kind, measured, base):
                round(middle([one[f"{kind}_p99_ms"] for one in rounds]), 2), round(middle(ratios), 2) if ratios else "", round(os.getloadavg()[0], 1)]
 
 
+def against(programs, other, folder):
+    """Measures the gateway and another build of it in turn, each with a member of its own. Ratios are to the other one."""
+    folder, rows = pathlib.Path(folder), []
+    with cluster.Etcd(folder / "etcd", 1) as etcd, cluster.Etcd(folder / "etcd-of-other", 1) as etcd_of_other, \
+            cluster.Gateway(programs.gateway, programs.regd, etcd, folder / "g", 0) as gateway, \
+            cluster.Gateway(other, programs.regd, etcd_of_other, folder / "other", 1) as gateway_of_other:
+        addresses = [f"127.0.0.1:{one.port}" for one in (gateway, gateway_of_other)]
+        for address in addresses:
+            load(programs, address, 1, "-populate", seconds=0.2)
+        for kind, words, all_clients in (("changes", ["-changes", "100"], (1, 10, 100, 1000)), ("reads", [], (1, 20, 2000))):
+            for clients in all_clients:
+                ours, theirs = zip(*([load(programs, address, clients, *words) for address in addresses] for _ in range(ROUNDS)))
+                rows += rows_of(f"{kind}; ratio to the other build", kind, {(clients, 1): ours}, lambda *_: theirs)
+                rows += rows_of(f"{kind} of the other build", kind, {(clients, 1): theirs}, lambda *_: None)
+    return rows
+
+
 def run(programs, folder):
     folder, rows = pathlib.Path(folder), []
     regd = subprocess.Popen([programs.regd, "serve", "--domain", cluster.DOMAIN, "--listen", "127.0.0.1:0", "--workers", "32", "--connections", "2000"],
