@@ -5,6 +5,8 @@ import (
 	"encoding/json"
 	"errors"
 	"fmt"
+
+	"regd/gateway/internal/logline"
 )
 
 // Format is the version of what a log has. All keys of a log are in a folder of its own, so a gateway of another
@@ -43,8 +45,38 @@ func formatText() ([]byte, error) { return json.Marshal(versions{Format, Format}
 
 // Open prepares the log for a trust domain. It returns ErrDomain if the log is that of another one, and one of the
 // other errors above if the log has another format. It writes nothing if there is a log, so a full etcd doesn't prevent
-// it.
+// it. Since the file of one member may be damaged, it fails with these errors only if no member has a log for this
+// gateway.
 func (l *Log) Open(ctx context.Context, domain string) error {
+	var first error
+	for range l.members {
+		err := l.openThere(ctx, domain)
+		if err == nil && first != nil {
+			logline.Error("a member of etcd has another log", "error", first)
+		}
+		if err == nil || first == nil && !isOfLog(err) {
+			return err
+		}
+		if first == nil {
+			first = err
+		}
+		l.Distrust()
+	}
+	return first
+}
+
+// isOfLog returns whether an error says what is in the log, and not that etcd doesn't answer.
+func isOfLog(err error) bool {
+	for _, one := range []error{ErrDomain, ErrFormat, ErrOldFormat, ErrUnfinished, ErrDamaged} {
+		if errors.Is(err, one) {
+			return true
+		}
+	}
+	return false
+}
+
+// openThere is Open with what the present member has.
+func (l *Log) openThere(ctx context.Context, domain string) error {
 	isThere, err := l.check(ctx, domain)
 	if err == nil && !isThere {
 		err = l.create(ctx, domain)

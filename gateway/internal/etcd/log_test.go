@@ -56,6 +56,41 @@ func TestOpen(t *testing.T) {
 	}
 }
 
+// TestOpenWithDamagedMember opens a log of which one member has another format, another domain, or none of them: the
+// other member decides, and if none is right, the first one.
+func TestOpenWithDamagedMember(t *testing.T) {
+	right, log, ctx := open(t)
+	if _, err := log.Append(ctx, etcd.Start, draft("a")); err != nil {
+		t.Fatal(err)
+	}
+	whole := right.Backup()
+	for text, change := range map[string]func(map[string][]byte){
+		"another format": func(values map[string][]byte) { values["r/2/format"] = []byte(`{"reader":6,"writer":2}`) },
+		"no format":      func(values map[string][]byte) { delete(values, "r/2/format") },
+		"a torn format":  func(values map[string][]byte) { values["r/2/format"] = []byte(`{"reader`) },
+		"another domain": func(values map[string][]byte) { values["r/2/domain"] = []byte("ez.org") },
+	} {
+		damaged, _, _ := open(t)
+		values := map[string][]byte{}
+		for key, value := range whole {
+			values[key] = value
+		}
+		change(values)
+		damaged.Restore(values)
+		if err := etcd.New([]string{damaged.URL, right.URL}, "r/", nil).Open(ctx, "ex.org"); err != nil {
+			t.Errorf("%s: got %v", text, err)
+		}
+		err := etcd.New([]string{damaged.URL, damaged.URL}, "r/", nil).Open(ctx, "ex.org")
+		if !errors.Is(err, etcd.ErrFormat) && !errors.Is(err, etcd.ErrDamaged) && !errors.Is(err, etcd.ErrDomain) {
+			t.Errorf("%s in both: got %v", text, err)
+		}
+		err = etcd.New([]string{damaged.URL, "http://127.0.0.1:1"}, "r/", nil).Open(ctx, "ex.org")
+		if err == nil {
+			t.Errorf("%s, and no other member: opened", text)
+		}
+	}
+}
+
 // TestOpenTogether lets another gateway create a log, and append to it, when this one has found none: it doesn't create
 // it again.
 func TestOpenTogether(t *testing.T) {
