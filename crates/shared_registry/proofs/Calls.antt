@@ -26,7 +26,7 @@ calls_same s xs ys p e =
     let n : length (calls_of s p.0) ≡ 0 = omega (arith, e, ap length whole, length-append (calls_of s xs) (calls_of s p.0)) in
     whole ∙ ap (λ w. calls_of s xs ++ w) (none_left (calls_of s p.0) n) ∙ append-nil (calls_of s xs)
 
--- so that the counts of its calls tell whether it has others
+-- so the counts of its calls decide whether it has others
 pub same_by_count : (s n k : ℕ) (xs ys : List Item) → IsPrefix xs ys → n ≡ length (calls_of s ys) → k ≡ length (calls_of s xs)
     → (b : Bool) → (n == k) ≡ b → MatchBool b (calls_of s ys ≡ calls_of s xs) (calls_of s ys ≢ calls_of s xs)
 same_by_count s n k xs ys p m l true is = let same : n ≡ k = grind (arith, nat_tests) in calls_same s xs ys p (omega arith)

@@ -11,7 +11,7 @@ use Rattle.commit_head.specs.Outcomes.{IsHitSince}
 use Rattle.version_book.specs.declared.mark.MarkKind.{MarkKind}
 use Rattle.shared_registry.specs.declared.outcome.Outcome.{Outcome}
 use Rattle.shared_registry.specs.declared.outcome.Outcome.TheVariants.{Committed, Repeated, Refused, Conflict, NoMemory, NoEntry}
-use Rattle.shared_registry.specs.Outcomes.{AreOvertaken, HasSeenLearnt, IsOvertaken, IsSubmitted, TookCommits, WasOvertaken}
+use Rattle.shared_registry.specs.Outcomes.{AreOvertaken, ConflictsTakeCommits, HasSeenLearnt, IsOvertaken, IsSubmitted, TookCommits, WasOvertaken}
 use Rattle.shared_registry.specs.OutcomesPrivate.{IsNotConflict, IsOvertakenOnce}
 use Rattle.shared_registry.specs.Seated.{DuringCall, Seated}
 use Rattle.commit_head.proofs.OnBooks.{batches_join}
@@ -119,6 +119,15 @@ conflict_took s t batch tries place o e p n is =
 
 pub no_conflict_took : (s t : Seated) (tries : ℕ) (o : Outcome) → IsNotConflict o → TookCommits s t tries o
 no_conflict_took s t tries o over n is = absurd (over n is)
+
+-- every conflict of a call
+pub conflicts_took : ConflictsTakeCommits
+conflicts_took domain s t batch tries (Conflict place) after o = conflict_took s t batch tries place o.0 o.1 after.seen
+conflicts_took domain s t batch tries (Committed reply) after o = no_conflict_took s t tries (Committed reply) (λ n is. cc)
+conflicts_took domain s t batch tries (Repeated reply) after o = no_conflict_took s t tries (Repeated reply) (λ n is. cc)
+conflicts_took domain s t batch tries (Refused reply) after o = no_conflict_took s t tries (Refused reply) (λ n is. cc)
+conflicts_took domain s t batch tries NoMemory after o = no_conflict_took s t tries NoMemory (λ n is. cc)
+conflicts_took domain s t batch tries NoEntry after o = no_conflict_took s t tries NoEntry (λ n is. cc)
 
 -- ---- the end
 

@@ -97,3 +97,8 @@ HasSeenLearnt s t NoEntry = ⊤
 
 abbrev pub CommitsMayBeSeen : Type 0
 CommitsMayBeSeen = (domain : Bytes) (s t : Seated) (batch : Batch) (reply : Reply) → AfterCall domain s t → HasSeenLearnt s t (Committed reply) → IsAdded s t batch reply → MaySeeFound domain t
+
+-- ---- the theorem: a conflict takes commits
+
+abbrev pub ConflictsTakeCommits : Type 0
+ConflictsTakeCommits = (domain : Bytes) (s t : Seated) (batch : Batch) (tries : ℕ) (o : Outcome) → AfterCall domain s t → IsSubmitted s t batch tries o → TookCommits s t tries o

@@ -1,5 +1,5 @@
 -- One try of a batch of changes, and what its commit does under the lock. For this crate's own contracts.
-use Rattle.std.specs.Prelude.{◌≡◌, ◌≢◌, ℕ, ◌+◌, ◌≤◌, List, [], ◌∷◌, ◌++◌, length, Option, IsSome, Result, Ok, Err}
+use Rattle.std.specs.Prelude.{◌≡◌, ◌≢◌, ℕ, ◌≤◌, List, [], ◌∷◌, ◌++◌, length, Option, IsSome, Result, Ok, Err}
 use mathlib.Core.List.{IsPrefix}
 use Rattle.entry_book.specs.declared.reply.ReplyOutcome.TheVariants as became
 use Rattle.entry_book.specs.declared.reply.Refusal.TheVariants.{Full}
@@ -11,7 +11,7 @@ use Rattle.commit_head.specs.declared.commit.Commit.TheVariants as is
 use Rattle.commit_head.specs.declared.item.Item.{Item}
 use Rattle.commit_head.specs.Journals.{batches_of}
 use Rattle.shared_registry.specs.declared.outcome.Outcome.{Outcome}
-use Rattle.shared_registry.specs.declared.outcome.Outcome.TheVariants.{Committed, Refused, Conflict, NoMemory}
+use Rattle.shared_registry.specs.declared.outcome.Outcome.TheVariants.{Conflict}
 use Rattle.shared_registry.specs.declared.seat.NoEntry.{NoEntry as NotAdmitted}
 use Rattle.shared_registry.specs.Seated.{Seated}
 use Rattle.shared_registry.specs.SeatCalls.{calls_of}

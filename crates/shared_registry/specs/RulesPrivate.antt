@@ -1,7 +1,6 @@
 -- The right to append to a history, the invariant of the history's words, and the effect of a step. For this crate's own contracts.
 use Rattle.std.specs.Prelude.{⊤, ℕ, ◌≡◌, true, List, [], ◌∷◌, ◌++◌, length, None}
 use Rattle.logbook.specs.Pages.{Cell, Step, View, cell, may_make}
-use Rattle.commit_head.specs.declared.item.Item.{Item}
 use Rattle.shared_registry.specs.declared.entry.HistoryEntry.{HistoryEntry}
 
 -- ---- the right to append

@@ -17,7 +17,7 @@ use std::alloc::{AllocError, Global};
 use std::marker::Model;
 
 /// What is left of a registry that was closed: the value that was published last, and the history, of which it shows all items.
-/// The model in contracts is the journal that was published.
+/// The model in contracts is the journal of that value. That it was published is no clause, but an invariant of the registry.
 #[derive(Drop)]
 pub struct ClosedRegistry<J: RegistryId> {
     history: History<J>,
@@ -47,7 +47,7 @@ impl<J: RegistryId> ClosedRegistry<J> {
         ClosedRegistry { history, published }
     }
 
-    /// Returns the number of commits that were published.
+    /// Returns the number of its commits.
     pub fn place(&self) -> u64
         ensures place { result ≡ length self.now }
         ensures lawful { IsLawfulJournal J.domain self.now }
@@ -55,8 +55,7 @@ impl<J: RegistryId> ClosedRegistry<J> {
         self.published.prefix::<J>().len()
     }
 
-    /// Returns the answer to a query, on the books that were published last; the answer borrows its rows. The only error is a
-    /// failed allocation.
+    /// Returns the answer to a query on its books; the answer borrows its rows. The only error is a failed allocation.
     pub fn answer(&self, alloc: Global, batch: &Batch) -> Result<BorrowedReply<'_>, AllocError>
         requires query { is_query batch.now.ops ≡ true }
         requires domain { batch.now.domain ≡ J.domain }
@@ -66,8 +65,7 @@ impl<J: RegistryId> ClosedRegistry<J> {
         borrowed_answer(alloc, &self.published, batch)
     }
 
-    /// Whatever the seat has seen was published: it is a prefix of the published journal. The contract is the theorem, and
-    /// the call changes nothing.
+    /// Whatever the seat has seen is a prefix of this journal. The contract is the theorem, and the call changes nothing.
     pub fn shows(&mut self, seat: &Seat<J>)
         ensures same { self.new ≡ self.old }
         ensures all { IsPrefix seat.now.seen self.old }

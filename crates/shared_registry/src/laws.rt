@@ -1,7 +1,7 @@
 //! What follows from the contracts of a seat's calls?
 
 ghost use Rattle.shared_registry.specs.OneList.{AreOneList};
-ghost use Rattle.shared_registry.specs.Outcomes.{CommitsMayBeSeen};
+ghost use Rattle.shared_registry.specs.Outcomes.{CommitsMayBeSeen, ConflictsTakeCommits};
 
 use crate::history::RegistryId;
 use crate::seat::{Receipt, Seat};
@@ -10,6 +10,12 @@ use crate::seat::{Receipt, Seat};
 /// its contract is the theorem.
 pub fn commits_law()
     ensures { CommitsMayBeSeen }
+{}
+
+/// A conflict takes commits: what a seat has seen after a call of some tries that ended with a conflict has at least so many items
+/// more than before it. This function does nothing at run time: its contract is the theorem.
+pub fn conflicts_take_commits()
+    ensures { ConflictsTakeCommits }
 {}
 
 /// Two seats of a registry have seen prefixes of one list, though they may never have exchanged a receipt: one is a prefix of the

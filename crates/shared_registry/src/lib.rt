@@ -68,7 +68,9 @@ pub use closed::ClosedRegistry;
 pub use entry::HistoryEntry;
 pub use gate::{Gate, OpenGate, Point};
 pub use history::{History, HistoryPrefix, NewHistory, RegistryId};
-pub use laws::{commits_law, one_list, one_list_of_receipts, one_list_with_receipt};
+pub use laws::{
+    commits_law, conflicts_take_commits, one_list, one_list_of_receipts, one_list_with_receipt,
+};
 pub use outcome::Outcome;
 pub use published::PublishedValue;
 pub use registry::Registry;

@@ -278,8 +278,8 @@ impl<J: RegistryId> Registry<J> {
         receipt
     }
 
-    /// Returns the receipt of every item so far, which begins with all that the seat has seen and learnt of. It is never refused.
-    /// It waits for the lock, and no clause says when it gets it.
+    /// Returns the receipt of every item so far. The contract says of it that it begins with all that this seat has seen and learnt
+    /// of. It is never refused. It waits for the lock, and no clause says when it gets it.
     pub fn receipt<R: Wait>(&self, rt: &R, seat: &Seat<J>) -> Receipt<J>
         ensures lawful { IsLawfulJournal J.domain result }
         ensures seen { IsPrefix seat.now.seen result }

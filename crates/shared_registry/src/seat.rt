@@ -54,7 +54,7 @@ impl<J: RegistryId> Model for Receipt<J> {
 }
 
 impl<J: RegistryId> Receipt<J> {
-    ghost use Rattle.std.specs.Prelude.{◌≡◌};
+    ghost use Rattle.std.specs.Prelude.{◌≡◌, length};
 
     /// Makes the receipt of a prefix.
     pub(crate) fn of(seen: HistoryPrefix<J>) -> Receipt<J>
@@ -68,6 +68,14 @@ impl<J: RegistryId> Receipt<J> {
         ensures { result.now ≡ self.now }
     {
         &self.seen
+    }
+
+    /// Returns the number of its items.
+    pub fn place(&self) -> u64
+        ensures place { result ≡ length self.now }
+        ensures lawful { IsLawfulJournal J.domain self.now }
+    {
+        self.seen.len()
     }
 }
 

@@ -9,7 +9,7 @@ use crate::turnstile::TURNS;
 use entry_book::Batch;
 use shared_registry::{
     Answer, ClosedRegistry, Gate, NewHistory, OpenGate, Outcome, Receipt, Registry, RegistryId,
-    Seat, commits_law, one_list_of_receipts, one_list_with_receipt,
+    Seat, commits_law, conflicts_take_commits, one_list_of_receipts, one_list_with_receipt,
 };
 use spiffe_name::TrustDomain;
 use std::alloc::Global;
@@ -99,6 +99,7 @@ fn query_after<J: RegistryId, R: Wait>(
         return Err(Failed("a batch isn't for a query"));
     }
     commits_law();
+    conflicts_take_commits();
     match registry.submit(rt, seat, &OpenGate, changes, 1) {
         Outcome::Committed(_) => {
             let borrowed = seat.answer(query)?;
@@ -145,7 +146,8 @@ fn shows_last<J: RegistryId>(
     let borrowed = closed.answer(alloc, &query)?;
     let reply = borrowed.kept(alloc);
     drop(borrowed);
-    if closed.place() == last.seat.place() && reply_text(alloc, &reply?)? == last.reply {
+    let is_whole = last.receipt.place() == closed.place() && last.seat.place() == closed.place();
+    if is_whole && reply_text(alloc, &reply?)? == last.reply {
         Ok(())
     } else {
         Err(Failed("a closed registry shows something else"))
