@@ -97,9 +97,19 @@ given_field : (name rest more : Text) (first second : ℕ) → (first == 45) ≡
 unfolding clap_on_literals
 given_field name rest more first second other others = simp (other, others) refl
 
+no_field : (name rest : Text) (first : ℕ) → (first == 45) ≡ false
+    → option_asked (codes "field") (name ∷ codes "explain" ∷ (first ∷ rest) ∷ []) ≡ None
+unfolding clap_on_literals
+no_field name rest first other = simp other refl
+
+given_code_of_two : (name rest more : Text) (first second : ℕ) → (first == 45) ≡ false → (second == 45) ≡ false
+    → topic_code (subcommand_of regd_command (name ∷ codes "explain" ∷ (first ∷ rest) ∷ (second ∷ more) ∷ [])) ≡ first ∷ rest
+unfolding clap_on_literals
+given_code_of_two name rest more first second other others = simp (other, others) refl
+
 pub explains_words : ExplainsWords
 explains_words name rest more first second other others =
     let one = ne_eqb _ _ other in let two = ne_eqb _ _ others in (
-      (record { taken = taken_code name rest first one; asked = asked_code name rest first one; none = none_of_code name rest first one }, given_code name rest first one),
-      (record { taken = taken_field name rest more first second one two; asked = asked_field name rest more first second one two; none = none_of_field name rest more first second one two }, given_field name rest more first second one two),
+      (record { taken = taken_code name rest first one; asked = asked_code name rest first one; none = none_of_code name rest first one }, given_code name rest first one, no_field name rest first one),
+      (record { taken = taken_field name rest more first second one two; asked = asked_field name rest more first second one two; none = none_of_field name rest more first second one two }, given_code_of_two name rest more first second one two, given_field name rest more first second one two),
     )

@@ -56,7 +56,7 @@ IsFaultOf-refusal words error has = go (kind_of error) refl
       | inl memory ↦
           let bad : k ≡ OutOfMemory = sym is ∙ memory in
           cc
-      | inr among ↦ among
+      | inr among ↦ (among, λ version. let bad : k ≡ DisplayVersion = sym is ∙ version in cc)
     ]
 
 -- what parsing with the program's command says about the words

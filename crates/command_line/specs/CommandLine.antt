@@ -299,13 +299,13 @@ pub record AsksWell (words : List Text) (program : Program) : Type 0 where
   pub domain : refusal_of_domain words ≡ None
   pub seed : IsNoSeed (seed_text words) → ⊥
 
--- The words have this fault: the parser refuses them, or they ask for the version; or it accepts them, and they request a program
--- with a book, whose domain (the empty text if there is none) isn't a trust domain; or it is one, and the text of the seed isn't a
--- seed; or it is one, and the words request a server without a valid address, or with one but with a number out of its range; or
--- they request the explanation of a word that is no code. Any words may fail for lack of memory. These faults don't include words
--- that aren't text.
+-- The words have this fault: the parser refuses them, for another reason than that they ask for the version; or they ask for it;
+-- or it accepts them, and they request a program with a book, whose domain (the empty text if there is none) isn't a trust domain;
+-- or it is one, and the text of the seed isn't a seed; or it is one, and the words request a server without a valid address, or with
+-- one but with a number out of its range; or they request the explanation of a word that is no code. Any words may fail for lack of
+-- memory. These faults don't include words that aren't text.
 abbrev pub IsFaultOf : List Text → LineFault → Type 0
-IsFaultOf words (Refused error) = IsAmong (kind_of error) (line_faults words)
+IsFaultOf words (Refused error) = IsAmong (kind_of error) (line_faults words) × (kind_of error ≡ DisplayVersion → ⊥)
 IsFaultOf words line.Version = IsAmong DisplayVersion (line_faults words)
 IsFaultOf words (Domain refusal) = (line_faults words ≡ []) × (refusal_of_domain words ≡ Some refusal)
 IsFaultOf words Seed = (line_faults words ≡ []) × (refusal_of_domain words ≡ None) × IsNoSeed (seed_text words)

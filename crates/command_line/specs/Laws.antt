@@ -71,8 +71,11 @@ ProgramAlone = (name : Text) → AsksFor (name ∷ codes "version" ∷ []) Versi
 -- byte other than a hyphen (45)
 abbrev pub ExplainsWords : Type 0
 ExplainsWords = (name rest more : Text) (first second : ℕ) → first ≢ 45 → second ≢ 45
-    → (AsksFor (name ∷ codes "explain" ∷ (first ∷ rest) ∷ []) Explain × (topic_code (subcommand_of regd_command (name ∷ codes "explain" ∷ (first ∷ rest) ∷ [])) ≡ first ∷ rest))
+    → (AsksFor (name ∷ codes "explain" ∷ (first ∷ rest) ∷ []) Explain
+    × (topic_code (subcommand_of regd_command (name ∷ codes "explain" ∷ (first ∷ rest) ∷ [])) ≡ first ∷ rest)
+    × (option_asked (codes "field") (name ∷ codes "explain" ∷ (first ∷ rest) ∷ []) ≡ None))
     × (AsksFor (name ∷ codes "explain" ∷ (first ∷ rest) ∷ (second ∷ more) ∷ []) Explain
+    × (topic_code (subcommand_of regd_command (name ∷ codes "explain" ∷ (first ∷ rest) ∷ (second ∷ more) ∷ [])) ≡ first ∷ rest)
     × (option_asked (codes "field") (name ∷ codes "explain" ∷ (first ∷ rest) ∷ (second ∷ more) ∷ []) ≡ Some (second ∷ more)))
 
 -- `regd serve --domain=D --listen=A --workers=4` requests a server, without a number of connections
