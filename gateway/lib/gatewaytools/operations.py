@@ -539,7 +539,8 @@ def one_machine(programs, folder):
         for one, commands in ((machine, prepare), (machine, announce), (second, join), (machine, announce_third), (third, join_third), (machine, finish), (second, finish)):
             one.run(commands)
         committed(machine.run(page.blocks["Three machines"][2]))
-        members = json.loads(machine.run("curl --silent --fail http://10.0.0.2:8474/status"))["etcd"]
+        members = json.loads(machine.run("curl --silent --fail http://10.0.0.2:8474/status"))["etcd"]  # its own one is first
+        members.sort(key=lambda member: member["url"])
         expect([member.get("error") for member in members], [None] * 3, "errors of members")
         # what the operator changed on the first machine is still there, although it was installed again
         expect([member["quota"] >> 30 for member in members], [16, 8, 8], "quotas in GiB")
