@@ -1,7 +1,6 @@
 package etcd
 
 import (
-	"bytes"
 	"context"
 	"errors"
 	"strconv"
@@ -41,22 +40,30 @@ func (l *Log) Revoke(ctx context.Context, lease string) error {
 	return l.call(ctx, l.times.call, 1, "/v3/lease/revoke", object{"ID": lease}, &struct{}{})
 }
 
-// Claim stores a value under a key, for as long as a lease is renewed, unless another value is there. It returns
-// whether the key has this value.
-func (l *Log) Claim(ctx context.Context, name string, value []byte, lease string) (isOwn bool, err error) {
+// Claim stores a value under a key, for as long as a lease is renewed, if the key has the former value; if that is nil,
+// if there is no key. It returns the value that the key then has, or nil if there is none.
+func (l *Log) Claim(ctx context.Context, name string, former, value []byte, lease string) (has []byte, err error) {
 	put := object{"key": l.key(name), "value": value, "lease": lease}
+	condition := l.lacks(name)
+	if former != nil {
+		condition = l.Has(name, former)
+	}
 	request := object{
-		"compare": []object{l.lacks(name)},
+		"compare": []object{condition},
 		"success": []object{{"request_put": put}},
 		"failure": []object{l.reading(name)},
 	}
 	var done transaction
 	err = l.change(ctx, len(value), request, &done)
-	if err != nil || done.Succeeded {
-		return err == nil, err
+	switch {
+	case err != nil:
+		return nil, err
+	case done.Succeeded:
+		return value, nil
+	case len(done.Responses) != 1:
+		return nil, errors.New("etcd has not answered who has the key")
+	case len(done.Responses[0].Range.Kvs) == 0:
+		return nil, nil
 	}
-	if len(done.Responses) != 1 || len(done.Responses[0].Range.Kvs) != 1 {
-		return false, errors.New("etcd has not answered who has the key")
-	}
-	return bytes.Equal(done.Responses[0].Range.Kvs[0].Value, value), nil
+	return done.Responses[0].Range.Kvs[0].Value, nil
 }

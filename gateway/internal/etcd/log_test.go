@@ -65,10 +65,10 @@ func TestOpenWithDamagedMember(t *testing.T) {
 	}
 	whole := right.Backup()
 	for text, change := range map[string]func(map[string][]byte){
-		"another format": func(values map[string][]byte) { values["r/2/format"] = []byte(`{"reader":6,"writer":2}`) },
-		"no format":      func(values map[string][]byte) { delete(values, "r/2/format") },
-		"a torn format":  func(values map[string][]byte) { values["r/2/format"] = []byte(`{"reader`) },
-		"another domain": func(values map[string][]byte) { values["r/2/domain"] = []byte("ez.org") },
+		"another format": func(has map[string][]byte) { has["r/2/format"] = []byte(`{"reader":6,"writer":2}`) },
+		"no format":      func(has map[string][]byte) { delete(has, "r/2/format") },
+		"a torn format":  func(has map[string][]byte) { has["r/2/format"] = []byte(`{"reader`) },
+		"another domain": func(has map[string][]byte) { has["r/2/domain"] = []byte("ez.org") },
 	} {
 		damaged, _, _ := open(t)
 		values := map[string][]byte{}
@@ -81,7 +81,8 @@ func TestOpenWithDamagedMember(t *testing.T) {
 			t.Errorf("%s: got %v", text, err)
 		}
 		err := etcd.New([]string{damaged.URL, damaged.URL}, "r/", nil).Open(ctx, "ex.org")
-		if !errors.Is(err, etcd.ErrFormat) && !errors.Is(err, etcd.ErrDamaged) && !errors.Is(err, etcd.ErrDomain) {
+		isNamed := errors.Is(err, etcd.ErrFormat) || errors.Is(err, etcd.ErrDamaged)
+		if !isNamed && !errors.Is(err, etcd.ErrDomain) {
 			t.Errorf("%s in both: got %v", text, err)
 		}
 		err = etcd.New([]string{damaged.URL, "http://127.0.0.1:1"}, "r/", nil).Open(ctx, "ex.org")

@@ -1,6 +1,7 @@
 package server
 
 import (
+	"bytes"
 	"context"
 	"errors"
 	"fmt"
@@ -11,13 +12,17 @@ import (
 	"regd/gateway/internal/logline"
 )
 
-// presenceFolder has a key for each gateway that is there, with its name. The value is the run that has the name, and
-// its version of replies. The key is there as long as the run renews its lease. So a name is that of one gateway, and
-// the number of gateways is known of which a majority decides.
+// presenceFolder has a key for each gateway that is there, with its name. The value is the run that has the name, how
+// often it has renewed it, and its version of replies. The key is there as long as the run renews its lease. So a name
+// is that of one gateway, and the number of gateways is known of which a majority decides.
 const presenceFolder = "gateway/"
 
-// refusals is for how many times of a lease the name has to be another one's before a gateway ends. A run that was
-// killed leaves its lease behind, which etcd makes longer when it elects a leader.
+// leftAfter is for how many times of a lease the value of another run has to stay the same before its name counts as
+// left behind. The lease alone doesn't tell: etcd makes each one longer when it elects a leader, again and again if its
+// leaders end.
+const leftAfter = 2
+
+// refusals is for how many times of a lease another run has to renew the name before a gateway ends.
 const refusals = 4
 
 // ErrNameTaken is returned when another gateway has the same name.
@@ -25,9 +30,12 @@ var ErrNameTaken = errors.New("another gateway has this name")
 
 // A claim is that of a gateway to its name.
 type claim struct {
-	lease   string    // "" if there is none
-	isOwn   bool      // the name is that of this run
-	refused time.Time // since when it is another one's
+	lease    string    // "" if there is none
+	renewals int       // of the name
+	value    []byte    // of the key when it was seen last, or nil if there was none
+	isOwn    bool      // the value is that of this run
+	seen     time.Time // since when the key has this value of another run
+	refused  time.Time // since when another run is known to renew the name
 }
 
 // keepName keeps the name of this gateway, until the context ends or another gateway has had the name for longer than a
@@ -64,36 +72,61 @@ func (g *Gateway) giveBack(c *claim) {
 	}
 }
 
-// renewClaim renews the lease, and claims the name again if that has ended.
+// renewClaim renews the lease and the name, and claims the name again if the lease has ended.
 func (g *Gateway) renewClaim(ctx context.Context, c *claim) (err error) {
 	if c.lease != "" {
 		err = g.log.Renew(ctx, c.lease)
 	}
 	if errors.Is(err, etcd.ErrLeaseEnded) {
-		c.lease, c.isOwn, err = "", false, nil
+		c.lease, c.value, c.isOwn, err = "", nil, false, nil
 	}
 	if err == nil && c.lease == "" {
 		c.lease, err = g.log.Grant(ctx, g.options.Limits.Presence)
 	}
-	if err != nil || c.isOwn {
+	if err != nil {
 		return err
 	}
-	c.isOwn, err = g.log.Claim(ctx, presenceFolder+g.options.Name, []byte(g.presence()), c.lease)
-	switch {
-	case err != nil:
+	former := c.value
+	if !c.isOwn && time.Since(c.seen) < leftAfter*g.options.Limits.Presence {
+		former = nil
+	}
+	c.renewals++
+	has, err := g.log.Claim(ctx, presenceFolder+g.options.Name, former, g.presence(c.renewals), c.lease)
+	if err != nil {
 		return err
-	case c.isOwn:
-		c.refused = time.Time{}
-	case c.refused.IsZero():
-		c.refused = time.Now()
-	case time.Since(c.refused) > refusals*g.options.Limits.Presence:
+	}
+	c.take(has, g.run)
+	if !c.refused.IsZero() && time.Since(c.refused) > refusals*g.options.Limits.Presence {
 		return fmt.Errorf("%w: %s", ErrNameTaken, g.options.Name)
 	}
 	return nil
 }
 
-// presence returns the value of the key of this gateway.
-func (g *Gateway) presence() string { return g.run + " " + g.options.Replies }
+// take takes note of the value that the key of the name has. Another run that changes its value is alive.
+func (c *claim) take(has []byte, run string) {
+	before := c.value
+	c.value, c.isOwn = has, bytes.HasPrefix(has, []byte(run+" "))
+	switch {
+	case c.isOwn || has == nil:
+		c.seen, c.refused = time.Time{}, time.Time{}
+	case bytes.Equal(has, before):
+	case before != nil && runOf(has) == runOf(before) && c.refused.IsZero():
+		c.seen, c.refused = time.Now(), time.Now()
+	default:
+		c.seen = time.Now()
+	}
+}
+
+// runOf returns the run in the value of a key.
+func runOf(value []byte) string {
+	run, _, _ := strings.Cut(string(value), " ")
+	return run
+}
+
+// presence returns the value of the key of this gateway when it has renewed its name so often.
+func (g *Gateway) presence(renewals int) []byte {
+	return []byte(fmt.Sprintf("%s %d %s", g.run, renewals, g.options.Replies))
+}
 
 // gatewaysThere returns the names of the gateways that are there and have the same version of replies, also of this
 // one.
@@ -102,7 +135,7 @@ func (g *Gateway) gatewaysThere(ctx context.Context) (map[string]string, error) 
 	if err != nil {
 		return nil, err
 	}
-	all[g.options.Name] = g.presence()
+	all[g.options.Name] = string(g.presence(0))
 	g.gateways.Store(int64(len(all)))
 	for name, value := range all {
 		if !strings.HasSuffix(value, " "+g.options.Replies) {

@@ -3,6 +3,7 @@ package server
 import (
 	"context"
 	"errors"
+	"fmt"
 	"strings"
 	"testing"
 	"time"
@@ -24,14 +25,17 @@ func (s *site) named(name string) *Gateway {
 	return New(s.log, Options{Replies: "p", Name: name, Limits: s.limits})
 }
 
-// holder returns the value of the key of a name.
-func (s *site) holder(name string) string {
+// value returns the value of the key of a name.
+func (s *site) value(name string) []byte {
 	value, err := s.log.Get(s.ctx, presenceFolder+name)
 	if err != nil {
 		s.t.Fatal(err)
 	}
-	return string(value)
+	return value
 }
+
+// holder returns the run that has a name, or "".
+func (s *site) holder(name string) string { return runOf(s.value(name)) }
 
 // TestNameTaken starts two gateways with one name: the second one ends, and the first one goes on, also when its lease
 // has ended meanwhile. Without etcd it goes on too.
@@ -42,7 +46,7 @@ func TestNameTaken(t *testing.T) {
 	first := s.named("a")
 	firstEnded, stopFirst := s.keeps(first)
 	defer stopFirst()
-	within(t, "the name isn't claimed", func() bool { return s.holder("a") == first.presence() })
+	within(t, "the name isn't claimed", func() bool { return s.holder("a") == first.run })
 	secondEnded, stopSecond := s.keeps(s.named("a"))
 	defer stopSecond()
 	begin := time.Now()
@@ -55,7 +59,7 @@ func TestNameTaken(t *testing.T) {
 		t.Fatal("there are two gateways with one name")
 	}
 	s.store.EndLeases()
-	within(t, "the name isn't claimed again", func() bool { return s.holder("a") == first.presence() })
+	within(t, "the name isn't claimed again", func() bool { return s.holder("a") == first.run })
 	s.store.Refuse(1 << 30)
 	time.Sleep(3 * s.limits.Presence)
 	s.store.Refuse(0)
@@ -66,28 +70,69 @@ func TestNameTaken(t *testing.T) {
 	}
 }
 
-// TestNameOfEndedRun starts a gateway whose former run has left its name behind: it has the name when the lease ends.
+// TestNameOfEndedRun starts a gateway whose former run has left its name behind: it has the name when the lease ends,
+// or when the former run hasn't renewed the name for a time, although etcd doesn't end the lease.
 func TestNameOfEndedRun(t *testing.T) {
+	t.Parallel()
+	for _, endsLease := range []bool{true, false} {
+		s := newSite(t)
+		s.limits.Presence = 300 * time.Millisecond
+		former := s.named("a")
+		formerEnded, stop := s.keeps(former)
+		within(t, "the name isn't claimed", func() bool { return s.holder("a") == former.run })
+		s.store.Refuse(1 << 30) // so that it can't give the name back
+		stop()
+		<-formerEnded
+		s.store.Refuse(0)
+		next := s.named("a")
+		begin := time.Now()
+		ended, stopNext := s.keeps(next)
+		defer stopNext()
+		if endsLease {
+			s.store.EndLeases()
+		}
+		within(t, "the next run has no name", func() bool { return s.holder("a") == next.run })
+		if took := time.Since(begin); !endsLease && took < 3*s.limits.Presence/2 {
+			t.Errorf("a name was taken away after %v", took)
+		}
+		time.Sleep((refusals + 1) * s.limits.Presence)
+		select {
+		case err := <-ended:
+			t.Errorf("the next run has ended with %v", err)
+		default:
+		}
+	}
+}
+
+// TestNameIsRenewed checks that the key of a name has another value each time, and that a run which finds its name with
+// another run doesn't take it back as long as that renews it.
+func TestNameIsRenewed(t *testing.T) {
 	t.Parallel()
 	s := newSite(t)
 	s.limits.Presence = 300 * time.Millisecond
-	former := s.named("a")
-	formerEnded, stop := s.keeps(former)
-	within(t, "the name isn't claimed", func() bool { return s.holder("a") == former.presence() })
-	s.store.Refuse(1 << 30) // so that it can't give the name back
-	stop()
-	<-formerEnded
-	s.store.Refuse(0)
-	next := s.named("a")
-	ended, stopNext := s.keeps(next)
-	defer stopNext()
-	time.Sleep(s.limits.Presence)
-	s.store.EndLeases()
-	within(t, "the next run has no name", func() bool { return s.holder("a") == next.presence() })
-	select {
-	case err := <-ended:
-		t.Errorf("the next run has ended with %v", err)
-	default:
+	g := s.named("a")
+	ended, stop := s.keeps(g)
+	defer stop()
+	within(t, "the name isn't claimed", func() bool { return s.holder("a") == g.run })
+	for i := 0; i < 3; i++ {
+		before := string(s.value("a"))
+		within(t, "the name isn't renewed", func() bool { return string(s.value("a")) != before })
+	}
+	for i := 0; ; i++ {
+		if err := s.log.Put(s.ctx, presenceFolder+"a", []byte(fmt.Sprintf("other %d p", i))); err != nil {
+			t.Fatal(err)
+		}
+		select {
+		case err := <-ended:
+			if !errors.Is(err, ErrNameTaken) || s.holder("a") != "other" {
+				t.Errorf("got %v, and the name is that of %s", err, s.holder("a"))
+			}
+			return
+		case <-time.After(s.limits.Presence / 3):
+		}
+		if s.holder("a") != "other" || i > 300 {
+			t.Fatalf("the name is that of %s after %d renewals", s.holder("a"), i)
+		}
 	}
 }
 
@@ -123,9 +168,9 @@ func TestGatewaysThere(t *testing.T) {
 func TestGatewayIsThere(t *testing.T) {
 	s := newSite(t)
 	g, _, _ := s.gateway("a")
-	within(t, "it isn't there", func() bool { return s.holder("a") == g.presence() })
-	if !strings.HasPrefix(g.presence(), g.run) || !strings.HasSuffix(g.presence(), " p") {
-		t.Errorf("it is there as %s", g.presence())
+	within(t, "it isn't there", func() bool { return s.holder("a") == g.run })
+	if value := string(s.value("a")); !strings.HasSuffix(value, " p") {
+		t.Errorf("it is there as %s", value)
 	}
 	ended, stop := s.keeps(s.named("b"))
 	within(t, "the other isn't there", func() bool { return s.holder("b") != "" })

@@ -357,6 +357,9 @@ func (s *Server) find(in *request) object {
 func (s *Server) put(in *request) object {
 	s.revision++
 	s.values[string(in.Key)] = in.Value
+	for _, keys := range s.leases { // a key has one lease at most
+		delete(keys, string(in.Key))
+	}
 	if in.Lease != "" {
 		s.leases[in.Lease][string(in.Key)] = true
 	}

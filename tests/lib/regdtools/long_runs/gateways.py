@@ -30,7 +30,9 @@ def drawn_fault(draw, has_network):
     """Returns one or two faults, the number of callers, and whether they use the port for linearizable reads."""
     of_network = list(faults.OF_NETWORK) if has_network else []
     some = [*of_network, *(name for name in LENGTHS if name not in faults.OF_NETWORK)]
-    names = [draw.choice(OF_REPLICAS), draw.choice(OF_ETCD + of_network)] if draw.random() < 0.3 else [draw.choice(some)]
+    # a gateway that is cut off can't make another replica, and so answers nothing without the one that it has
+    beside = OF_ETCD + [name for name in of_network if name != "cut_off_gateway"]
+    names = [draw.choice(OF_REPLICAS), draw.choice(beside)] if draw.random() < 0.3 else [draw.choice(some)]
     return {"faults": names, "callers": draw.choice(CALLERS), "fresh": draw.random() < 0.3}
 
 
