@@ -2,6 +2,7 @@ pub mod Draws
 pub mod SeedIds
 pub mod Front
 pub mod Utf8
+pub mod LineValues
 pub mod Domain
 pub mod EventDomain
 pub mod RecordDomain

@@ -5,19 +5,22 @@
 //! none.
 
 ghost use Rattle.std.specs.Prelude.{◌≡◌};
-ghost use Rattle.serde_json.specs.View.{items_view, members_view, view};
+ghost use Rattle.serde_json.specs.View.{items_view};
 ghost use Rattle.line_reading.specs.Batches.{batch_alone_in, batch_in, batch_of, items_at, listed_in, missing_with_token};
-ghost use Rattle.line_reading.specs.FieldsPrivate.{Gives};
+ghost use Rattle.line_reading.specs.FieldsPrivate.{Gives, data_of, members_of};
 
 use crate::fault::{Code, Fault, Key};
-use crate::fields::{at_key, no_others, optional_number_at, optional_uuid_at, value_at};
+use crate::fields::{Object, at_key};
 use crate::ids::{Ids, MissingId};
 use crate::ops::ops_in;
 use entry_book::{Batch, Op, Sequence};
-use serde_json::{Map, Value};
+use serde_json::Value;
 use spiffe_name::{Failure, TrustDomain};
 use std::alloc::Global;
 use uuid::Uuid;
+
+/// The keys of an object that has a batch alone.
+pub(super) const BATCH: [Key; 3] = [Key::Ops, Key::After, Key::Token];
 
 /// The values at a batch's own keys.
 #[derive(Drop)]
@@ -32,10 +35,10 @@ pub(crate) struct Listed<'a> {
 
 /// Returns the list of operations of an object.
 #[tactic(auto, unfolding(crate::specs::Batches::items_at))]
-fn items_at(object: &Value) -> Result<&[Value], Failure<Fault>>
-    ensures { Gives (λ items. items_view items.now) result (items_at (view object.now)) }
+fn items_at<'a>(object: &'a Object<'_>) -> Result<&'a [Value], Failure<Fault>>
+    ensures { Gives (λ items. items_view items.now) result (items_at (data_of object.now)) }
 {
-    match value_at(object, Key::Ops).and_then(Value::as_array) {
+    match object.value_at(Key::Ops).and_then(Value::as_array) {
         Some(items) => Ok(items),
         None => Err(at_key(Code::Field, Key::Ops)),
     }
@@ -43,16 +46,16 @@ fn items_at(object: &Value) -> Result<&[Value], Failure<Fault>>
 
 /// Reads a batch's own keys of an object. Without `after` the batch may run at any place.
 #[tactic(auto, unfolding(crate::specs::Batches::listed_in))]
-pub(crate) fn listed_in(object: &Value) -> Result<Listed<'_>, Failure<Fault>>
+pub(crate) fn listed_in<'a>(object: &'a Object<'_>) -> Result<Listed<'a>, Failure<Fault>>
     ensures { Gives (λ listed. record {
       items = items_view listed.items.now;
       after = listed.after;
       token = listed.token;
-    }) result (listed_in (view object.now)) }
+    }) result (listed_in (data_of object.now)) }
 {
     let items = items_at(object)?;
-    let after = optional_number_at(object, Key::After)?;
-    let token = optional_uuid_at(object, Key::Token)?;
+    let after = object.optional_number_at(Key::After)?;
+    let token = object.optional_uuid_at(Key::Token)?;
     Ok(Listed {
         items,
         after: after.unwrap_or(0),
@@ -117,13 +120,12 @@ pub(crate) fn batch_alone_in(
     alloc: Global,
     domain: &TrustDomain,
     ids: &mut Ids,
-    object: &Value,
-    members: &Map<String, Value>,
+    object: &Object<'_>,
 ) -> Result<Batch, Failure<Fault>>
     ensures { Gives (λ batch. (batch, ids.new)) result
-        (batch_alone_in domain.now ids.old (view object.now) (members_view members.now.entries)) }
+        (batch_alone_in domain.now ids.old (data_of object.now) (members_of object.now)) }
 {
     let listed = listed_in(object)?;
-    no_others(members, &[Key::Ops, Key::After, Key::Token])?;
+    object.no_others(&BATCH)?;
     batch_in(alloc, domain, ids, &listed)
 }

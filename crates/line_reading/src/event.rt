@@ -1,24 +1,28 @@
 //! Which event does a line parse to?
 
 ghost use Rattle.std.specs.Prelude.{◌≡◌, IfErr, IfOk, MatchResult, OnErr};
-ghost use Rattle.serde_json.specs.View.{members_view, view};
 ghost use Rattle.spiffe_name.specs.Failures.{IsNoMemory};
 ghost use Rattle.call_events.specs.Events.{IsFor};
 ghost use Rattle.line_reading.specs.Events.{event_alone_in, event_in, event_of, invoke_in, kind_at, kind_of, spelled_event};
 ghost use Rattle.line_reading.specs.Fields.{Fails};
-ghost use Rattle.line_reading.specs.FieldsPrivate.{Gives};
+ghost use Rattle.line_reading.specs.FieldsPrivate.{Gives, data_of, members_of};
 ghost use Rattle.line_reading.specs.Requests.{NeedsMemory};
 
 use crate::batch::batch_alone_in;
 use crate::fault::{Code, Fault, Key};
-use crate::fields::{at_key, no_others, number_at, value_at};
+use crate::fields::{Object, at_key, object_in};
 use crate::ids::Ids;
+use crate::line::{object_of_line, value_of_line};
 use crate::refusal::LineRefusal;
-use crate::request::{framed, object_in, text_in, value_in};
 use call_events::Event;
-use serde_json::{Map, Value};
+use serde_json::Value;
 use spiffe_name::{Failure, TrustDomain};
 use std::alloc::Global;
+
+const INVOKE: [Key; 3] = [Key::Event, Key::Call, Key::Batch];
+
+/// The keys of every other event.
+const OTHERS: [Key; 2] = [Key::Event, Key::Call];
 
 /// The kind of an event of a call.
 #[derive(Clone, Copy, Debug, PartialEq, Eq, Drop)]
@@ -39,30 +43,23 @@ pub(crate) enum EventKind {
 fn kind_of(word: &str) -> Option<EventKind>
     ensures { result ≡ kind_of word.now }
 {
-    if word == "invoke" {
-        return Some(EventKind::Invoke);
+    match word {
+        "invoke" => Some(EventKind::Invoke),
+        "begin" => Some(EventKind::Begin),
+        "step" => Some(EventKind::Step),
+        "commit" => Some(EventKind::Commit),
+        "reply" => Some(EventKind::Reply),
+        _ => None,
     }
-    if word == "begin" {
-        return Some(EventKind::Begin);
-    }
-    if word == "step" {
-        return Some(EventKind::Step);
-    }
-    if word == "commit" {
-        return Some(EventKind::Commit);
-    }
-    if word == "reply" {
-        return Some(EventKind::Reply);
-    }
-    None
 }
 
 /// Reads the kind of event at the key.
 #[tactic(auto, unfolding(crate::specs::Events::kind_at))]
-fn kind_at(object: &Value, key: Key) -> Result<EventKind, Failure<Fault>>
-    ensures { Gives (λ kind. kind) result (kind_at key (view object.now)) }
+fn kind_at(object: &Object<'_>, key: Key) -> Result<EventKind, Failure<Fault>>
+    ensures { Gives (λ kind. kind) result (kind_at key (data_of object.now)) }
 {
-    match value_at(object, key)
+    match object
+        .value_at(key)
         .and_then(Value::as_str)
         .and_then(kind_of)
     {
@@ -78,29 +75,23 @@ fn invoke_in(
     domain: &TrustDomain,
     ids: &mut Ids,
     call: u64,
-    object: &Value,
-    members: &Map<String, Value>,
+    object: &Object<'_>,
 ) -> Result<Event, Failure<Fault>>
     ensures { Gives (λ event. (event, ids.new)) result
-        (invoke_in domain.now ids.old call (view object.now) (members_view members.now.entries)) }
+        (invoke_in domain.now ids.old call (data_of object.now) (members_of object.now)) }
 {
-    let Some(inner) = value_at(object, Key::Batch) else {
-        return Err(at_key(Code::Field, Key::Batch));
-    };
-    let Some(inner_members) = inner.as_object() else {
-        return Err(at_key(Code::Field, Key::Batch));
-    };
-    no_others(members, &[Key::Event, Key::Call, Key::Batch])?;
-    let batch = batch_alone_in(alloc, domain, ids, inner, inner_members)?;
+    let inner = object_in(object.required_at(Key::Batch)?, Key::Batch)?;
+    object.no_others(&INVOKE)?;
+    let batch = batch_alone_in(alloc, domain, ids, &inner)?;
     Ok(Event::Invoke(call, batch))
 }
 
 /// Returns the event, unless the line has keys other than `event` and `call`.
 #[tactic(auto, unfolding(crate::specs::Events::event_alone_in))]
-fn event_alone_in(event: Event, members: &Map<String, Value>) -> Result<Event, Failure<Fault>>
-    ensures { Gives (λ e. e) result (event_alone_in event (members_view members.now.entries)) }
+fn event_alone_in(event: Event, object: &Object<'_>) -> Result<Event, Failure<Fault>>
+    ensures { Gives (λ e. e) result (event_alone_in event (members_of object.now)) }
 {
-    no_others(members, &[Key::Event, Key::Call])?;
+    object.no_others(&OTHERS)?;
     Ok(event)
 }
 
@@ -111,18 +102,17 @@ fn event_of(
     ids: &mut Ids,
     kind: EventKind,
     call: u64,
-    object: &Value,
-    members: &Map<String, Value>,
+    object: &Object<'_>,
 ) -> Result<Event, Failure<Fault>>
     ensures { Gives (λ event. (event, ids.new)) result
-        (event_of domain.now ids.old kind call (view object.now) (members_view members.now.entries)) }
+        (event_of domain.now ids.old kind call (data_of object.now) (members_of object.now)) }
 {
     match kind {
-        EventKind::Invoke => invoke_in(alloc, domain, ids, call, object, members),
-        EventKind::Begin => event_alone_in(Event::Begin(call), members),
-        EventKind::Step => event_alone_in(Event::Step(call), members),
-        EventKind::Commit => event_alone_in(Event::Commit(call), members),
-        EventKind::Reply => event_alone_in(Event::Reply(call), members),
+        EventKind::Invoke => invoke_in(alloc, domain, ids, call, object),
+        EventKind::Begin => event_alone_in(Event::Begin(call), object),
+        EventKind::Step => event_alone_in(Event::Step(call), object),
+        EventKind::Commit => event_alone_in(Event::Commit(call), object),
+        EventKind::Reply => event_alone_in(Event::Reply(call), object),
     }
 }
 
@@ -132,18 +122,17 @@ fn event_in(
     alloc: Global,
     domain: &TrustDomain,
     ids: &mut Ids,
-    object: &Value,
-    members: &Map<String, Value>,
+    object: &Object<'_>,
 ) -> Result<Event, Failure<Fault>>
     ensures { Gives (λ event. (event, ids.new)) result
-        (event_in domain.now ids.old (view object.now) (members_view members.now.entries)) }
+        (event_in domain.now ids.old (data_of object.now) (members_of object.now)) }
 {
     let kind = kind_at(object, Key::Event)?;
-    let call = number_at(object, Key::Call)?;
-    event_of(alloc, domain, ids, kind, call, object, members)
+    let call = object.number_at(Key::Call)?;
+    event_of(alloc, domain, ids, kind, call, object)
 }
 
-/// Reads the event of the line. On an error the ids are unchanged. The checks that take no memory come first.
+/// Reads the event of the line. On an error the ids are unchanged.
 #[tactic(auto, unfolding(crate::specs::Events::spelled_event))]
 fn event_of_line(
     alloc: Global,
@@ -155,12 +144,10 @@ fn event_of_line(
     ensures kept { OnErr result (ids.new ≡ ids.old) }
     ensures memory { IfErr result (λ failure. IsNoMemory failure → NeedsMemory line.now) }
 {
-    framed(line)?;
-    let text = text_in(line)?;
-    let value = value_in(alloc, text)?;
-    let members = object_in(&value)?;
+    let value = value_of_line(alloc, line)?;
+    let object = object_of_line(&value)?;
     let mut after = ids.clone()?;
-    let event = event_in(alloc, domain, &mut after, &value, members)?;
+    let event = event_in(alloc, domain, &mut after, &object)?;
     *ids = after;
     Ok(event)
 }

@@ -1,15 +1,14 @@
 //! Which values does an object have at its keys?
 //!
 //! There is a reader for each kind of key. Each returns the value or the first fault, as the definition of the same name
-//! says. Readers with names in `_in` read a value for a key; those in `_at` read the value at the key.
+//! says. Readers with names in `_in` read a value for a key; the methods in `_at` read the value at the key.
 
-ghost use Rattle.std.specs.Prelude.{◌≡◌, None, Some, option_map};
-ghost use Rattle.serde_json.specs.Find.{get};
-ghost use Rattle.serde_json.specs.View.{members_view, view};
+ghost use Rattle.std.specs.Prelude.{◌≡◌, IfOk, MatchOption, None, Some};
+ghost use Rattle.serde_json.specs.Find.{as_object};
+ghost use Rattle.serde_json.specs.View.{view};
 ghost use Rattle.spiffe_name.specs.declared.refusals.Failure.TheVariants.{Refused};
-ghost use Rattle.line_reading.specs.Codes.{key_name};
-ghost use Rattle.line_reading.specs.Fields.{HasNoOther, IsLeastOther, given_at, is_known_key, no_others};
-ghost use Rattle.line_reading.specs.FieldsPrivate.{Gives};
+ghost use Rattle.line_reading.specs.Fields.{HasNoOther, IsLeastOther, is_known_key, required};
+ghost use Rattle.line_reading.specs.FieldsPrivate.{Gives, data_of, members_of};
 
 mod lists;
 mod names;
@@ -18,14 +17,16 @@ mod texts;
 
 use crate::fault::{Code, Fault, Field, Key};
 use entry_book::Text;
-pub(crate) use lists::{
-    optional_domain_at, optional_domains_at, optional_selectors_at, selectors_at,
-};
-pub(crate) use names::{domain_at, id_at, new_uuid_at, optional_id_at, optional_uuid_at, uuid_at};
-pub(crate) use numbers::{number_at, number_in, optional_number_at, tries_at};
+pub(crate) use numbers::number_in;
 use serde_json::{Map, Value};
 use spiffe_name::Failure;
-pub(crate) use texts::{optional_match_at, optional_mode_at, optional_text_at, text_at};
+
+/// An object, with its members.
+#[derive(Drop)]
+pub(crate) struct Object<'a> {
+    pub(super) value: &'a Value,
+    pub(super) members: &'a Map<String, Value>,
+}
 
 /// Returns a fault of the line as a whole.
 pub(crate) fn at_line(code: Code) -> Fault
@@ -49,22 +50,26 @@ pub(crate) fn at_key(code: Code, key: Key) -> Failure<Fault>
     })
 }
 
-/// Returns the value at a key of an object.
-pub(crate) fn value_at(object: &Value, key: Key) -> Option<&Value>
-    ensures { option_map (λ v. view v.now) result ≡ get (key_name key) (view object.now) }
+/// Returns the value as an object, if it is one.
+pub(crate) fn object_of(value: &Value) -> Option<Object<'_>>
+    ensures { MatchOption result (as_object (view value.now) ≡ None)
+        (λ object. (data_of object ≡ view value.now) × (as_object (view value.now) ≡ Some (members_of object))) }
 {
-    object.get(key.name())
+    match value.as_object() {
+        Some(members) => Some(Object { value, members }),
+        None => None,
+    }
 }
 
-/// Returns the value at an optional key of an object; null counts as absent.
-fn given_at(object: &Value, key: Key) -> Option<&Value>
-    ensures { option_map (λ v. view v.now) result ≡ given_at key (view object.now) }
+/// Reads a value as an object.
+pub(crate) fn object_in(value: &Value, key: Key) -> Result<Object<'_>, Failure<Fault>>
+    ensures members { Gives members_of result (required key (as_object (view value.now))) }
+    ensures value { IfOk result (λ object. data_of object ≡ view value.now) }
 {
-    let value = value_at(object, key)?;
-    if value.is_null() {
-        return None;
+    match object_of(value) {
+        Some(object) => Ok(object),
+        None => Err(at_key(Code::Field, key)),
     }
-    Some(value)
 }
 
 /// Returns true if one of the keys has this name.
@@ -74,21 +79,58 @@ fn is_known_key(keys: &[Key], name: &str) -> bool
     keys.iter().any(|key| key.name() == name)
 }
 
-/// Refuses an object with keys other than these. The fault names the least other key, in the order of bytes: since the map has
-/// its keys in that order, it is the first.
-pub(crate) fn no_others(members: &Map<String, Value>, keys: &[Key]) -> Result<(), Failure<Fault>>
-    ensures { Gives (λ _. tt) result (no_others keys.now (members_view members.now.entries)) }
-{
-    for (name, _) in members {
-        if !is_known_key(keys, name) {
-            return Err(Failure::Refused(Fault {
-                code: Code::Field,
-                field: Some(Field::Unknown(Text::of(name.clone()?))),
-                op: None,
-            }));
+impl Object<'_> {
+    ghost use Rattle.std.specs.Prelude.{◌≡◌, option_map};
+    ghost use Rattle.serde_json.specs.Find.{get};
+    ghost use Rattle.serde_json.specs.View.{view};
+    ghost use Rattle.line_reading.specs.Codes.{key_name};
+    ghost use Rattle.line_reading.specs.Fields.{given_at, no_others, required};
+    ghost use Rattle.line_reading.specs.FieldsPrivate.{Gives, data_of, members_of};
+
+    /// Returns the value at a key.
+    pub(crate) fn value_at(&self, key: Key) -> Option<&Value>
+        ensures { option_map (λ v. view v.now) result ≡ get (key_name key) (data_of self.now) }
+    {
+        self.value.get(key.name())
+    }
+
+    /// Returns the value at an optional key; null counts as absent.
+    fn given_at(&self, key: Key) -> Option<&Value>
+        ensures { option_map (λ v. view v.now) result ≡ given_at key (data_of self.now) }
+    {
+        let value = self.value_at(key)?;
+        if value.is_null() {
+            return None;
+        }
+        Some(value)
+    }
+
+    /// Returns the value at a key. The error is a fault at the key, if there is none.
+    pub(crate) fn required_at(&self, key: Key) -> Result<&Value, Failure<Fault>>
+        ensures { Gives (λ v. view v.now) result (required key (get (key_name key) (data_of self.now))) }
+    {
+        match self.value_at(key) {
+            Some(value) => Ok(value),
+            None => Err(at_key(Code::Field, key)),
         }
     }
-    Ok(())
+
+    /// Refuses an object with keys other than these. The fault names the least other key, in the order of bytes: since the
+    /// map has its keys in that order, it is the first.
+    pub(crate) fn no_others(&self, keys: &[Key]) -> Result<(), Failure<Fault>>
+        ensures { Gives (λ _. tt) result (no_others keys.now (members_of self.now)) }
+    {
+        for (name, _) in self.members {
+            if !is_known_key(keys, name) {
+                return Err(Failure::Refused(Fault {
+                    code: Code::Field,
+                    field: Some(Field::Unknown(Text::of(name.clone()?))),
+                    op: None,
+                }));
+            }
+        }
+        Ok(())
+    }
 }
 
 /// The unknown key that a fault names is the least that the object has, in the order of bytes; without such a fault, the

@@ -15,8 +15,7 @@
 //! line, and `Laws` the other theorems. `FieldsPrivate` is for this crate's own contracts.
 //!
 //! - `fault`: what can be wrong with a line; `refusal`: the same with the line's number.
-//! - `request`: a line, and a request's keys next to those of its batch; `tries`: how often a batch may be tried.
-//! - `event`: a line that is an event of a call; `record`: a line that reports a call with its reply.
+//! - `line`: the object that a line has. `request`, `event` and `record` read it; `tries`: how often a batch may be tried.
 //! - `batch`, `ops`: an object that holds a batch, and its operations; `ids`: the ids for entries without one.
 //! - `fields`: the values at an object's keys; `kept_lines`: the bytes kept of a line.
 //!
@@ -30,6 +29,7 @@ mod fields;
 mod ids;
 mod kept_lines;
 mod laws;
+mod line;
 mod ops;
 mod record;
 mod refusal;

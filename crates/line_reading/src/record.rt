@@ -1,25 +1,33 @@
 //! Which record of a call does a line parse to?
 
 ghost use Rattle.std.specs.Prelude.{◌≡◌, IfErr, Ok, IfOk, MatchResult};
-ghost use Rattle.serde_json.specs.View.{members_view, view};
+ghost use Rattle.serde_json.specs.View.{view};
 ghost use Rattle.spiffe_name.specs.Failures.{IsNoMemory};
 ghost use Rattle.line_reading.specs.Fields.{Fails};
-ghost use Rattle.line_reading.specs.FieldsPrivate.{Gives};
+ghost use Rattle.line_reading.specs.FieldsPrivate.{Gives, data_of, members_of};
 ghost use Rattle.line_reading.specs.RecordViews.{recorded};
 ghost use Rattle.line_reading.specs.Records.{number_or_null_at, object_at, record_in, recorded_batch_in, spelled_record};
 ghost use Rattle.line_reading.specs.Requests.{NeedsMemory};
 
-use crate::batch::{batch_of, listed_in};
+use crate::batch::{BATCH, batch_of, listed_in};
 use crate::fault::{Code, Fault, Key};
-use crate::fields::{at_key, no_others, number_at, number_in, value_at};
+use crate::fields::{Object, at_key, number_in, object_in};
 use crate::ids::{Ids, MissingId};
+use crate::line::{object_of_line, value_of_line};
 use crate::ops::ops_in;
 use crate::refusal::LineRefusal;
-use crate::request::{framed, object_in, text_in, value_in};
 use entry_book::Batch;
-use serde_json::{Map, Value};
+use serde_json::Value;
 use spiffe_name::{Failure, TrustDomain};
 use std::alloc::Global;
+
+const RECORD: [Key; 5] = [
+    Key::Batch,
+    Key::Call,
+    Key::Invoked,
+    Key::Replied,
+    Key::Reply,
+];
 
 /// A call, as its record reports it.
 #[derive(Drop)]
@@ -38,12 +46,10 @@ pub struct Record {
 
 /// Reads the whole number at a key, or `None` if the value is null. The key must be there.
 #[tactic(auto, unfolding(crate::specs::Records::number_or_null_at))]
-fn number_or_null_at(object: &Value, key: Key) -> Result<Option<u64>, Failure<Fault>>
-    ensures { Gives (λ n. n) result (number_or_null_at key (view object.now)) }
+fn number_or_null_at(object: &Object<'_>, key: Key) -> Result<Option<u64>, Failure<Fault>>
+    ensures { Gives (λ n. n) result (number_or_null_at key (data_of object.now)) }
 {
-    let Some(value) = value_at(object, key) else {
-        return Err(at_key(Code::Field, key));
-    };
+    let value = object.required_at(key)?;
     if value.is_null() {
         return Ok(None);
     }
@@ -52,12 +58,10 @@ fn number_or_null_at(object: &Value, key: Key) -> Result<Option<u64>, Failure<Fa
 
 /// Reads the object at a key.
 #[tactic(auto, unfolding(crate::specs::Records::object_at))]
-fn object_at(object: &Value, key: Key) -> Result<&Value, Failure<Fault>>
-    ensures { Gives (λ value. view value.now) result (object_at key (view object.now)) }
+fn object_at<'a>(object: &'a Object<'_>, key: Key) -> Result<&'a Value, Failure<Fault>>
+    ensures { Gives (λ value. view value.now) result (object_at key (data_of object.now)) }
 {
-    let Some(value) = value_at(object, key) else {
-        return Err(at_key(Code::Field, key));
-    };
+    let value = object.required_at(key)?;
     if !value.is_object() {
         return Err(at_key(Code::Field, key));
     }
@@ -69,14 +73,13 @@ fn object_at(object: &Value, key: Key) -> Result<&Value, Failure<Fault>>
 fn recorded_batch_in(
     alloc: Global,
     domain: &TrustDomain,
-    object: &Value,
-    members: &Map<String, Value>,
+    object: &Object<'_>,
 ) -> Result<Batch, Failure<Fault>>
     ensures { Gives (λ batch. batch) result
-        (recorded_batch_in domain.now (view object.now) (members_view members.now.entries)) }
+        (recorded_batch_in domain.now (data_of object.now) (members_of object.now)) }
 {
     let listed = listed_in(object)?;
-    no_others(members, &[Key::Ops, Key::After, Key::Token])?;
+    object.no_others(&BATCH)?;
     let mut ids = Ids::of_seed([0; 32]);
     let ops = ops_in(alloc, MissingId::Refused, &mut ids, listed.items)?;
     batch_of(alloc, domain, ops, listed.after, listed.token)
@@ -87,33 +90,17 @@ fn recorded_batch_in(
 fn record_in(
     alloc: Global,
     domain: &TrustDomain,
-    object: &Value,
-    members: &Map<String, Value>,
+    object: &Object<'_>,
 ) -> Result<Record, Failure<Fault>>
-    ensures { Gives recorded result
-        (record_in domain.now (view object.now) (members_view members.now.entries)) }
+    ensures { Gives recorded result (record_in domain.now (data_of object.now) (members_of object.now)) }
 {
-    let Some(inner) = value_at(object, Key::Batch) else {
-        return Err(at_key(Code::Field, Key::Batch));
-    };
-    let Some(inner_members) = inner.as_object() else {
-        return Err(at_key(Code::Field, Key::Batch));
-    };
-    let call = number_at(object, Key::Call)?;
-    let invoked = number_at(object, Key::Invoked)?;
+    let inner = object_in(object.required_at(Key::Batch)?, Key::Batch)?;
+    let call = object.number_at(Key::Call)?;
+    let invoked = object.number_at(Key::Invoked)?;
     let replied = number_or_null_at(object, Key::Replied)?;
     let reply = object_at(object, Key::Reply)?;
-    no_others(
-        members,
-        &[
-            Key::Batch,
-            Key::Call,
-            Key::Invoked,
-            Key::Replied,
-            Key::Reply,
-        ],
-    )?;
-    let batch = recorded_batch_in(alloc, domain, inner, inner_members)?;
+    object.no_others(&RECORD)?;
+    let batch = recorded_batch_in(alloc, domain, &inner)?;
     Ok(Record {
         batch,
         call,
@@ -123,7 +110,7 @@ fn record_in(
     })
 }
 
-/// Reads the record of the line. The checks that take no memory come first.
+/// Reads the record of the line.
 #[tactic(auto, unfolding(crate::specs::Records::spelled_record))]
 fn spelled_record(
     alloc: Global,
@@ -133,11 +120,9 @@ fn spelled_record(
     ensures spelled { Gives recorded result (spelled_record domain.now line.now) }
     ensures memory { IfErr result (λ failure. IsNoMemory failure → NeedsMemory line.now) }
 {
-    framed(line)?;
-    let text = text_in(line)?;
-    let value = value_in(alloc, text)?;
-    let members = object_in(&value)?;
-    record_in(alloc, domain, &value, members)
+    let value = value_of_line(alloc, line)?;
+    let object = object_of_line(&value)?;
+    record_in(alloc, domain, &object)
 }
 
 /// Reads a record's line: its bytes with its LF, if it has one, and its number, counted from 1. Of a line over the limit

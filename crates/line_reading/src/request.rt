@@ -1,30 +1,23 @@
 //! Which request does a line parse to?
 
-ghost use Rattle.std.specs.Prelude.{◌≡◌, IfErr, IfOk, MatchResult, OnErr, length};
-ghost use Rattle.std.specs.Io.BufRead.{ends_with_byte, strip_last};
-ghost use Rattle.std.specs.Str.{IsUtf8};
-ghost use Rattle.serde_json.specs.Find.{as_object};
-ghost use Rattle.serde_json.specs.View.{members_view, view};
+ghost use Rattle.std.specs.Prelude.{◌≡◌, IfErr, IfOk, MatchResult, OnErr};
 ghost use Rattle.spiffe_name.specs.Failures.{IsNoMemory};
 ghost use Rattle.line_reading.specs.Fields.{Fails};
-ghost use Rattle.line_reading.specs.FieldsPrivate.{Gives};
-ghost use Rattle.line_reading.specs.Requests.{NeedsMemory, framed, object_in, request_in, spelled, value_in};
+ghost use Rattle.line_reading.specs.FieldsPrivate.{Gives, data_of, members_of};
+ghost use Rattle.line_reading.specs.Requests.{NeedsMemory, request_in, spelled};
 
 use crate::batch::{batch_in, listed_in};
-use crate::fault::{Code, Fault, Key};
-use crate::fields::{at_line, no_others, tries_at};
+use crate::fault::{Fault, Key};
+use crate::fields::Object;
 use crate::ids::Ids;
+use crate::line::{object_of_line, value_of_line};
 use crate::refusal::LineRefusal;
 use crate::tries::Tries;
 use entry_book::Batch;
-use line_devices::KEPT_BYTES;
-use serde_json::{Map, Value};
 use spiffe_name::{Failure, TrustDomain};
 use std::alloc::Global;
 
-/// The maximum number of bytes before a line's LF. It is one less than the number of bytes that are kept of a line, so that these
-/// show whether the line is too long.
-const LINE_LIMIT: usize = KEPT_BYTES - 1;
+const REQUEST: [Key; 4] = [Key::Ops, Key::After, Key::Token, Key::Tries];
 
 /// The content of a request line.
 #[derive(Drop)]
@@ -35,93 +28,25 @@ pub struct Request {
     pub tries: Tries,
 }
 
-fn ends_with_lf(line: &[u8]) -> bool
-    ensures { result ≡ ends_with_byte 10 line.now }
-{
-    !line.is_empty() && line[line.len() - 1] == b'\n'
-}
-
-/// Returns the number of bytes before the LF.
-fn len_before_lf(line: &[u8]) -> usize
-    ensures { result ≡ length (strip_last 10 line.now) }
-{
-    if ends_with_lf(line) {
-        line.len() - 1
-    } else {
-        line.len()
-    }
-}
-
-/// Refuses a line that is too long or has no LF. This takes no memory.
-#[tactic(auto, unfolding(crate::specs::Requests::framed, crate::specs::Requests::line_limit))]
-pub(super) fn framed(line: &[u8]) -> Result<(), Fault>
-    ensures { result ≡ framed line.now }
-{
-    if len_before_lf(line) > LINE_LIMIT {
-        return Err(at_line(Code::LineTooLong));
-    }
-    if !ends_with_lf(line) {
-        return Err(at_line(Code::Truncated));
-    }
-    Ok(())
-}
-
-/// Returns the line's text; a line that isn't UTF-8 isn't JSON. This takes no memory.
-pub(super) fn text_in(line: &[u8]) -> Result<&str, Fault>
-    ensures { MatchResult result
-        (λ text. (text.now ≡ line.now) × IsUtf8 line.now)
-        (λ fault. value_in line.now ≡ Err fault) }
-{
-    match str::from_utf8(line) {
-        Ok(text) => Ok(text),
-        Err(_) => Err(at_line(Code::NotJson)),
-    }
-}
-
-/// Parses the text as a JSON value. No other function calls a parser of JSON, and a line is parsed once.
-#[tactic(auto, unfolding(crate::specs::Requests::value_in))]
-pub(super) fn value_in(alloc: Global, text: &str) -> Result<Value, Failure<Fault>>
-    ensures { Gives view result (value_in text.now) }
-{
-    match Value::from_str(alloc, text) {
-        Ok(value) => Ok(value),
-        Err(error) => Err(if error.is_memory() {
-            Failure::NoMemory
-        } else {
-            Failure::Refused(at_line(Code::NotJson))
-        }),
-    }
-}
-
-pub(super) fn object_in(value: &Value) -> Result<&Map<String, Value>, Failure<Fault>>
-    ensures { Gives (λ m. members_view m.now.entries) result (object_in (as_object (view value.now))) }
-{
-    match value.as_object() {
-        Some(members) => Ok(members),
-        None => Err(Failure::Refused(at_line(Code::NotObject))),
-    }
-}
-
 /// Reads the request of an object.
 #[tactic(auto, unfolding(crate::specs::Requests::request_in))]
 fn request_in(
     alloc: Global,
     domain: &TrustDomain,
     ids: &mut Ids,
-    object: &Value,
-    members: &Map<String, Value>,
+    object: &Object<'_>,
 ) -> Result<Request, Failure<Fault>>
     ensures { Gives (λ request. (request, ids.new)) result
-        (request_in domain.now ids.old (view object.now) (members_view members.now.entries)) }
+        (request_in domain.now ids.old (data_of object.now) (members_of object.now)) }
 {
     let listed = listed_in(object)?;
-    let tries = tries_at(object, Key::Tries)?;
-    no_others(members, &[Key::Ops, Key::After, Key::Token, Key::Tries])?;
+    let tries = object.tries_at(Key::Tries)?;
+    object.no_others(&REQUEST)?;
     let batch = batch_in(alloc, domain, ids, &listed)?;
     Ok(Request { batch, tries })
 }
 
-/// Reads the request of the line. On an error the ids are unchanged. The checks that take no memory come first.
+/// Reads the request of the line. On an error the ids are unchanged.
 #[tactic(auto, unfolding(crate::specs::Requests::spelled))]
 fn request_of_line(
     alloc: Global,
@@ -133,12 +58,10 @@ fn request_of_line(
     ensures kept { OnErr result (ids.new ≡ ids.old) }
     ensures memory { IfErr result (λ failure. IsNoMemory failure → NeedsMemory line.now) }
 {
-    framed(line)?;
-    let text = text_in(line)?;
-    let value = value_in(alloc, text)?;
-    let members = object_in(&value)?;
+    let value = value_of_line(alloc, line)?;
+    let object = object_of_line(&value)?;
     let mut after = ids.clone()?;
-    let request = request_in(alloc, domain, &mut after, &value, members)?;
+    let request = request_in(alloc, domain, &mut after, &object)?;
     *ids = after;
     Ok(request)
 }

@@ -3,12 +3,12 @@
 ghost use Rattle.std.specs.Prelude.{◌≡◌, IfOk};
 ghost use Rattle.serde_json.specs.View.{items_view, view};
 ghost use Rattle.entry_book.specs.Rows.{domain_set};
-ghost use Rattle.line_reading.specs.Fields.{domain_in, domain_set_in, domains_in, optional_domain_at, optional_domains_at, optional_selectors_at, selector_in, selector_set_in, selectors_at, selectors_in};
+ghost use Rattle.line_reading.specs.Fields.{domain_in, domain_set_in, domains_in, selector_in, selector_set_in, selectors_in};
 ghost use Rattle.line_reading.specs.FieldsPrivate.{Gives};
 
 use super::names::domain_of;
 use super::texts::text_in;
-use super::{at_key, given_at, value_at};
+use super::{Object, at_key};
 use crate::fault::{Code, Fault, Key};
 use entry_book::{DomainSet, Sequence};
 use serde_json::Value;
@@ -43,22 +43,6 @@ fn selectors_in(
     Ok(selectors)
 }
 
-/// Reads the list at the key as a set of selectors.
-#[tactic(auto, unfolding(crate::specs::Fields::selectors_at))]
-pub(crate) fn selectors_at(
-    alloc: Global,
-    object: &Value,
-    key: Key,
-) -> Result<SelectorSet, Failure<Fault>>
-    ensures { Gives (λ set. set) result (selectors_at key (view object.now)) }
-{
-    let Some(items) = value_at(object, key).and_then(Value::as_array) else {
-        return Err(at_key(Code::Field, key));
-    };
-    let selectors = selectors_in(alloc, items, key)?;
-    Ok(SelectorSet::of(selectors.into_vec())?)
-}
-
 /// Reads a value, the list of the key, as a set of selectors.
 #[tactic(auto, unfolding(crate::specs::Fields::selector_set_in))]
 fn selector_set_in(alloc: Global, value: &Value, key: Key) -> Result<SelectorSet, Failure<Fault>>
@@ -71,21 +55,6 @@ fn selector_set_in(alloc: Global, value: &Value, key: Key) -> Result<SelectorSet
     Ok(SelectorSet::of(selectors.into_vec())?)
 }
 
-/// Reads the list at an optional key as a set of selectors.
-#[tactic(auto, unfolding(crate::specs::Fields::optional_selectors_at))]
-pub(crate) fn optional_selectors_at(
-    alloc: Global,
-    object: &Value,
-    key: Key,
-) -> Result<Option<SelectorSet>, Failure<Fault>>
-    ensures { Gives (λ set. set) result (optional_selectors_at key (view object.now)) }
-{
-    let Some(value) = given_at(object, key) else {
-        return Ok(None);
-    };
-    Ok(Some(selector_set_in(alloc, value, key)?))
-}
-
 /// Reads an item of the key's list, or the key's value, as a trust domain.
 #[tactic(auto, unfolding(crate::specs::Fields::domain_in))]
 fn domain_in(alloc: Global, item: &Value, key: Key) -> Result<TrustDomain, Failure<Fault>>
@@ -93,21 +62,6 @@ fn domain_in(alloc: Global, item: &Value, key: Key) -> Result<TrustDomain, Failu
 {
     let text = text_in(item, key)?;
     domain_of(alloc, text, key)
-}
-
-/// Reads the trust domain at an optional key.
-#[tactic(auto, unfolding(crate::specs::Fields::optional_domain_at))]
-pub(crate) fn optional_domain_at(
-    alloc: Global,
-    object: &Value,
-    key: Key,
-) -> Result<Option<TrustDomain>, Failure<Fault>>
-    ensures { Gives (λ domain. domain) result (optional_domain_at key (view object.now)) }
-{
-    let Some(value) = given_at(object, key) else {
-        return Ok(None);
-    };
-    Ok(Some(domain_in(alloc, value, key)?))
 }
 
 /// Reads the items of the key's list as trust domains.
@@ -144,17 +98,68 @@ fn domain_set_in(alloc: Global, value: &Value, key: Key) -> Result<DomainSet, Fa
     Ok(domain_set(alloc, domains)?)
 }
 
-/// Reads the list at an optional key as a set of trust domains.
-#[tactic(auto, unfolding(crate::specs::Fields::optional_domains_at))]
-pub(crate) fn optional_domains_at(
-    alloc: Global,
-    object: &Value,
-    key: Key,
-) -> Result<Option<DomainSet>, Failure<Fault>>
-    ensures { Gives (λ set. set) result (optional_domains_at key (view object.now)) }
-{
-    let Some(value) = given_at(object, key) else {
-        return Ok(None);
-    };
-    Ok(Some(domain_set_in(alloc, value, key)?))
+impl Object<'_> {
+    ghost use Rattle.line_reading.specs.Fields.{optional_domain_at, optional_domains_at, optional_selectors_at, selectors_at};
+    ghost use Rattle.line_reading.specs.FieldsPrivate.{Gives, data_of};
+
+    /// Reads the list at the key as a set of selectors.
+    #[tactic(auto, unfolding(crate::specs::Fields::selectors_at))]
+    pub(crate) fn selectors_at(
+        &self,
+        alloc: Global,
+        key: Key,
+    ) -> Result<SelectorSet, Failure<Fault>>
+        ensures { Gives (λ set. set) result (selectors_at key (data_of self.now)) }
+    {
+        let Some(items) = self.value_at(key).and_then(Value::as_array) else {
+            return Err(at_key(Code::Field, key));
+        };
+        let selectors = selectors_in(alloc, items, key)?;
+        Ok(SelectorSet::of(selectors.into_vec())?)
+    }
+
+    /// Reads the list at an optional key as a set of selectors.
+    #[tactic(auto, unfolding(crate::specs::Fields::optional_selectors_at))]
+    pub(crate) fn optional_selectors_at(
+        &self,
+        alloc: Global,
+        key: Key,
+    ) -> Result<Option<SelectorSet>, Failure<Fault>>
+        ensures { Gives (λ set. set) result (optional_selectors_at key (data_of self.now)) }
+    {
+        let Some(value) = self.given_at(key) else {
+            return Ok(None);
+        };
+        Ok(Some(selector_set_in(alloc, value, key)?))
+    }
+
+    /// Reads the trust domain at an optional key.
+    #[tactic(auto, unfolding(crate::specs::Fields::optional_domain_at))]
+    pub(crate) fn optional_domain_at(
+        &self,
+        alloc: Global,
+        key: Key,
+    ) -> Result<Option<TrustDomain>, Failure<Fault>>
+        ensures { Gives (λ domain. domain) result (optional_domain_at key (data_of self.now)) }
+    {
+        let Some(value) = self.given_at(key) else {
+            return Ok(None);
+        };
+        Ok(Some(domain_in(alloc, value, key)?))
+    }
+
+    /// Reads the list at an optional key as a set of trust domains.
+    #[tactic(auto, unfolding(crate::specs::Fields::optional_domains_at))]
+    pub(crate) fn optional_domains_at(
+        &self,
+        alloc: Global,
+        key: Key,
+    ) -> Result<Option<DomainSet>, Failure<Fault>>
+        ensures { Gives (λ set. set) result (optional_domains_at key (data_of self.now)) }
+    {
+        let Some(value) = self.given_at(key) else {
+            return Ok(None);
+        };
+        Ok(Some(domain_set_in(alloc, value, key)?))
+    }
 }

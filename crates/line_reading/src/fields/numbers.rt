@@ -1,10 +1,10 @@
 //! Whole numbers.
 
 ghost use Rattle.serde_json.specs.View.{view};
-ghost use Rattle.line_reading.specs.Fields.{number_at, number_in, optional_number_at, tries_at};
+ghost use Rattle.line_reading.specs.Fields.{number_in};
 ghost use Rattle.line_reading.specs.FieldsPrivate.{Gives};
 
-use super::{at_key, given_at, value_at};
+use super::{Object, at_key};
 use crate::fault::{Code, Fault, Key};
 use crate::tries::Tries;
 use serde_json::Value;
@@ -21,36 +21,41 @@ pub(crate) fn number_in(value: &Value, key: Key) -> Result<u64, Failure<Fault>>
     }
 }
 
-/// Reads the whole number at the key.
-#[tactic(auto, unfolding(crate::specs::Fields::number_at))]
-pub(crate) fn number_at(object: &Value, key: Key) -> Result<u64, Failure<Fault>>
-    ensures { Gives (λ n. n) result (number_at key (view object.now)) }
-{
-    match value_at(object, key).and_then(Value::as_u64) {
-        Some(number) => Ok(number),
-        None => Err(at_key(Code::Field, key)),
+impl Object<'_> {
+    ghost use Rattle.line_reading.specs.Fields.{number_at, optional_number_at, tries_at};
+    ghost use Rattle.line_reading.specs.FieldsPrivate.{Gives, data_of};
+
+    /// Reads the whole number at the key.
+    #[tactic(auto, unfolding(crate::specs::Fields::number_at))]
+    pub(crate) fn number_at(&self, key: Key) -> Result<u64, Failure<Fault>>
+        ensures { Gives (λ n. n) result (number_at key (data_of self.now)) }
+    {
+        match self.value_at(key).and_then(Value::as_u64) {
+            Some(number) => Ok(number),
+            None => Err(at_key(Code::Field, key)),
+        }
     }
-}
 
-/// Reads the whole number at an optional key.
-#[tactic(auto, unfolding(crate::specs::Fields::optional_number_at))]
-pub(crate) fn optional_number_at(object: &Value, key: Key) -> Result<Option<u64>, Failure<Fault>>
-    ensures { Gives (λ n. n) result (optional_number_at key (view object.now)) }
-{
-    let Some(value) = given_at(object, key) else {
-        return Ok(None);
-    };
-    Ok(Some(number_in(value, key)?))
-}
+    /// Reads the whole number at an optional key.
+    #[tactic(auto, unfolding(crate::specs::Fields::optional_number_at))]
+    pub(crate) fn optional_number_at(&self, key: Key) -> Result<Option<u64>, Failure<Fault>>
+        ensures { Gives (λ n. n) result (optional_number_at key (data_of self.now)) }
+    {
+        let Some(value) = self.given_at(key) else {
+            return Ok(None);
+        };
+        Ok(Some(number_in(value, key)?))
+    }
 
-/// Reads how often a batch may be tried: 1 to 16 times, and once if the key is absent or null.
-#[tactic(auto, unfolding(crate::specs::Fields::tries_at))]
-pub(crate) fn tries_at(object: &Value, key: Key) -> Result<Tries, Failure<Fault>>
-    ensures { Gives (λ tries. tries) result (tries_at key (view object.now)) }
-{
-    let count = optional_number_at(object, key)?.unwrap_or(1);
-    match Tries::of(count) {
-        Some(tries) => Ok(tries),
-        None => Err(at_key(Code::Field, key)),
+    /// Reads how often a batch may be tried: 1 to 16 times, and once if the key is absent or null.
+    #[tactic(auto, unfolding(crate::specs::Fields::tries_at))]
+    pub(crate) fn tries_at(&self, key: Key) -> Result<Tries, Failure<Fault>>
+        ensures { Gives (λ tries. tries) result (tries_at key (data_of self.now)) }
+    {
+        let count = self.optional_number_at(key)?.unwrap_or(1);
+        match Tries::of(count) {
+            Some(tries) => Ok(tries),
+            None => Err(at_key(Code::Field, key)),
+        }
     }
 }

@@ -1,11 +1,11 @@
 //! Texts, and words of a fixed list.
 
-ghost use Rattle.std.specs.Prelude.{◌≡◌, option_map};
+ghost use Rattle.std.specs.Prelude.{◌≡◌};
 ghost use Rattle.serde_json.specs.View.{view};
-ghost use Rattle.line_reading.specs.Fields.{match_in, match_of, mode_in, mode_of, optional_match_at, optional_mode_at, optional_text_at, text_at, text_in};
+ghost use Rattle.line_reading.specs.Fields.{match_in, match_of, mode_in, mode_of, text_in};
 ghost use Rattle.line_reading.specs.FieldsPrivate.{Gives};
 
-use super::{at_key, given_at, value_at};
+use super::{Object, at_key};
 use crate::fault::{Code, Fault, Key};
 use entry_book::{DropMode, MatchMode, Text};
 use serde_json::Value;
@@ -23,47 +23,16 @@ pub(super) fn text_in(value: &Value, key: Key) -> Result<&str, Failure<Fault>>
     }
 }
 
-/// Reads the text at the key.
-#[tactic(auto, unfolding(crate::specs::Fields::text_at))]
-pub(crate) fn text_at(object: &Value, key: Key) -> Result<&str, Failure<Fault>>
-    ensures { Gives (λ s. s.now) result (text_at key (view object.now)) }
-{
-    match value_at(object, key).and_then(Value::as_str) {
-        Some(text) => Ok(text),
-        None => Err(at_key(Code::Field, key)),
-    }
-}
-
-/// Reads the text at an optional key.
-#[tactic(auto, unfolding(crate::specs::Fields::optional_text_at))]
-pub(crate) fn optional_text_at(
-    alloc: Global,
-    object: &Value,
-    key: Key,
-) -> Result<Option<Text>, Failure<Fault>>
-    ensures { Gives (λ text. text) result (optional_text_at key (view object.now)) }
-{
-    let Some(value) = given_at(object, key) else {
-        return Ok(None);
-    };
-    let text = text_in(value, key)?;
-    Ok(Some(Text::of(String::from_str(alloc, text)?)))
-}
-
 /// Returns the drop mode with this name.
 fn mode_of(word: &str) -> Option<DropMode>
     ensures { result ≡ mode_of word.now }
 {
-    if word == "restrict" {
-        return Some(DropMode::Restrict);
+    match word {
+        "restrict" => Some(DropMode::Restrict),
+        "delete" => Some(DropMode::Delete),
+        "dissociate" => Some(DropMode::Dissociate),
+        _ => None,
     }
-    if word == "delete" {
-        return Some(DropMode::Delete);
-    }
-    if word == "dissociate" {
-        return Some(DropMode::Dissociate);
-    }
-    None
 }
 
 /// Reads a value as a drop mode.
@@ -77,34 +46,17 @@ fn mode_in(value: &Value, key: Key) -> Result<DropMode, Failure<Fault>>
     }
 }
 
-/// Reads the drop mode at an optional key.
-#[tactic(auto, unfolding(crate::specs::Fields::optional_mode_at))]
-pub(crate) fn optional_mode_at(object: &Value, key: Key) -> Result<Option<DropMode>, Failure<Fault>>
-    ensures { Gives (λ mode. mode) result (optional_mode_at key (view object.now)) }
-{
-    let Some(value) = given_at(object, key) else {
-        return Ok(None);
-    };
-    Ok(Some(mode_in(value, key)?))
-}
-
 /// Returns the match mode with this name.
 fn match_of(word: &str) -> Option<MatchMode>
     ensures { result ≡ match_of word.now }
 {
-    if word == "exact" {
-        return Some(MatchMode::Exact);
+    match word {
+        "exact" => Some(MatchMode::Exact),
+        "any" => Some(MatchMode::Any),
+        "superset" => Some(MatchMode::Superset),
+        "subset" => Some(MatchMode::Subset),
+        _ => None,
     }
-    if word == "any" {
-        return Some(MatchMode::Any);
-    }
-    if word == "superset" {
-        return Some(MatchMode::Superset);
-    }
-    if word == "subset" {
-        return Some(MatchMode::Subset);
-    }
-    None
 }
 
 /// Reads a value as a match mode.
@@ -118,16 +70,56 @@ fn match_in(value: &Value, key: Key) -> Result<MatchMode, Failure<Fault>>
     }
 }
 
-/// Reads the match mode at an optional key.
-#[tactic(auto, unfolding(crate::specs::Fields::optional_match_at))]
-pub(crate) fn optional_match_at(
-    object: &Value,
-    key: Key,
-) -> Result<Option<MatchMode>, Failure<Fault>>
-    ensures { Gives (λ mode. mode) result (optional_match_at key (view object.now)) }
-{
-    let Some(value) = given_at(object, key) else {
-        return Ok(None);
-    };
-    Ok(Some(match_in(value, key)?))
+impl Object<'_> {
+    ghost use Rattle.line_reading.specs.Fields.{optional_match_at, optional_mode_at, optional_text_at, text_at};
+    ghost use Rattle.line_reading.specs.FieldsPrivate.{Gives, data_of};
+
+    /// Reads the text at the key.
+    #[tactic(auto, unfolding(crate::specs::Fields::text_at))]
+    pub(crate) fn text_at(&self, key: Key) -> Result<&str, Failure<Fault>>
+        ensures { Gives (λ s. s.now) result (text_at key (data_of self.now)) }
+    {
+        match self.value_at(key).and_then(Value::as_str) {
+            Some(text) => Ok(text),
+            None => Err(at_key(Code::Field, key)),
+        }
+    }
+
+    /// Reads the text at an optional key.
+    #[tactic(auto, unfolding(crate::specs::Fields::optional_text_at))]
+    pub(crate) fn optional_text_at(
+        &self,
+        alloc: Global,
+        key: Key,
+    ) -> Result<Option<Text>, Failure<Fault>>
+        ensures { Gives (λ text. text) result (optional_text_at key (data_of self.now)) }
+    {
+        let Some(value) = self.given_at(key) else {
+            return Ok(None);
+        };
+        let text = text_in(value, key)?;
+        Ok(Some(Text::of(String::from_str(alloc, text)?)))
+    }
+
+    /// Reads the drop mode at an optional key.
+    #[tactic(auto, unfolding(crate::specs::Fields::optional_mode_at))]
+    pub(crate) fn optional_mode_at(&self, key: Key) -> Result<Option<DropMode>, Failure<Fault>>
+        ensures { Gives (λ mode. mode) result (optional_mode_at key (data_of self.now)) }
+    {
+        let Some(value) = self.given_at(key) else {
+            return Ok(None);
+        };
+        Ok(Some(mode_in(value, key)?))
+    }
+
+    /// Reads the match mode at an optional key.
+    #[tactic(auto, unfolding(crate::specs::Fields::optional_match_at))]
+    pub(crate) fn optional_match_at(&self, key: Key) -> Result<Option<MatchMode>, Failure<Fault>>
+        ensures { Gives (λ mode. mode) result (optional_match_at key (data_of self.now)) }
+    {
+        let Some(value) = self.given_at(key) else {
+            return Ok(None);
+        };
+        Ok(Some(match_in(value, key)?))
+    }
 }

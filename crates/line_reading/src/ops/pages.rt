@@ -1,19 +1,26 @@
 //! Pages of entries.
 
 ghost use Rattle.std.specs.Prelude.{◌≡◌, IfOk};
-ghost use Rattle.serde_json.specs.View.{members_view, view};
-ghost use Rattle.line_reading.specs.FieldsPrivate.{Gives};
+ghost use Rattle.line_reading.specs.FieldsPrivate.{Gives, data_of, members_of};
 ghost use Rattle.line_reading.specs.Operations.{filter_in, page_in, selector_match};
 
 use crate::fault::{Code, Fault, Key};
-use crate::fields::{
-    at_key, no_others, number_at, optional_domain_at, optional_id_at, optional_match_at,
-    optional_number_at, optional_selectors_at, optional_uuid_at,
-};
+use crate::fields::{Object, at_key};
 use entry_book::{Filter, MatchMode, Op, PageQuery, SelectorMatch, Shared};
-use serde_json::{Map, Value};
 use spiffe_name::{Failure, SelectorSet, SpiffeId, TrustDomain};
 use std::alloc::{AllocError, Global};
+
+const PAGE: [Key; 9] = [
+    Key::Op,
+    Key::Size,
+    Key::At,
+    Key::From,
+    Key::Parent,
+    Key::Identity,
+    Key::Domain,
+    Key::Selectors,
+    Key::Match,
+];
 
 /// Makes the ID, if there is one, a shared value. The error is out of memory.
 fn shared_id(alloc: Global, given: Option<SpiffeId>) -> Result<Option<Shared<SpiffeId>>, AllocError>
@@ -59,14 +66,14 @@ fn selector_match(
 
 /// Reads a page's filter, whose conditions are optional. The error is the first fault at a key, or out of memory.
 #[tactic(auto, unfolding(crate::specs::Operations::filter_in))]
-fn filter_in(alloc: Global, object: &Value) -> Result<Filter, Failure<Fault>>
-    ensures { Gives (λ filter. filter) result (filter_in (view object.now)) }
+fn filter_in(alloc: Global, object: &Object<'_>) -> Result<Filter, Failure<Fault>>
+    ensures { Gives (λ filter. filter) result (filter_in (data_of object.now)) }
 {
-    let parent = optional_id_at(alloc, object, Key::Parent)?;
-    let identity = optional_id_at(alloc, object, Key::Identity)?;
-    let domain = optional_domain_at(alloc, object, Key::Domain)?;
-    let selectors = optional_selectors_at(alloc, object, Key::Selectors)?;
-    let mode = optional_match_at(object, Key::Match)?;
+    let parent = object.optional_id_at(alloc, Key::Parent)?;
+    let identity = object.optional_id_at(alloc, Key::Identity)?;
+    let domain = object.optional_domain_at(alloc, Key::Domain)?;
+    let selectors = object.optional_selectors_at(alloc, Key::Selectors)?;
+    let mode = object.optional_match_at(Key::Match)?;
     let question = selector_match(alloc, selectors, mode)?;
     Ok(Filter {
         parent: shared_id(alloc, parent)?,
@@ -78,32 +85,14 @@ fn filter_in(alloc: Global, object: &Value) -> Result<Filter, Failure<Fault>>
 
 /// Reads a query for a page of entries. The error is the first fault at a key, or out of memory.
 #[tactic(auto, unfolding(crate::specs::Operations::page_in))]
-pub(super) fn page_in(
-    alloc: Global,
-    object: &Value,
-    members: &Map<String, Value>,
-) -> Result<Op, Failure<Fault>>
-    ensures { Gives (λ op. op) result
-        (page_in (view object.now) (members_view members.now.entries)) }
+pub(super) fn page_in(alloc: Global, object: &Object<'_>) -> Result<Op, Failure<Fault>>
+    ensures { Gives (λ op. op) result (page_in (data_of object.now) (members_of object.now)) }
 {
-    let size = number_at(object, Key::Size)?;
-    let at = optional_number_at(object, Key::At)?;
-    let from = optional_uuid_at(object, Key::From)?;
+    let size = object.number_at(Key::Size)?;
+    let at = object.optional_number_at(Key::At)?;
+    let from = object.optional_uuid_at(Key::From)?;
     let filter = filter_in(alloc, object)?;
-    no_others(
-        members,
-        &[
-            Key::Op,
-            Key::Size,
-            Key::At,
-            Key::From,
-            Key::Parent,
-            Key::Identity,
-            Key::Domain,
-            Key::Selectors,
-            Key::Match,
-        ],
-    )?;
+    object.no_others(&PAGE)?;
     Ok(Op::Page(Shared::of(
         alloc,
         PageQuery {

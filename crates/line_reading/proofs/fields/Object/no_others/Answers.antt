@@ -8,7 +8,7 @@ use Rattle.serde_json.specs.declared.value.Value.{Value}
 use Rattle.serde_json.specs.View.{members_view}
 use Rattle.line_reading.specs.Fields.{is_known_key, no_others, unless_other}
 use Rattle.line_reading.proofs.Others.{ascending_rest, first_is_least, known_is_passed}
-use Rattle.line_reading.proofs.fields.no_others.Goals as goal
+use Rattle.line_reading.proofs.fields.Object.no_others.Goals as goal
 
 pub returns-then-not-is_known_key : goal.returns-then-not-is_known_key
 returns-then-not-is_known_key c =
