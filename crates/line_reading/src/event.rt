@@ -58,14 +58,11 @@ fn kind_of(word: &str) -> Option<EventKind>
 fn kind_at(object: &Object<'_>, key: Key) -> Result<EventKind, Failure<Fault>>
     ensures { Gives (λ kind. kind) result (kind_at key (data_of object.now)) }
 {
-    match object
+    object
         .value_at(key)
         .and_then(Value::as_str)
         .and_then(kind_of)
-    {
-        Some(kind) => Ok(kind),
-        None => Err(at_key(Code::Field, key)),
-    }
+        .ok_or(at_key(Code::Field, key))
 }
 
 /// Reads an invoke of the call of this number. The keys of the line are checked before those of the batch.

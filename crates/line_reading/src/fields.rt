@@ -66,10 +66,7 @@ pub(crate) fn object_in(value: &Value, key: Key) -> Result<Object<'_>, Failure<F
     ensures members { Gives members_of result (required key (as_object (view value.now))) }
     ensures value { IfOk result (λ object. data_of object ≡ view value.now) }
 {
-    match object_of(value) {
-        Some(object) => Ok(object),
-        None => Err(at_key(Code::Field, key)),
-    }
+    object_of(value).ok_or(at_key(Code::Field, key))
 }
 
 /// Returns true if one of the keys has this name.
@@ -109,10 +106,7 @@ impl Object<'_> {
     pub(crate) fn required_at(&self, key: Key) -> Result<&Value, Failure<Fault>>
         ensures { Gives (λ v. view v.now) result (required key (get (key_name key) (data_of self.now))) }
     {
-        match self.value_at(key) {
-            Some(value) => Ok(value),
-            None => Err(at_key(Code::Field, key)),
-        }
+        self.value_at(key).ok_or(at_key(Code::Field, key))
     }
 
     /// Refuses an object with keys other than these. The fault names the least other key, in the order of bytes: since the

@@ -96,8 +96,5 @@ pub(super) fn object_of_line(value: &Value) -> Result<Object<'_>, Failure<Fault>
     ensures members { Gives members_of result (object_in (as_object (view value.now))) }
     ensures value { IfOk result (λ object. data_of object ≡ view value.now) }
 {
-    match object_of(value) {
-        Some(object) => Ok(object),
-        None => Err(Failure::Refused(at_line(Code::NotObject))),
-    }
+    object_of(value).ok_or(Failure::Refused(at_line(Code::NotObject)))
 }

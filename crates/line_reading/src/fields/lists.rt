@@ -48,9 +48,7 @@ fn selectors_in(
 fn selector_set_in(alloc: Global, value: &Value, key: Key) -> Result<SelectorSet, Failure<Fault>>
     ensures { Gives (λ set. set) result (selector_set_in key (view value.now)) }
 {
-    let Some(items) = value.as_array() else {
-        return Err(at_key(Code::Field, key));
-    };
+    let items = value.as_array().ok_or(at_key(Code::Field, key))?;
     let selectors = selectors_in(alloc, items, key)?;
     Ok(SelectorSet::of(selectors.into_vec())?)
 }
@@ -91,9 +89,7 @@ fn domain_set(alloc: Global, domains: Sequence<TrustDomain>) -> Result<DomainSet
 fn domain_set_in(alloc: Global, value: &Value, key: Key) -> Result<DomainSet, Failure<Fault>>
     ensures { Gives (λ set. set) result (domain_set_in key (view value.now)) }
 {
-    let Some(items) = value.as_array() else {
-        return Err(at_key(Code::Field, key));
-    };
+    let items = value.as_array().ok_or(at_key(Code::Field, key))?;
     let domains = domains_in(alloc, items, key)?;
     Ok(domain_set(alloc, domains)?)
 }
@@ -103,7 +99,7 @@ impl Object<'_> {
     ghost use Rattle.line_reading.specs.FieldsPrivate.{Gives, data_of};
 
     /// Reads the list at the key as a set of selectors.
-    #[tactic(auto, unfolding(crate::specs::Fields::selectors_at))]
+    #[tactic(auto, unfolding(crate::specs::Fields::selectors_at, crate::specs::Fields::selector_set_in))]
     pub(crate) fn selectors_at(
         &self,
         alloc: Global,
@@ -111,11 +107,10 @@ impl Object<'_> {
     ) -> Result<SelectorSet, Failure<Fault>>
         ensures { Gives (λ set. set) result (selectors_at key (data_of self.now)) }
     {
-        let Some(items) = self.value_at(key).and_then(Value::as_array) else {
-            return Err(at_key(Code::Field, key));
-        };
-        let selectors = selectors_in(alloc, items, key)?;
-        Ok(SelectorSet::of(selectors.into_vec())?)
+        match self.value_at(key) {
+            Some(value) => selector_set_in(alloc, value, key),
+            None => Err(at_key(Code::Field, key)),
+        }
     }
 
     /// Reads the list at an optional key as a set of selectors.

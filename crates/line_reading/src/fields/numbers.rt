@@ -15,10 +15,7 @@ use spiffe_name::Failure;
 pub(crate) fn number_in(value: &Value, key: Key) -> Result<u64, Failure<Fault>>
     ensures { Gives (λ n. n) result (number_in key (view value.now)) }
 {
-    match value.as_u64() {
-        Some(number) => Ok(number),
-        None => Err(at_key(Code::Field, key)),
-    }
+    value.as_u64().ok_or(at_key(Code::Field, key))
 }
 
 impl Object<'_> {
@@ -30,10 +27,9 @@ impl Object<'_> {
     pub(crate) fn number_at(&self, key: Key) -> Result<u64, Failure<Fault>>
         ensures { Gives (λ n. n) result (number_at key (data_of self.now)) }
     {
-        match self.value_at(key).and_then(Value::as_u64) {
-            Some(number) => Ok(number),
-            None => Err(at_key(Code::Field, key)),
-        }
+        self.value_at(key)
+            .and_then(Value::as_u64)
+            .ok_or(at_key(Code::Field, key))
     }
 
     /// Reads the whole number at an optional key.
@@ -53,9 +49,6 @@ impl Object<'_> {
         ensures { Gives (λ tries. tries) result (tries_at key (data_of self.now)) }
     {
         let count = self.optional_number_at(key)?.unwrap_or(1);
-        match Tries::of(count) {
-            Some(tries) => Ok(tries),
-            None => Err(at_key(Code::Field, key)),
-        }
+        Tries::of(count).ok_or(at_key(Code::Field, key))
     }
 }

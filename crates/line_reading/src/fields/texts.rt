@@ -17,10 +17,7 @@ use std::alloc::Global;
 pub(super) fn text_in(value: &Value, key: Key) -> Result<&str, Failure<Fault>>
     ensures { Gives (λ s. s.now) result (text_in key (view value.now)) }
 {
-    match value.as_str() {
-        Some(text) => Ok(text),
-        None => Err(at_key(Code::Field, key)),
-    }
+    value.as_str().ok_or(at_key(Code::Field, key))
 }
 
 /// Returns the drop mode with this name.
@@ -40,10 +37,10 @@ fn mode_of(word: &str) -> Option<DropMode>
 fn mode_in(value: &Value, key: Key) -> Result<DropMode, Failure<Fault>>
     ensures { Gives (λ mode. mode) result (mode_in key (view value.now)) }
 {
-    match value.as_str().and_then(mode_of) {
-        Some(mode) => Ok(mode),
-        None => Err(at_key(Code::Field, key)),
-    }
+    value
+        .as_str()
+        .and_then(mode_of)
+        .ok_or(at_key(Code::Field, key))
 }
 
 /// Returns the match mode with this name.
@@ -64,10 +61,10 @@ fn match_of(word: &str) -> Option<MatchMode>
 fn match_in(value: &Value, key: Key) -> Result<MatchMode, Failure<Fault>>
     ensures { Gives (λ mode. mode) result (match_in key (view value.now)) }
 {
-    match value.as_str().and_then(match_of) {
-        Some(mode) => Ok(mode),
-        None => Err(at_key(Code::Field, key)),
-    }
+    value
+        .as_str()
+        .and_then(match_of)
+        .ok_or(at_key(Code::Field, key))
 }
 
 impl Object<'_> {
@@ -79,10 +76,9 @@ impl Object<'_> {
     pub(crate) fn text_at(&self, key: Key) -> Result<&str, Failure<Fault>>
         ensures { Gives (λ s. s.now) result (text_at key (data_of self.now)) }
     {
-        match self.value_at(key).and_then(Value::as_str) {
-            Some(text) => Ok(text),
-            None => Err(at_key(Code::Field, key)),
-        }
+        self.value_at(key)
+            .and_then(Value::as_str)
+            .ok_or(at_key(Code::Field, key))
     }
 
     /// Reads the text at an optional key.
