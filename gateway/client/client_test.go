@@ -224,6 +224,11 @@ func TestQueued(t *testing.T) {
 	if c.late != 0 {
 		t.Errorf("the time stays longer: %d", c.late)
 	}
+	for late, times := range map[int]time.Duration{0: 1, 1: 2, 2: 4, 6: 64, 7: 64} {
+		if c.late = late; c.first() != times*c.options.First {
+			t.Errorf("after %d connections without an answer: %v", late, c.first())
+		}
+	}
 }
 
 // TestSlowAnswer checks that a connection which has answered once may take longer than for a first answer.
