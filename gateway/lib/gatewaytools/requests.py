@@ -4,6 +4,7 @@ import json
 
 from regdtools import operations
 from regdtools.spelling import WRONG, Spelling
+from gatewaytools import rules
 
 AGENTS = [operations.agent(n) for n in range(4)]
 PARENTS = [*AGENTS, operations.SERVER, f"{operations.HOME}/node/a", operations.workload(1)]

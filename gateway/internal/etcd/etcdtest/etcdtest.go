@@ -274,6 +274,10 @@ func (s *Server) handler(handle func(*request) object) http.HandlerFunc {
 			return
 		}
 		answer := handle(&in)
+		if answer == nil {
+			http.Error(w, "etcdserver: requested lease not found", http.StatusNotFound)
+			return
+		}
 		if r.URL.Path == "/v3/kv/txn" && s.loseAnswers > 0 {
 			s.loseAnswers--
 			http.Error(w, "answer lost", http.StatusServiceUnavailable)
@@ -408,6 +412,11 @@ func (s *Server) transact(in *request) object {
 	steps := in.Success
 	if !holds {
 		steps = in.Failure
+	}
+	for _, one := range steps {
+		if one.Put != nil && one.Put.Lease != "" && s.leases[one.Put.Lease] == nil {
+			return nil
+		}
 	}
 	if len(in.Compare) > 0 {
 		s.counts.Transactions++
