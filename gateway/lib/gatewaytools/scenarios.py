@@ -2,7 +2,6 @@
 import concurrent.futures
 import contextlib
 import json
-import os
 import pathlib
 import shutil
 import socket
@@ -13,7 +12,7 @@ import threading
 import time
 
 from regdtools.wrong import Wrong, expect
-from gatewaytools import cluster, differential, faults, plain, rules
+from gatewaytools import cluster, differential, faults, plain
 
 AGENT = "spiffe://ex.org/spire/agent/n1"
 OTHER = "spiffe://ex.org/spire/agent/n2"
