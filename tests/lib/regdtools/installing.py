@@ -6,6 +6,7 @@ scripts/install and scripts/package take the same list of files. Below the prefi
     lib/systemd/system      the units of deploy/, with the paths of these programs
     lib/sysusers.d          the users of the units
     share/bash-completion, share/zsh, share/fish    the completion of regdctl
+    share/man               the manual pages of the programs
     share/doc/regd          the pages at the root, docs/ and examples/
     share/regd/deploy       the other files of deploy/
     share/regd/manifest     what scripts/install has put there; a package has none
@@ -27,7 +28,7 @@ import tempfile
 from typing import NamedTuple
 
 from gatewaytools import tools
-from regdtools import guides
+from regdtools import guides, manual
 from regdtools.program import BUILT, ROOT, is_current
 
 DEPLOY, DOCS, EXAMPLES = ROOT / "deploy", ROOT / "docs", ROOT / "examples"
@@ -71,7 +72,8 @@ COMPLETIONS = {
 
 
 def built_by_go():
-    """Returns the items that the command go builds from the sources as they are: the gateway, and its client with completions."""
+    """Returns the items that the command go builds from the sources as they are: the gateway, and its client with completions, and their
+    manual pages."""
     if not shutil.which("go"):
         raise Missing("the command go is missing (Debian's package golang-go)")
     tools.warn_of_go()
@@ -88,17 +90,22 @@ def built_by_go():
             if tools.go("build", "-trimpath", "-buildvcs=false", "-o", str(program), package, env=env).returncode:
                 raise Missing(f"{name} doesn't compile")
             found.append(Item(f"bin/{name}", program.read_bytes(), True))
+            found.append(manual_page(name, program))
         for shell, path in COMPLETIONS.items():
             script = subprocess.run([program, "completion", shell], check=True, capture_output=True).stdout
             found.append(Item(path, script, False))
         return found
 
 
+def manual_page(name, program):
+    return Item(manual.path_of(name), manual.page(name, program).encode(), False)
+
+
 def items(prefix):
     """Returns the files of an installation at a prefix. The program is the proved one, and nothing here builds it."""
     if not is_current(BUILT):
         raise Missing("regd is not proved and built from the sources as they are: run scripts/prove first")
-    found = [Item("bin/regd", BUILT.read_bytes(), True), *built_by_go()]
+    found = [Item("bin/regd", BUILT.read_bytes(), True), manual_page("regd", BUILT), *built_by_go()]
     for path in regular(DEPLOY):
         text = path.read_bytes()
         if path.suffix in UNITS:
