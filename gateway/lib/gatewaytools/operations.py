@@ -466,7 +466,7 @@ class Machine:
     def run(self, *commands):
         """Runs commands of the page in one shell, and returns what they print."""
         text = "set -e\n" + "\n".join(commands).replace("THIS=10.0.0.1", f"THIS=10.0.0.{self.number}").replace("10.0.0.", self.site.network)
-        variables = {**os.environ, "REGD_ROOT": str(self.root), "REGD": self.site.programs.regd, "GOFLAGS": "-mod=mod", "GOPROXY": "off",
+        variables = {**os.environ, "REGD_ROOT": str(self.root), "REGD": self.site.programs.regd, "GOFLAGS": "-mod=vendor", "GOPROXY": "off",
                      "PATH": f"{self.site.bin}:{self.root}/usr/local/bin:{os.environ['PATH']}"}
         done = subprocess.run(["bash", "-c", text], cwd=self.site.top, env=variables, stdin=subprocess.DEVNULL, capture_output=True, text=True, timeout=300)
         if done.returncode:

@@ -49,7 +49,7 @@ def need(*commands):
 
 def go_environment(env=None):
     """Returns the variables for the command go, which then needs no network."""
-    return {**os.environ, "GOFLAGS": "-mod=mod", "GOPROXY": "off", "GOTOOLCHAIN": "local", **(env or {})}
+    return {**os.environ, "GOFLAGS": "-mod=vendor", "GOPROXY": "off", "GOTOOLCHAIN": "local", **(env or {})}
 
 
 def go(*words, env=None, cwd=SOURCES, **more):

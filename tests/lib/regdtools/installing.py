@@ -32,6 +32,7 @@ from regdtools import guides, manual
 from regdtools.program import BUILT, ROOT, is_current
 
 DEPLOY, DOCS, EXAMPLES = ROOT / "deploy", ROOT / "docs", ROOT / "examples"
+YAML = ROOT / "gateway/vendor/gopkg.in/yaml.v3"
 UNITS = (".service", ".timer")
 USERS = "sysusers.conf"
 MANIFEST = "share/regd/manifest"
@@ -117,6 +118,8 @@ def items(prefix):
     examples = [path for folder in (EXAMPLES, *(it for it in sorted(EXAMPLES.iterdir()) if it.is_dir())) for path in regular(folder)]
     for path in [*sorted({*guides.pages(), ROOT / "LICENSE", *regular(DOCS)}), *examples]:
         found.append(Item(f"share/doc/regd/{path.relative_to(ROOT)}", path.read_bytes(), os.access(path, os.X_OK)))
+    for name in ("NOTICE", "copyright"):  # of the code of others that regdctl contains
+        found.append(Item(f"share/doc/regd/yaml.v3/{name}", (YAML / name).read_bytes(), False))
     return found
 
 
