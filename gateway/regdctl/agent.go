@@ -6,7 +6,6 @@ import (
 	"encoding/json"
 	"flag"
 	"fmt"
-	"strings"
 
 	"regd/gateway/book"
 	"regd/gateway/client"
@@ -78,7 +77,7 @@ func (s *session) hasSelectors(id string, selectors []string) (bool, error) {
 	if a == nil || len(selectors) == 0 {
 		return a == nil && len(selectors) == 0, nil
 	}
-	return strings.Join(ordered(a.Selectors), " ") == strings.Join(ordered(selectors), " "), nil
+	return book.SameSet(a.Selectors, selectors), nil
 }
 
 // expecting puts a condition before changes. If the server is too old for it, the condition is checked before the

@@ -181,7 +181,7 @@ func (s *session) ids(name string, env lookup) []string {
 	for _, e := range answer.Replies[0].Entries {
 		found = append(found, s.idFor(name, e))
 	}
-	return ordered(found)
+	return book.Ordered(found)
 }
 
 // idFor returns what fits a flag, or an argument: the SPIFFE ID of an entry.

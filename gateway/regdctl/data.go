@@ -241,52 +241,11 @@ func (s *session) readIDs(name string) ([]string, error) {
 	return *list, nil
 }
 
-// sortedEntry returns an entry with its sets in order, for comparisons.
-func sortedEntry(e book.Entry) book.Entry {
-	e.Selectors, e.Domains = ordered(e.Selectors), ordered(e.Domains)
-	return e
-}
-
-// ordered returns a set in the order of its texts, each once.
-func ordered(texts []string) []string {
-	var found []string
-	sorted := append([]string{}, texts...)
-	sort.Strings(sorted)
-	for i, text := range sorted {
-		if i == 0 || text != sorted[i-1] {
-			found = append(found, text)
-		}
-	}
-	return found
-}
-
-// A difference is a column of an entry that has another value.
-type difference struct{ name, before, after string }
-
-// differences compares the columns of two entries that an update can change.
-func differences(before, after book.Entry) []difference {
-	var found []difference
-	add := func(name, before, after string) {
-		if before != after {
-			found = append(found, difference{name, before, after})
-		}
-	}
-	add("parent", before.Parent, after.Parent)
-	add("identity", before.Identity, after.Identity)
-	add("selectors", strings.Join(ordered(before.Selectors), " "), strings.Join(ordered(after.Selectors), " "))
-	add("hint", before.Hint, after.Hint)
-	add("domains", strings.Join(ordered(before.Domains), " "), strings.Join(ordered(after.Domains), " "))
-	add("expiry", number(before.Expiry), number(after.Expiry))
-	add("x509_svid_ttl", number(before.X509TTL), number(after.X509TTL))
-	add("jwt_svid_ttl", number(before.JWTTTL), number(after.JWTTTL))
-	return found
-}
-
 // differenceText prints differences, one in a line.
-func differenceText(found []difference) string {
+func differenceText(found []book.Difference) string {
 	var out strings.Builder
 	for _, d := range found {
-		fmt.Fprintf(&out, "  %-14s %q -> %q\n", d.name, d.before, d.after)
+		fmt.Fprintf(&out, "  %-14s %q -> %q\n", d.Name, d.Before, d.After)
 	}
 	return out.String()
 }

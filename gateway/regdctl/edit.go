@@ -105,7 +105,7 @@ func (s *session) edited(editor, name, id string) (book.Entry, error) {
 
 // sendEdit sends an update, and again with the changes of others, if they concern other values.
 func (s *session) sendEdit(before, after book.Entry, isDry bool) error {
-	if differences(before, after) == nil {
+	if book.Differences(before, after) == nil {
 		return s.print("nothing was changed\n")
 	}
 	for round := 1; ; round++ {
@@ -120,7 +120,7 @@ func (s *session) sendEdit(before, after book.Entry, isDry bool) error {
 		if now == nil {
 			return s.noEntry(before.ID, place)
 		}
-		s.warn("another client has changed the entry:\n%s", differenceText(differences(before, *now)))
+		s.warn("another client has changed the entry:\n%s", differenceText(book.Differences(before, *now)))
 		merged, isMerged := merge(before, after, *now)
 		if !isMerged {
 			s.warn("both changes concern the same value")
@@ -133,15 +133,15 @@ func (s *session) sendEdit(before, after book.Entry, isDry bool) error {
 // merge applies a change to an entry that another one has changed. It returns false if both concern the same column.
 func merge(before, after, now book.Entry) (book.Entry, bool) {
 	others := map[string]bool{}
-	for _, d := range differences(before, now) {
-		others[d.name] = true
+	for _, d := range book.Differences(before, now) {
+		others[d.Name] = true
 	}
 	merged := now
-	for _, d := range differences(before, after) {
-		if others[d.name] {
+	for _, d := range book.Differences(before, after) {
+		if others[d.Name] {
 			return merged, false
 		}
-		switch d.name {
+		switch d.Name {
 		case "parent":
 			merged.Parent = after.Parent
 		case "identity":

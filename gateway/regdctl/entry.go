@@ -201,7 +201,7 @@ func (s *session) createdBefore(e book.Entry, err error) error {
 	if shown != nil {
 		return shown
 	}
-	if there == nil || differences(sortedEntry(*there), sortedEntry(e)) != nil {
+	if there == nil || book.Differences(*there, e) != nil {
 		return err
 	}
 	value := map[string]any{"place": place, "result": "there", "entry": there}

@@ -2,9 +2,7 @@ package main
 
 import (
 	"regexp"
-	"strconv"
 	"strings"
-	"time"
 
 	"regd/gateway/book"
 	"regd/gateway/client"
@@ -50,41 +48,21 @@ func domains(given []string) []string {
 	return found
 }
 
-// seconds reads a lifetime: seconds, or a number with s, m, h or d.
-func seconds(text string) (uint64, error) {
-	if text == "" {
-		return 0, nil
-	}
-	if n, err := strconv.ParseUint(text, 10, 64); err == nil {
-		return n, nil
-	}
-	units := map[byte]uint64{'s': 1, 'm': 60, 'h': 3600, 'd': 86400}
-	unit := units[text[len(text)-1]]
-	n, err := strconv.ParseUint(text[:len(text)-1], 10, 40)
-	if err != nil || unit == 0 {
-		return 0, invalidf("not a lifetime, such as 3600, 90s, 30m, 1h or 7d: %s", text)
-	}
-	return n * unit, nil
-}
+// seconds reads a lifetime of the command line. An empty one is 0.
+func seconds(text string) (uint64, error) { return unit(text, book.Seconds) }
 
-// moment reads a time: seconds since 1970, or as in RFC 3339.
-func moment(text string) (uint64, error) {
+// moment reads a time of the command line. An empty one is 0.
+func moment(text string) (uint64, error) { return unit(text, book.Moment) }
+
+func unit(text string, read func(string) (uint64, error)) (uint64, error) {
 	if text == "" {
 		return 0, nil
 	}
-	if n, err := strconv.ParseUint(text, 10, 64); err == nil {
-		if n > book.LastSecond {
-			return 0, invalidf(
-				"%s is not in seconds since 1970: it has more than ten digits\n  cure:   divide "+
-					"milliseconds by 1000", text)
-		}
-		return n, nil
+	n, err := read(text)
+	if err != nil {
+		return 0, invalidf("%v", err)
 	}
-	at, err := time.Parse(time.RFC3339, text)
-	if err != nil || at.Unix() < 0 {
-		return 0, invalidf("not a time, such as 1800000000 or 2027-01-15T08:00:00Z: %s", text)
-	}
-	return uint64(at.Unix()), nil
+	return n, nil
 }
 
 var firstDigits = regexp.MustCompile(`^[0-9a-fA-F]{8}$`)
