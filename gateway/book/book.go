@@ -1,5 +1,7 @@
 package book
 
+import "sort"
+
 // Book is a copy of a book. Make one, fill its rows, and ask; the rows must not change after the first question.
 type Book struct {
 	Domain string
@@ -32,6 +34,8 @@ type index struct {
 	aliases    []*Entry
 	// byKey has each alias under one of its selectors, the one that the fewest aliases have.
 	byKey map[string][]*Entry
+	// near has the existing SPIFFE IDs that were found for others.
+	near map[string]string
 }
 
 func (b *Book) find() *index {
@@ -39,7 +43,7 @@ func (b *Book) find() *index {
 		return b.index
 	}
 	x := &index{byID: map[string]*Entry{}, byParent: map[string][]*Entry{}, byIdentity: map[string][]*Entry{},
-		agents: map[string]*Agent{}, byKey: map[string][]*Entry{}}
+		agents: map[string]*Agent{}, byKey: map[string][]*Entry{}, near: map[string]string{}}
 	common := map[string]int{}
 	for i := range b.Entries {
 		e := &b.Entries[i]
@@ -107,4 +111,11 @@ func (b *Book) Held(a *Agent) []*Entry {
 		}
 	}
 	return inOrder(held)
+}
+
+// Sort puts the rows in their order.
+func (b *Book) Sort() {
+	sort.Slice(b.Entries, func(i, j int) bool { return b.Entries[i].ID < b.Entries[j].ID })
+	sort.Slice(b.Agents, func(i, j int) bool { return b.Agents[i].ID < b.Agents[j].ID })
+	sort.Slice(b.Bundles, func(i, j int) bool { return b.Bundles[i].Domain < b.Bundles[j].Domain })
 }

@@ -156,23 +156,69 @@ type Condition struct {
 // agents are known.
 func (b *Book) WhoCan(e *Entry) []Condition {
 	var found []Condition
-	seen, named := map[*Entry]bool{e: true}, map[string]bool{}
-	work := []*Entry{e}
+	b.above([]*Entry{e}, func(alias *Entry, agent string) {
+		if alias != nil {
+			found = append(found, Condition{Alias: alias, Agents: b.holders(alias)})
+		} else {
+			found = append(found, b.byName(agent))
+		}
+	})
+	return found
+}
+
+// above finds the aliases, and the IDs of agents, from which chains lead to one of the entries, each once.
+func (b *Book) above(entries []*Entry, take func(alias *Entry, agent string)) {
+	seen, named := map[*Entry]bool{}, map[string]bool{}
+	var work []*Entry
+	add := func(some []*Entry) {
+		for _, e := range some {
+			if !seen[e] {
+				seen[e] = true
+				work = append(work, e)
+			}
+		}
+	}
+	add(entries)
 	for next := 0; next < len(work); next++ {
 		x := work[next]
 		if x.IsAlias() {
-			found = append(found, Condition{Alias: x, Agents: b.holders(x)})
+			take(x, "")
 			continue
 		}
 		if IsAgentID(x.Parent) && !named[x.Parent] {
 			named[x.Parent] = true
-			found = append(found, b.byName(x.Parent))
+			take(nil, x.Parent)
 		}
-		for _, parent := range b.WithIdentity(x.Parent) {
-			if !seen[parent] {
-				seen[parent] = true
-				work = append(work, parent)
+		add(b.WithIdentity(x.Parent))
+	}
+}
+
+// Touched returns the known agents that may serve one of the entries, by their IDs.
+func (b *Book) Touched(entries []*Entry) map[string]bool {
+	found, aliases := map[string]bool{}, map[*Entry]bool{}
+	b.above(entries, func(alias *Entry, agent string) {
+		if alias != nil {
+			aliases[alias] = true
+		} else if b.Agent(agent) != nil {
+			found[agent] = true
+		}
+	})
+	for i := range b.Agents {
+		for _, alias := range b.Held(&b.Agents[i]) {
+			if aliases[alias] {
+				found[b.Agents[i].ID] = true
 			}
+		}
+	}
+	return found
+}
+
+// Identities returns the SPIFFE IDs that an agent may serve. An agent that is not known may serve none.
+func (b *Book) Identities(agent string) map[string]bool {
+	found := map[string]bool{}
+	if a := b.Agent(agent); a != nil {
+		for e := range b.Reach(a) {
+			found[e.Identity] = true
 		}
 	}
 	return found
@@ -199,6 +245,15 @@ func (b *Book) holders(alias *Entry) []*Agent {
 
 // Near returns the existing SPIFFE ID that is nearest to one that doesn't exist, at most two letters away, or "".
 func (b *Book) Near(id string) string {
+	known := b.find().near
+	if found, isKnown := known[id]; isKnown {
+		return found // many entries may have the same parent
+	}
+	known[id] = b.nearest(id)
+	return known[id]
+}
+
+func (b *Book) nearest(id string) string {
 	best, least := "", 3
 	_, wanted := SplitID(id)
 	try := func(other string) {

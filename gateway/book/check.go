@@ -20,6 +20,7 @@ const (
 	Unusual      = "unusual"       // a value that is accepted and probably a slip
 	BadBundle    = "bundle"        // its text is not JSON with `keys`
 	UnusedBundle = "unused bundle" // no entry names its domain
+	Marker       = "marker"        // a plan that stopped, or a marker that agents can reach
 )
 
 // Finding is something in a book that is probably a mistake.
@@ -46,9 +47,10 @@ func (b *Book) Check(now time.Time, soon time.Duration) []Finding {
 	found = append(found, b.covered()...)
 	found = append(found, b.unusual()...)
 	found = append(found, b.bundles()...)
+	found = append(found, b.markers()...)
 	kinds := map[string]int{}
 	for i, kind := range []string{Orphan, NoAgent, Unserved, InCycle, Expired, Expires, Covered, Unusual, BadBundle,
-		UnusedBundle} {
+		UnusedBundle, Marker} {
 		kinds[kind] = i
 	}
 	sort.SliceStable(found, func(i, j int) bool {
@@ -76,7 +78,7 @@ func (b *Book) unserved() []Finding {
 	for i := range b.Entries {
 		e := &b.Entries[i]
 		_, isServed := served[e]
-		if isServed || inCycle[e] {
+		if isServed || inCycle[e] || e.IsMarker() {
 			continue
 		}
 		m := b.missing(&Agent{}, e)
@@ -306,4 +308,26 @@ func FaultOfBundle(text string) string {
 		return "its text has no list `keys`"
 	}
 	return ""
+}
+
+// markers finds plans that stopped before their last batch, and entries that lead to the markers of sets.
+func (b *Book) markers() []Finding {
+	var found []Finding
+	for i := range b.Entries {
+		e := &b.Entries[i]
+		_, path := SplitID(e.Identity)
+		switch {
+		case e.IsMarker():
+			if a, isOne := e.Applied(); isOne && a.Batch < a.Batches {
+				text := fmt.Sprintf("plan %s of the set %s stopped after batch %d of %d", a.Plan,
+					a.Set, a.Batch,
+					a.Batches)
+				found = append(found, of(Marker, e, true, text))
+			}
+		case path == MarkerParent:
+			found = append(found, of(Marker, e, true, "agents that may serve it may also serve the "+
+				"markers of sets"))
+		}
+	}
+	return found
 }

@@ -13,9 +13,11 @@ func TestDifferences(t *testing.T) {
 	if before.Key() != same.Key() || !SameSet(before.Selectors, same.Selectors) || SameSet([]string{"a"}, nil) {
 		t.Errorf("%s, %s", before.Key(), same.Key())
 	}
-	after := Entry{ID: "i", Parent: "p2", Identity: "q2", Selectors: []string{"c"}, Hint: "h", Expiry: 1, X509TTL: 2,
-		JWTTTL: 3}
-	want := []Difference{{"parent", "p", "p2"}, {"identity", "q", "q2"}, {"selectors", "a b", "c"}, {"hint", "", "h"},
+	after := Entry{ID: "i", Parent: "p2", Identity: "q2", Selectors: []string{"c"}, Hint: "h", Expiry: 1,
+		X509TTL: 2,
+		JWTTTL:  3}
+	want := []Difference{{"parent", "p", "p2"}, {"identity", "q", "q2"}, {"selectors", "a b", "c"},
+		{"hint", "", "h"},
 		{"domains", "x y", ""}, {"expiry", "0", "1"}, {"x509_svid_ttl", "0", "2"}, {"jwt_svid_ttl", "0", "3"}}
 	found := Differences(before, after)
 	for i, d := range want {

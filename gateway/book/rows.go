@@ -2,7 +2,10 @@
 // get an identity, and what looks wrong. It needs no connection. The rules are those of docs/BOOK.md.
 package book
 
-import "strings"
+import (
+	"encoding/json"
+	"strings"
+)
 
 // Entry is a registration entry, with the keys of docs/LINES.md.
 type Entry struct {
@@ -56,4 +59,35 @@ func (e *Entry) IsAlias() bool {
 func IsAgentID(id string) bool {
 	_, path := SplitID(id)
 	return strings.HasPrefix(path, AgentPath)
+}
+
+// A marker is the entry that says which plan of a set of entries was applied last. No agent can reach it, as long as no
+// entry has the SPIFFE ID of its parent.
+const (
+	MarkerParent   = "/regdctl"
+	MarkerIdentity = "/regdctl/set"
+	MarkerSelector = "regdctl:set:" // with the name of the set
+)
+
+// IsMarker returns true if the entry is the marker of a set.
+func (e *Entry) IsMarker() bool {
+	_, parent := SplitID(e.Parent)
+	_, identity := SplitID(e.Identity)
+	return parent == MarkerParent && identity == MarkerIdentity
+}
+
+// Applied is what a marker says about the plan that was applied last.
+type Applied struct {
+	Set  string `json:"set"`
+	Plan string `json:"plan"`
+	// Batch and Batches say how far it got.
+	Batch   int    `json:"batch"`
+	Batches int    `json:"batches"`
+	By      string `json:"by,omitempty"`
+}
+
+// Applied reads the hint of a marker. It returns false if the hint is not one that regdctl writes.
+func (e *Entry) Applied() (a Applied, isOne bool) {
+	err := json.Unmarshal([]byte(e.Hint), &a)
+	return a, err == nil && a.Set != "" && a.Batches > 0
 }

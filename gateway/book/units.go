@@ -27,7 +27,8 @@ func Seconds(text string) (uint64, error) {
 func Moment(text string) (uint64, error) {
 	if n, err := strconv.ParseUint(text, 10, 64); err == nil {
 		if n > LastSecond {
-			return 0, fmt.Errorf("%s is not in seconds since 1970: it has more than ten digits\n  cure:   divide "+
+			return 0, fmt.Errorf("%s is not in seconds since 1970: it has more than ten digits\n  cure:   "+
+				"divide "+
 				"milliseconds by 1000", text)
 		}
 		return n, nil

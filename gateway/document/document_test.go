@@ -105,7 +105,8 @@ func TestGet(t *testing.T) {
 
 // FuzzRead checks that no file makes the reader end otherwise than with a value or a fault of a line.
 func FuzzRead(f *testing.F) {
-	for _, text := range []string{"a: b", "- [a, {b: c}]", `{"a": [1]}`, "a: &x |\n b", "? a\n: b", "a: \"\\u00e9\""} {
+	for _, text := range []string{"a: b", "- [a, {b: c}]", `{"a": [1]}`, "a: &x |\n b", "? a\n: b",
+		"a: \"\\u00e9\""} {
 		f.Add([]byte(text))
 	}
 	f.Fuzz(func(t *testing.T, given []byte) {
