@@ -3,6 +3,7 @@ package main
 import (
 	"flag"
 	"fmt"
+	"regexp"
 	"sort"
 	"strings"
 
@@ -214,9 +215,12 @@ func (s *session) cureOf(a *book.Agent, m book.Missing) string {
 	return fmt.Sprintf("regdctl entry set -entryID %s -parentID %s", m.Entry().ID, s.short(parent))
 }
 
+// plainWord are words that no shell changes.
+var plainWord = regexp.MustCompile(`^[\w./:-]+$`)
+
 // shellWord quotes a word if a shell would change it.
 func shellWord(word string) string {
-	if plain.MatchString(word) {
+	if plainWord.MatchString(word) {
 		return word
 	}
 	return quoted(word)

@@ -176,22 +176,6 @@ func TestOutputs(t *testing.T) {
 	}
 }
 
-// TestYAML checks that texts which YAML would take for something else are quoted.
-func TestYAML(t *testing.T) {
-	for text, want := range map[string]string{"no": `"no"`, "Null": `"Null"`,
-		"1": `"1"`, "a: b": `"a: b"`, "a:b": "a:b", "": `""`, "a #b": `"a #b"`,
-		"- a": `"- a"`, "a\nb": `"a\nb"`, "/web": "/web", "a:": `"a:"`, "*a": `"*a"`, "~": `"~"`} {
-		if got := scalar(text); got != want {
-			t.Errorf("%q: got %s, want %s", text, got, want)
-		}
-	}
-	got, err := yaml(map[string]any{"a": []any{[]any{1, "x"},
-		map[string]any{}}, "b": nil, "c": map[string]any{"d": true}})
-	if want := "a:\n  - - 1\n    - x\n  - {}\nb: null\nc:\n  d: true\n"; err != nil || got != want {
-		t.Errorf("got %s, want %s, %v", got, want, err)
-	}
-}
-
 // TestTrace checks the lines on standard error.
 func TestTrace(t *testing.T) {
 	s := play(t, answered(pageOf()))

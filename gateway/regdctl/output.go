@@ -6,14 +6,13 @@ import (
 	"fmt"
 	"io"
 	"os"
-	"regexp"
-	"sort"
 	"strconv"
 	"strings"
 	"time"
 	"unicode/utf8"
 
 	"regd/gateway/book"
+	"regd/gateway/document"
 )
 
 // show prints a result: as text, or the value as JSON or YAML. With the output `lines` the answers are printed already.
@@ -138,10 +137,7 @@ func counted(n int, one, more string) string {
 	return strconv.Itoa(n) + " " + more
 }
 
-// plain are texts that YAML takes for texts without quotes.
-var plain = regexp.MustCompile(`^[A-Za-z/][\w./-]*(:[\w./-]+)*$`)
-
-// yaml returns a value as YAML, with the keys of its JSON.
+// yaml returns a value as YAML, with the keys of its JSON in their order.
 func yaml(value any) (string, error) {
 	text, err := json.Marshal(value)
 	if err != nil {
@@ -149,91 +145,15 @@ func yaml(value any) (string, error) {
 	}
 	decoder := json.NewDecoder(bytes.NewReader(text))
 	decoder.UseNumber()
-	var read any
+	var read any // whose keys are printed in their order
 	if err := decoder.Decode(&read); err != nil {
 		return "", err
 	}
-	var out strings.Builder
-	writeYAML(&out, read, "", "")
-	return out.String(), nil
-}
-
-// writeYAML writes a value. first comes before its first line, and indent before the others.
-func writeYAML(out *strings.Builder, value any, first, indent string) {
-	switch value := value.(type) {
-	case map[string]any:
-		if len(value) == 0 {
-			out.WriteString(first + "{}\n")
-		}
-		keys := make([]string, 0, len(value))
-		for key := range value {
-			keys = append(keys, key)
-		}
-		sort.Strings(keys)
-		for i, key := range keys {
-			if i == 0 {
-				out.WriteString(first)
-			} else {
-				out.WriteString(indent)
-			}
-			out.WriteString(scalar(key) + ":")
-			writeBelow(out, value[key], indent)
-		}
-	case []any:
-		if len(value) == 0 {
-			out.WriteString(first + "[]\n")
-		}
-		for i, item := range value {
-			if i == 0 {
-				out.WriteString(first)
-			} else {
-				out.WriteString(indent)
-			}
-			writeYAML(out, item, "- ", indent+"  ")
-		}
-	default:
-		out.WriteString(first + scalar(value) + "\n")
-	}
-}
-
-// writeBelow writes the value of a key.
-func writeBelow(out *strings.Builder, value any, indent string) {
-	isEmpty := false
-	switch value := value.(type) {
-	case map[string]any:
-		isEmpty = len(value) == 0
-	case []any:
-		isEmpty = len(value) == 0
-	default:
-		isEmpty = true
-	}
-	if isEmpty {
-		writeYAML(out, value, " ", "")
-		return
-	}
-	out.WriteString("\n")
-	writeYAML(out, value, indent+"  ", indent+"  ")
-}
-
-// scalar returns a text, a number, true, false or null.
-func scalar(value any) string {
-	text, isText := value.(string)
-	if !isText {
-		printed, err := json.Marshal(value)
-		if err != nil {
-			return "null"
-		}
-		return string(printed)
-	}
-	if plain.MatchString(text) &&
-		!isOneOf(strings.ToLower(text), "null", "true", "false", "yes", "no", "on", "off", "y", "n") {
-		return text
-	}
-	quoted, err := json.Marshal(text)
+	node, err := document.FromValue(read)
 	if err != nil {
-		return "null"
+		return "", err
 	}
-	return string(quoted)
+	return node.YAML(), nil
 }
 
 // progress prints how far long work is, on a terminal.
