@@ -86,6 +86,9 @@ func (p *planner) moves() {
 		isOwn := p.state.Has(e.ID) && !e.IsMarker()
 		if (isOwn || isAbsent[e.ID]) && e.ID != p.state.MarkerID() {
 			gone[e.Key()] = true
+			if isOwn {
+				p.plan.Own++
+			}
 			if wanted[e.ID] == nil {
 				p.move(&move{before: e}, "")
 			}
@@ -190,6 +193,8 @@ func size(text string) string {
 	return fmt.Sprintf("%d bytes, %x", len(text), sum[:4])
 }
 
+func selectorText(selectors []string) string { return strings.Join(book.Ordered(selectors), " ") }
+
 // agents finds the changes of agents.
 func (p *planner) agents() {
 	for i := range p.state.Agents {
@@ -201,16 +206,17 @@ func (p *planner) agents() {
 		row := Row{Sign: Add, Kind: "agent", Name: a.ID}
 		had := ""
 		if before != nil {
-			row.Sign, had = Change, strings.Join(book.Ordered(before.Selectors), " ")
+			row.Sign, had = Change, selectorText(before.Selectors)
 		}
-		row.Columns = []book.Difference{{Name: "selectors", Before: had,
-			After: strings.Join(book.Ordered(a.Selectors), " ")}}
+		row.Columns = []book.Difference{{Name: "selectors", Before: had, After: selectorText(a.Selectors)}}
 		p.plan.Rows = append(p.plan.Rows, row)
 		p.setAgent(before, a)
 	}
 	for _, id := range p.state.AbsentAgents {
 		if before := p.book.Agent(id); before != nil {
-			p.plan.Rows = append(p.plan.Rows, Row{Sign: Remove, Kind: "agent", Name: id})
+			p.plan.Rows = append(p.plan.Rows, Row{Sign: Remove, Kind: "agent", Name: id,
+				Columns: []book.Difference{{Name: "selectors",
+					Before: selectorText(before.Selectors)}}})
 			p.dropAgent(before)
 		}
 	}

@@ -32,9 +32,11 @@ type Plan struct {
 	Place uint64 `json:"place"`
 	Last  uint64 `json:"last"`
 	// ID is made of the operations.
-	ID        string         `json:"plan"`
-	Rows      []Row          `json:"rows"`
-	IsBlocked bool           `json:"blocked"`
+	ID        string `json:"plan"`
+	Rows      []Row  `json:"rows"`
+	IsBlocked bool   `json:"blocked"`
+	// Own is the number of entries that the set has before the plan, Unchanged of those that stay as they are.
+	Own       int            `json:"entries"`
 	Unchanged int            `json:"unchanged"`
 	Access    []Access       `json:"access"`
 	Findings  []book.Finding `json:"findings"`
@@ -47,6 +49,10 @@ type Plan struct {
 	DeletesFirst bool   `json:"deletes_first,omitempty"`
 	State        *State `json:"state"`
 	IsAdopting   bool   `json:"adopt"`
+	// Expects is true if the batches have conditions on agents and bundles.
+	Expects bool `json:"expects"`
+	// MarkerRevision is that of the marker, if there is one.
+	MarkerRevision *uint64 `json:"marker_revision"`
 }
 
 // Batch is a line of a plan.
@@ -76,7 +82,7 @@ type planner struct {
 func Make(b *book.Book, s *State, o Options) (*Plan, error) {
 	p := &planner{book: b, state: s, options: o}
 	p.plan = &Plan{Set: s.Set, Version: 1, Place: b.Place, Last: b.Last, State: s, IsKnown: b.AllAgents,
-		IsAdopting: o.IsAdopting}
+		IsAdopting: o.IsAdopting, Expects: o.Expects}
 	p.bundles()
 	p.agents()
 	p.moves()
@@ -84,6 +90,9 @@ func Make(b *book.Book, s *State, o Options) (*Plan, error) {
 	after := p.after()
 	p.check(after)
 	marker := b.Entry(s.MarkerID())
+	if marker != nil {
+		p.plan.MarkerRevision = &marker.Revision
+	}
 	p.stopped(marker)
 	sortRows(p.plan.Rows)
 	return p.plan, p.divide(marker)
@@ -247,6 +256,20 @@ func (p *Plan) Changes() int {
 		}
 	}
 	return count
+}
+
+// Made returns how many batches of this plan a marker shows as made, and false if the marker is not this plan's.
+func (p *Plan) Made(marker *book.Entry) (batches int, isThis bool) {
+	if marker == nil {
+		return 0, false
+	}
+	before := ^uint64(0) // of a marker that the first batch makes
+	if p.MarkerRevision != nil {
+		before = *p.MarkerRevision
+	}
+	a, isOne := marker.Applied()
+	isThis = isOne && a.Plan == p.ID && a.Batches == len(p.Batches) && marker.Revision == before+uint64(a.Batch)
+	return a.Batch, isThis
 }
 
 // Operations returns the number of operations.

@@ -49,7 +49,7 @@ fi
     $words[1] __complete $words[2..-1] 2>/dev/null
 end
 complete -c regdctl -f -a '(__regdctl_complete)'
-for flag in path data file names keys certificate key authorities record
+for flag in path data file names keys certificate key authorities record out
     complete -c regdctl -o $flag -r -F
 end
 `,
@@ -153,6 +153,10 @@ func valuesOf(c *command, name string) []string {
 		return []string{"json", "lines", "table", "yaml"}
 	case "matchSelectorsOn":
 		return []string{"any", "exact", "subset", "superset"}
+	case "format":
+		if c.name == "export" {
+			return []string{"spire", "state"}
+		}
 	case "mode":
 		if c.name == "bundle delete" {
 			return []string{"delete", "dissociate", "restrict"}

@@ -26,6 +26,9 @@ func (s *session) report(err error) int {
 		return statusNo
 	case errors.Is(err, errLineRefused):
 		return statusRefused
+	case errors.Is(err, errMoved):
+		s.warn("regdctl: %v", err)
+		return statusRefused
 	case errors.As(err, &refused):
 		s.reportRefused(refused)
 		return statusRefused

@@ -170,7 +170,7 @@ func (p *progress) start(errs io.Writer) {
 	if !isFile {
 		return
 	}
-	if info, err := file.Stat(); err == nil && info.Mode()&os.ModeCharDevice != 0 {
+	if isTerminal(file) {
 		p.out = file
 	}
 }
