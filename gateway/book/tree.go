@@ -21,6 +21,8 @@ type Tree struct {
 	// Loose are entries whose parent is neither an entry nor a known agent, and one entry of each cycle that is
 	// reached from nowhere else.
 	Loose []*Node
+	// Markers are those of sets.
+	Markers []*Entry
 }
 
 type planter struct {
@@ -63,6 +65,12 @@ func (b *Book) Tree() Tree {
 	for _, isRoot := range []bool{true, false} { // the second time only cycles are left
 		for i := range b.Entries {
 			e := &b.Entries[i]
+			if e.IsMarker() && len(b.WithIdentity(e.Parent)) == 0 {
+				if isRoot {
+					t.Markers = append(t.Markers, e)
+				}
+				continue
+			}
 			if !p.planted[e] && (!isRoot || len(b.WithIdentity(e.Parent)) == 0) {
 				t.Loose = append(t.Loose, p.node(e))
 			}

@@ -42,6 +42,7 @@ func allCommands() []command {
 		{"plan", "FILE..", "show what would make the book as files say", planState},
 		{"apply", "FILE..|PLAN", "make the book as files say, or as a stored plan says", applyState},
 		{"export", "", "print the book, or a set, as a file for plan", export},
+		{"import", "FILE..", "print what SPIRE printed as a file for plan, or send it", importState},
 		{"explain", "AGENT [ENTRY]", "say why an agent may serve an entry, or which link is missing", explain},
 		{"who-can", "ID", "say which agents may serve a SPIFFE ID", whoCan},
 		{"tree", "", "show all entries below their agents and aliases", showTree},

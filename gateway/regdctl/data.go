@@ -93,7 +93,19 @@ var isUnused = map[string]bool{"revision": true, "revision_number": true, "creat
 var hasNoColumn = map[string]bool{"admin": true, "downstream": true, "dns_names": true, "store_svid": true}
 
 // entryOf reads an entry with the keys of LINES or of SPIRE. What the book can't keep is an error.
-func (s *session) entryOf(row map[string]any) (e book.Entry, err error) {
+func (s *session) entryOf(row map[string]any) (book.Entry, error) {
+	e, faults := s.readEntry(row)
+	if len(faults) == 0 && (e.Parent == "" || e.Identity == "" || len(e.Selectors) == 0) {
+		faults = []error{fmt.Errorf("it takes a parent, an identity and selectors")}
+	}
+	if len(faults) > 0 {
+		return e, faults[0]
+	}
+	return e, nil
+}
+
+// readEntry reads the keys of an entry, and returns what is wrong with each.
+func (s *session) readEntry(row map[string]any) (e book.Entry, faults []error) {
 	keys := make([]string, 0, len(row))
 	for key := range row {
 		keys = append(keys, key)
@@ -108,13 +120,10 @@ func (s *session) entryOf(row map[string]any) (e book.Entry, err error) {
 			continue
 		}
 		if err := s.putKey(&e, key, value); err != nil {
-			return e, fmt.Errorf("%s: %w", given, err)
+			faults = append(faults, fmt.Errorf("%s: %w", given, err))
 		}
 	}
-	if e.Parent == "" || e.Identity == "" || len(e.Selectors) == 0 {
-		return e, fmt.Errorf("it takes a parent, an identity and selectors")
-	}
-	return e, nil
+	return e, faults
 }
 
 func (s *session) putKey(e *book.Entry, key string, value any) (err error) {

@@ -1,8 +1,11 @@
 package main
 
 import (
+	"bytes"
+	"encoding/json"
 	"flag"
 	"fmt"
+	"strings"
 
 	"regd/gateway/book"
 	"regd/gateway/client"
@@ -40,6 +43,9 @@ func export(flags *flag.FlagSet) runner {
 			return invalidf("the book is empty, so its domain is not known\n  cure:   add -domain D")
 		}
 		state := stateOf(b, *set, *as)
+		if *format == "spire" {
+			return s.printSpire(state.Entries)
+		}
 		if *set == "" && (!b.AllAgents || !b.AllBundles) {
 			s.warn("regdctl: %s", otherAgents)
 		}
@@ -72,4 +78,48 @@ func (s *session) showState(state *desired.State) error {
 		return fmt.Errorf("the state can't be printed: %w", err)
 	}
 	return s.print(node.YAML())
+}
+
+// A spireEntry is an entry as `spire-server entry create -data` takes it.
+type spireEntry struct {
+	Selectors     []spireSelector `json:"selectors"`
+	ParentID      string          `json:"parent_id"`
+	SpiffeID      string          `json:"spiffe_id"`
+	X509TTL       uint64          `json:"x509_svid_ttl,omitempty"`
+	FederatesWith []string        `json:"federates_with,omitempty"`
+	EntryID       string          `json:"entry_id"`
+	Expiry        uint64          `json:"entryExpiry,omitempty"`
+	JWTTTL        uint64          `json:"jwt_svid_ttl,omitempty"`
+	Hint          string          `json:"hint,omitempty"`
+}
+
+type spireSelector struct {
+	Type  string `json:"type"`
+	Value string `json:"value"`
+}
+
+// printSpire prints entries for SPIRE.
+func (s *session) printSpire(entries []desired.Entry) error {
+	rows := []spireEntry{}
+	for _, e := range entries {
+		row := spireEntry{ParentID: e.Parent, SpiffeID: e.Identity, X509TTL: e.X509TTL, EntryID: e.ID,
+			Expiry: e.Expiry,
+			JWTTTL: e.JWTTTL, Hint: e.Hint}
+		for _, selector := range e.Selectors {
+			kind, value, _ := strings.Cut(selector, ":")
+			row.Selectors = append(row.Selectors, spireSelector{kind, value})
+		}
+		for _, domain := range e.Domains {
+			row.FederatesWith = append(row.FederatesWith, "spiffe://"+domain)
+		}
+		rows = append(rows, row)
+	}
+	var out bytes.Buffer
+	encoder := json.NewEncoder(&out)
+	encoder.SetEscapeHTML(false)
+	encoder.SetIndent("", "  ")
+	if err := encoder.Encode(map[string]any{"entries": rows}); err != nil {
+		return err
+	}
+	return s.print(out.String())
 }

@@ -73,6 +73,10 @@ func (s *session) printTree(b *book.Book, t book.Tree) error {
 			out.WriteString("below nothing\n")
 			s.writeNodes(&out, t.Loose, "")
 		}
+		for _, e := range t.Markers {
+			fmt.Fprintf(&out, "marker of the set %s  %.8s\n",
+				strings.TrimPrefix(e.Selectors[0], book.MarkerSelector), e.ID)
+		}
 		return out.String() + s.knownNote(b)
 	})
 }
