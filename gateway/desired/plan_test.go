@@ -368,7 +368,7 @@ func TestBlocked(t *testing.T) {
 	applied(t, m, p)
 }
 
-// TestBatches divides a plan, and tells what it can't divide.
+// TestBatches divides a plan.
 func TestBatches(t *testing.T) {
 	text := "entries:\n"
 	for i := 0; i < 200; i++ {

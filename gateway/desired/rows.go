@@ -109,7 +109,7 @@ func (r *reader) bundle(n *document.Node) error {
 		return document.Faultf(n.Line, "a bundle has `domain`, and either `file` or `text`")
 	}
 	if file != "" {
-		text, err := r.open(beside(r.file, file))
+		text, err := r.open(relative(r.file, file))
 		if err != nil {
 			return err
 		}

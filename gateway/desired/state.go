@@ -12,7 +12,7 @@ import (
 	"regd/gateway/document"
 )
 
-// State is what a book should have: the entries of a set, and rows that belong to nobody.
+// State is what a book should have: the entries of a set, and rows that belong to no set.
 type State struct {
 	Set
 	Entries []Entry       `json:"entries"`
@@ -206,8 +206,8 @@ func (r *reader) finish() error {
 	return nil
 }
 
-// beside returns a file that another one names.
-func beside(file, name string) string {
+// relative returns a file that another one names.
+func relative(file, name string) string {
 	if filepath.IsAbs(name) || file == "-" {
 		return name
 	}

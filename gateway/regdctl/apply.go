@@ -62,7 +62,8 @@ func (s *session) ended(p *desired.Plan, err error) error {
 	if s.settings.output == "table" {
 		return err
 	}
-	if shown := s.show(application{Plan: p.ID, Place: p.Place, Batches: []made{}}, nil); shown != nil {
+	if shown := s.show(application{Plan: p.ID, Place: p.Place, Batches: []made{}, Others: []uint64{},
+		Overwritten: []overwritten{}}, nil); shown != nil {
 		return shown
 	}
 	return err
@@ -211,7 +212,8 @@ type overwritten struct {
 // send sends the batches of a plan. A marker shows that some of them are made already: if the server doesn't know their
 // tokens any more, those are left out.
 func (s *session) send(p *desired.Plan, done int) error {
-	result := application{Plan: p.ID, Place: p.Place, Batches: []made{}}
+	result := application{Plan: p.ID, Place: p.Place, Batches: []made{}, Others: []uint64{},
+		Overwritten: []overwritten{}}
 	operations := 0
 	for i := 0; i < len(p.Batches); i++ {
 		batch := p.Batches[i]

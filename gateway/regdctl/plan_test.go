@@ -40,14 +40,14 @@ func (s *stand) file(name, text string) string {
 	return path
 }
 
-// do runs a command line, whose words are divided by spaces; @ stands for the folder.
+// do runs a command line, whose words are divided by spaces; @ is the folder.
 func (s *stand) do(line string) result {
 	s.Helper()
 	env := []string{"REGDCTL_ADDRESS=" + s.Address, "REGDCTL_DOMAIN=ex.org", "REGDCTL_TIMEOUT=10s"}
 	return ctl(s.T, "", env, split(strings.ReplaceAll(line, "@", s.folder))...)
 }
 
-// expect runs a command line, and compares its status and what it prints. @ stands for the folder in both.
+// expect runs a command line, and compares its status and what it prints. @ is the folder in both.
 func (s *stand) expect(line string, status int, out string) {
 	s.Helper()
 	got := s.do(line)

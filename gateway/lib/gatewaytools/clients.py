@@ -17,10 +17,11 @@ import time
 import uuid
 
 from regdtools.wrong import Wrong, expect
-from gatewaytools import cluster, tools
+from gatewaytools import cluster, planning, tools
 from gatewaytools.scenarios import AGENT, certificates
 
 BOOKS = 10_000  # random books that are compared with the server's answers
+STATES = 10_000  # random pairs of states
 # the most seconds and megabytes for a full book, of a proved program
 SECONDS, QUICK_SECONDS, MEGABYTES = 3, 0.5, 200
 # how much longer than nc a single change may take
@@ -396,7 +397,7 @@ def measured(client, limit, *words):
 
 
 def large(programs, folder):
-    """A full book: check and tree within 3 s, explain within half a second, and 200 MB."""
+    """A full book: check, tree, plan and export within 3 s, explain within half a second, and 200 MB."""
     entries, agents, bundles = 16_384, 4_096, 1_024
     with Server(programs, "-timeout", "10m") as server:
         client = server.client
@@ -413,6 +414,8 @@ def large(programs, folder):
                 found.append(f"{command[0]}: status {status}: {out[-500:]}")
             if seconds > limit:
                 found.append(f"{command[0]} took {seconds:.2f} s, and the limit is {limit} s")
+        of_plans, faults, megabytes = planning.plans_of_full_book(folder, client, measured, SECONDS)
+        rows, found = rows + of_plans, found + faults
         if megabytes > MEGABYTES:
             found.append(f"{megabytes:.0f} MB, and the limit is {MEGABYTES} MB")
     if found:
@@ -420,5 +423,30 @@ def large(programs, folder):
     return f"{entries} entries, {agents} agents, {bundles} bundles: {', '.join(rows)}, {megabytes:.0f} MB"
 
 
-CLIENTS = {"chains": chains, "cuts": cuts, "certificates": client_certificates, "limits": limits, "shell": shell, "terminal": terminal,
+def model(programs, folder):
+    """The server in memory of the unit tests gives the answers of regd to random lines."""
+    return run_tests("internal/booktest", "^TestModelByServer$", 1800, REGD=programs.regd)
+
+
+def states(programs, folder):
+    """Plans between random states: no batch is refused, and the plan after it is empty."""
+    return run_tests("desired", "^TestPlansOfRandomStates$", 3600, REGDCTL_STATES=os.environ.get("REGDCTL_STATES", str(STATES)))
+
+
+def races(programs, folder):
+    """Clients that apply files at the same time."""
+    return planning.races(programs, folder, Server)
+
+
+def resume(programs, folder):
+    """Plans that are killed and repeated."""
+    return planning.resume(programs, folder, Server)
+
+
+def pipeline(programs, folder):
+    """Drift, found and removed by a pipeline."""
+    return planning.pipeline(programs, folder, Server)
+
+
+CLIENTS = {"chains": chains, "model": model, "states": states, "races": races, "resume": resume, "pipeline": pipeline, "cuts": cuts, "certificates": client_certificates, "limits": limits, "shell": shell, "terminal": terminal,
            "operator": operator, "speed": speed, "large": large}
