@@ -530,3 +530,32 @@ func TestReadPlan(t *testing.T) {
 		}
 	}
 }
+
+// TestAbsent removes what has to be gone, also if it is of no set, and nothing if it is gone already.
+func TestAbsent(t *testing.T) {
+	m := booktest.New("ex.org")
+	m.Answer(`{"ops":[{"op":"create","id":"24bbb05c-58d9-4fc7-bdb2-747061ad2046","parent":"spiffe://ex.org/p",` +
+		`"identity":"spiffe://ex.org/i","selectors":["x:1"]}]}`)
+	s := stateOf(t, "absent: {entries: [24BBB05C-58d9-4fc7-bdb2-747061ad2046], agents: [/spire/agent/x], bundles: [x.org]}")
+	p := planned(t, m, s, Options{})
+	if got := rowsText(p); got != "- entry /i" {
+		t.Error(got)
+	}
+	applied(t, m, p)
+	if p = planned(t, m, s, Options{}); len(p.Rows) != 0 {
+		t.Errorf("%+v", p.Rows)
+	}
+}
+
+// TestDeleteOfChanged checks that an entry which another client changes is not deleted.
+func TestDeleteOfChanged(t *testing.T) {
+	m := booktest.New("ex.org")
+	row := "entries: [{parent: /p, identity: /i, selectors: [x:1]}]"
+	applied(t, m, planned(t, m, stateOf(t, row), Options{}))
+	p := planned(t, m, stateOf(t, ""), Options{})
+	m.Answer(fmt.Sprintf(`{"ops":[{"op":"update","id":"%s","parent":"spiffe://ex.org/p","identity":"spiffe://ex.org/i",`+
+		`"selectors":["x:1"],"hint":"other"}]}`, stateOf(t, row).Entries[0].ID))
+	if answer := m.Answer(lineOf(t, p.Batches[0])); !strings.Contains(answer, `"code":"O4","op":1`) {
+		t.Error(answer)
+	}
+}
