@@ -93,6 +93,23 @@ func (c *Client) Entries(ctx context.Context, f Filter) ([]book.Entry, uint64, e
 	}
 }
 
+// EntriesAt returns the entries of a former book that pass a filter. The server refuses a place that is too old (O8).
+func (c *Client) EntriesAt(ctx context.Context, place uint64, f Filter) ([]book.Entry, error) {
+	var found []book.Entry
+	for from := ""; ; {
+		answer, err := c.Ask(ctx, page(PageSize, from, &place, f))
+		if err != nil {
+			return nil, err
+		}
+		reply := answer.Replies[0]
+		found = append(found, reply.Entries...)
+		if reply.Next == nil {
+			return found, nil
+		}
+		from = *reply.Next
+	}
+}
+
 // readEntries reads the entries of one book: page by page, and from the third attempt on by one line if that can have
 // them all.
 func (c *Client) readEntries(ctx context.Context, f Filter, probe []Op, round int) ([]book.Entry, uint64, error) {

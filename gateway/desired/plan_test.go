@@ -536,7 +536,8 @@ func TestAbsent(t *testing.T) {
 	m := booktest.New("ex.org")
 	m.Answer(`{"ops":[{"op":"create","id":"24bbb05c-58d9-4fc7-bdb2-747061ad2046","parent":"spiffe://ex.org/p",` +
 		`"identity":"spiffe://ex.org/i","selectors":["x:1"]}]}`)
-	s := stateOf(t, "absent: {entries: [24BBB05C-58d9-4fc7-bdb2-747061ad2046], agents: [/spire/agent/x], bundles: [x.org]}")
+	s := stateOf(t, "absent: {entries: [24BBB05C-58d9-4fc7-bdb2-747061ad2046], agents: [/spire/agent/x], "+
+		"bundles: [x.org]}")
 	p := planned(t, m, s, Options{})
 	if got := rowsText(p); got != "- entry /i" {
 		t.Error(got)
@@ -553,9 +554,36 @@ func TestDeleteOfChanged(t *testing.T) {
 	row := "entries: [{parent: /p, identity: /i, selectors: [x:1]}]"
 	applied(t, m, planned(t, m, stateOf(t, row), Options{}))
 	p := planned(t, m, stateOf(t, ""), Options{})
-	m.Answer(fmt.Sprintf(`{"ops":[{"op":"update","id":"%s","parent":"spiffe://ex.org/p","identity":"spiffe://ex.org/i",`+
-		`"selectors":["x:1"],"hint":"other"}]}`, stateOf(t, row).Entries[0].ID))
+	m.Answer(
+		fmt.Sprintf(
+			`{"ops":[{"op":"update","id":"%s","parent":"spiffe://ex.org/p","identity":"spiffe://ex.org/i",`+
+				`"selectors":["x:1"],"hint":"other"}]}`, stateOf(t, row).Entries[0].ID))
 	if answer := m.Answer(lineOf(t, p.Batches[0])); !strings.Contains(answer, `"code":"O4","op":1`) {
 		t.Error(answer)
+	}
+}
+
+// TestLongPlans divides entries that are too long together for one line.
+func TestLongPlans(t *testing.T) {
+	text := "bundles:\n"
+	for i := 0; i < 9; i++ {
+		text += fmt.Sprintf("  - {domain: b%d.org, text: %s}\n", i, strings.Repeat("x", 60000))
+	}
+	m := booktest.New("ex.org")
+	p := planned(t, m, stateOf(t, text), Options{})
+	if len(p.Batches) != 3 {
+		t.Errorf("%d batches", len(p.Batches))
+	}
+	applied(t, m, p)
+}
+
+// TestPlanAgentsAlone shows what an agent gains by its selectors alone.
+func TestPlanAgentsAlone(t *testing.T) {
+	m := booktest.New("ex.org")
+	applied(t, m, planned(t, m, stateOf(t, two), Options{}))
+	p := planned(t, m, stateOf(t, strings.Replace(two, "[x:2]", "[x:1]", 1)), Options{})
+	if got := fmt.Sprint(p.Access); got != "[{spiffe://ex.org/spire/agent/b [spiffe://ex.org/n "+
+		"spiffe://ex.org/web] []}]" {
+		t.Error(got)
 	}
 }

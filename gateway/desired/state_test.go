@@ -65,8 +65,8 @@ absent:
   entries: [24BBB05C-58d9-4fc7-bdb2-747061ad2046]
 `
 
-// TestRead reads each key.
-func TestRead(t *testing.T) {
+// TestReadState reads each key.
+func TestReadState(t *testing.T) {
 	s, err := readOne(example)
 	if err != nil {
 		t.Fatal(err)
@@ -110,8 +110,8 @@ func TestRead(t *testing.T) {
 
 const head = "regdctl: 1\ndomain: ex.org\nset: s\n"
 
-// TestReadRefuses checks that each fault is named with its file and line.
-func TestReadRefuses(t *testing.T) {
+// TestStateFaults checks that each fault is named with its file and line.
+func TestStateFaults(t *testing.T) {
 	row := "  - {parent: /p, identity: /i, selectors: [x:1]"
 	for text, want := range map[string]string{
 		"a: b": "in/book.yaml:1: a desired state begins with `regdctl: 1`",

@@ -27,8 +27,8 @@ func text(n *Node) string {
 	return fmt.Sprintf("%d%s", n.Line, map[Kind]string{Text: "'", Number: "#", Bool: "?"}[n.Kind]+n.Text)
 }
 
-// TestRead reads each construct, with the lines of its parts. No text of YAML is taken for anything else.
-func TestRead(t *testing.T) {
+// TestReadDocument reads each construct, with the lines of its parts. No text of YAML is taken for anything else.
+func TestReadDocument(t *testing.T) {
 	for given, want := range map[string]string{
 		"a: b":                                    "1{1:a=1'b}",
 		"# c\na: no # c\nb: 1e3\n":                "2{2:a=2'no 3:b=3'1e3}",
@@ -52,8 +52,8 @@ func TestRead(t *testing.T) {
 	}
 }
 
-// TestReadRefuses checks that each fault is named with its line.
-func TestReadRefuses(t *testing.T) {
+// TestDocumentFaults checks that each fault is named with its line.
+func TestDocumentFaults(t *testing.T) {
 	deep := strings.Repeat("[", 200) + strings.Repeat("]", 200)
 	for given, want := range map[string]string{
 		"":                            "line 1: the file has no value",

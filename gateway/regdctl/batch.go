@@ -8,8 +8,8 @@ import (
 )
 
 const (
-	mostOps   = 64        // of a line
-	mostBytes = 256 << 10 // of a line that changes something
+	mostOps   = 64            // of a line
+	mostBytes = 256<<10 - 256 // of the operations of a line, which has a token and more next to them
 )
 
 // A made is a batch that was committed.

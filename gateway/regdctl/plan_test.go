@@ -40,11 +40,11 @@ func (s *stand) file(name, text string) string {
 	return path
 }
 
-// do runs a command line, whose words are divided by spaces; @ is the folder.
+// do runs a command line, whose words are divided by spaces; @ is the folder, and % the @ of an address.
 func (s *stand) do(line string) result {
 	s.Helper()
 	env := []string{"REGDCTL_ADDRESS=" + s.Address, "REGDCTL_DOMAIN=ex.org", "REGDCTL_TIMEOUT=10s"}
-	return ctl(s.T, "", env, split(strings.ReplaceAll(line, "@", s.folder))...)
+	return ctl(s.T, "", env, split(strings.NewReplacer("@", s.folder, "%", "@").Replace(line))...)
 }
 
 // expect runs a command line, and compares its status and what it prints. @ is the folder in both.
