@@ -1,4 +1,4 @@
-"""The manual pages, made of the help texts of the programs and of manual.toml beside this file.
+"""The manual pages, made of the help texts of the programs and of manual.toml in this folder.
 
 A page has what the program prints as its help: usage, commands, options. The file has what no help text says: a description, exit
 statuses, files and other pages. The pages are in the language of man(7), with requests alone that every formatter knows.
@@ -12,7 +12,7 @@ from typing import NamedTuple
 
 from regdtools.program import ROOT
 
-SOURCE = pathlib.Path(__file__).with_suffix(".toml")
+SOURCE = pathlib.Path(__file__).with_name("manual.toml")
 # a line of a list: what it describes, and a text behind two blanks or more
 LISTED = re.compile(r" {2,}(\S+(?: \S+)*)(?: {2,}(.*))?")
 # a line with the text of what the line before describes
