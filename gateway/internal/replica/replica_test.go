@@ -543,7 +543,8 @@ func TestEnd(t *testing.T) {
 // if nothing is asked. It also ends if a query finds that regd hangs.
 func TestHang(t *testing.T) {
 	const hang = 800 * time.Millisecond
-	r, _ := startWith(t, Options{Hang: hang})
+	late := func() { t.Error("a reply is late, and there was no query") }
+	r, _ := startWith(t, Options{Hang: hang, OnLate: late})
 	for place := 1; place <= 10; place++ {
 		slow := []byte(`{"ops":[{"op":"prune","hint":"SLOW"}]}`)
 		r.Apply(Entry{Number: 1, Name: "e", Lines: [][]byte{slow}}, nil, func(int, []byte) {})
@@ -589,12 +590,14 @@ func TestStartFails(t *testing.T) {
 			t.Errorf("%v started", options)
 		}
 	}
-	program, pid := script(t, "exec %s \"$@\"")
-	shared := Options{Program: program, Domain: "shared.org", Workers: 2}
-	if _, err := Start(context.Background(), shared, nil); err == nil {
-		t.Error("it started")
+	for _, command := range []string{"exec %s \"$@\"", "echo listening; exec sleep 60; %s"} {
+		program, pid := script(t, command)
+		shared := Options{Program: program, Domain: "shared.org", Workers: 2}
+		if _, err := Start(context.Background(), shared, nil); err == nil {
+			t.Errorf("%s started", command)
+		}
+		waits(t, "regd stays", func() bool { return syscall.Kill(pid(), 0) != nil })
 	}
-	waits(t, "regd stays", func() bool { return syscall.Kill(pid(), 0) != nil })
 }
 
 // script returns a script that runs this program, and what returns the number of its process.

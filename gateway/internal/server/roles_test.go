@@ -336,10 +336,10 @@ func TestLapseWhileWaiting(t *testing.T) {
 	later := s.lapse.chain[0].NotAfter.Add(time.Second)
 	s.endIfLapsed(rights{now: later})
 	late := time.AfterFunc(5*time.Second, func() { outer.Close() })
-	defer late.Stop()
 	if _, err := inner.Read(make([]byte, 1)); !os.IsTimeout(err) {
 		t.Errorf("it goes on to wait for a line: %v", err)
 	}
+	late.Stop()
 	s.endIfLapsed(rights{now: later.Add(lapseTime)})
 	if err := outer.SetDeadline(time.Now().Add(50 * time.Millisecond)); err != nil {
 		t.Fatal(err)

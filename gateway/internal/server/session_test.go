@@ -385,15 +385,17 @@ func TestAnswerOnce(t *testing.T) {
 	}
 }
 
-// TestLateAnswer checks that an answer which is there is taken, however late it is. The clock may strike at any moment
-// of a try.
+// TestLateAnswer checks that an answer which is there is taken, even if the time for it is over.
 func TestLateAnswer(t *testing.T) {
 	s := newSite(t)
-	s.limits.Answer = time.Nanosecond
-	for i := 0; i < 5000; i++ {
-		made, conn := rowOf(s, []byte(committed(7, 1)))
-		if !made.writeAnswers(s.ctx, 0) {
-			t.Fatalf("wrote %s", conn.text)
+	made, _ := rowOf(s)
+	for i := 0; i < 100; i++ { // in half of which a select of both would take the end
+		over := make(chan time.Time, 1)
+		over <- time.Now()
+		q := made.request(nil)
+		q.answer([]byte(committed(7, 1)))
+		if reply, isThere := made.receive(s.ctx, q, &wait{session: made, timer: &time.Timer{C: over}}); !isThere {
+			t.Fatalf("got %s", reply)
 		}
 	}
 }
