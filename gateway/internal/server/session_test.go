@@ -650,7 +650,7 @@ func TestWorkers(t *testing.T) {
 	g, address, _ := s.gateway("a")
 	first, _ := s.dial(address)
 	fmt.Fprintln(first, `{"ops":[{"op":"show","hint":"HANG"}]}`)
-	within(t, "no connection", func() bool { return g.accepted.Load() == 1 })
+	within(t, "no line is under way", func() bool { return g.accepted.Load() == 1 && g.active.Load() == 1 })
 	second, in := s.dial(address)
 	second.SetDeadline(time.Now().Add(5 * time.Second))
 	fmt.Fprintln(second, show)
