@@ -150,7 +150,7 @@ func differing(m *booktest.Model, s *State) string {
 // TestPlansOfRandomStates applies plans between random states, and plans again: no batch is refused, the book has what
 // the state says, and the later plan is empty.
 func TestPlansOfRandomStates(t *testing.T) {
-	count := 500
+	count := 300
 	if word := os.Getenv("REGDCTL_STATES"); word != "" {
 		n, err := strconv.Atoi(word)
 		if err != nil {

@@ -148,7 +148,7 @@ func TestWatch(t *testing.T) {
 		`"selectors":["x:1"]}`
 	changes := [][]string{nil, {set, create}, {`{"op":"delete","id":"` + id + `"}`}, strings.Split(
 		strings.Repeat(set+"\n", 69)+set, "\n")}
-	s.Before = func(_ int, line string) bool {
+	s.Before(func(_ int, line string) bool {
 		if strings.Contains(line, `"size":1`) && len(changes) > 0 {
 			for _, one := range changes[0] {
 				s.change(one)
@@ -156,7 +156,7 @@ func TestWatch(t *testing.T) {
 			changes = changes[1:]
 		}
 		return false
-	}
+	})
 	got := s.do("watch -interval 1ms -until 74")
 	want := "commit 2  no entry changed\ncommit 3  + /i  24bbb05c-58d9-4fc7-bdb2-747061ad2046\n" +
 		"commit 4  - /i  24bbb05c-58d9-4fc7-bdb2-747061ad2046\ncommit 11  no entry changed\n"
@@ -165,7 +165,7 @@ func TestWatch(t *testing.T) {
 		!strings.HasPrefix(got.errs, "regdctl: commits 5 to 10 are too old by now") {
 		t.Errorf("%v", got)
 	}
-	s.Before = nil
+	s.Before(nil)
 	if got := s.do("watch -set prod -parentID /p -until 0"); got.status != 0 || got.out != "" {
 		t.Errorf("%v", got)
 	}

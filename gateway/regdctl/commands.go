@@ -38,6 +38,7 @@ func allCommands() []command {
 		{"bundle list", "", "list bundles", listBundles},
 		{"bundle count", "", "count bundles", countBundles},
 		{"bundle delete", "", "remove the bundle of a domain", deleteBundle},
+		{"bundle sync", "FILE", "fetch bundles over https, and set those that differ", syncBundles},
 		{"prune", "", "remove the entries that have expired", prune},
 		{"plan", "FILE..", "show what would make the book as files say", planState},
 		{"apply", "FILE..|PLAN", "make the book as files say, or as a stored plan says", applyState},
@@ -51,6 +52,9 @@ func allCommands() []command {
 		{"who-can", "ID", "say which agents may serve a SPIFFE ID", whoCan},
 		{"tree", "", "show all entries below their agents and aliases", showTree},
 		{"check", "", "find what looks wrong", check},
+		{"graph", "", "draw agents, aliases and entries: a page, a drawing, or for Graphviz", drawGraph},
+		{"browse", "", "serve the page of graph on a loopback port, from live data", browse},
+		{"proxy", "", "serve request lines over HTTP on a loopback port", proxy},
 		{"status", "", "show whether the server answers, and its commit number", showStatus},
 		{"wait", "", "wait until the server has a commit", waitFor},
 		{"call", "[LINE..]", "send request lines as they are, and print the answers", call},
@@ -67,7 +71,8 @@ var instead = map[string]string{
 	"x509 mint":      "regd issues no SVIDs",
 	"jwt mint":       "regd issues no SVIDs",
 	"healthcheck":    "use `regdctl status`",
-	"federation":     "regd fetches no bundles. Set each one with `regdctl bundle set`",
+	"federation": "regd fetches no bundles. Set each one with `regdctl bundle set`, or from a timer with " +
+		"`regdctl bundle sync`",
 }
 
 // findCommand returns the command that the words begin with, and the other words.

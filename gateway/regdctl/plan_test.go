@@ -251,13 +251,13 @@ func TestApplyMoved(t *testing.T) {
 // server can't refuse is reported.
 func TestApplyRaces(t *testing.T) {
 	s := applied(t, false)
-	s.Before = func(_ int, line string) bool {
+	s.Before(func(_ int, line string) bool {
 		if strings.Contains(line, `"op":"set_agent"`) {
-			s.Before = nil
+			s.Before(nil)
 			s.change(`{"op":"set_agent","agent":"spiffe://ex.org/spire/agent/b","selectors":["other:1"]}`)
 		}
 		return false
-	}
+	})
 	if got := s.do("apply -yes @/later.yaml"); got.status != 3 || !strings.Contains(got.errs,
 		"refused: O10 in operation 1") ||
 		s.model.Place != 2 {
@@ -266,14 +266,14 @@ func TestApplyRaces(t *testing.T) {
 	s = applied(t, true)
 	s.file("later.yaml", strings.Replace(later, "partner.json", "other.json", 1))
 	s.file("other.json", `{"keys":[1]}`)
-	s.Before = func(_ int, line string) bool {
+	s.Before(func(_ int, line string) bool {
 		if strings.Contains(line, `"op":"drop_agent"`) {
-			s.Before = nil
+			s.Before(nil)
 			s.change(`{"op":"set_agent","agent":"spiffe://ex.org/spire/agent/b","selectors":["other:1"]}`)
 			s.change(`{"op":"set_bundle","domain":"partner.org","text":"other"}`)
 		}
 		return false
-	}
+	})
 	got := s.do("apply -yes @/later.yaml")
 	if want := "batch 1 of 1: committed at 4 (7 operations)\n" +
 		"  ! partner.org had sequence 2 and not sequence 1: the change of another client is replaced\n" +
@@ -338,13 +338,13 @@ func TestApplyCut(t *testing.T) {
 	s.file("partner.json", `{"keys":[]}`)
 	s.file("prod.yaml", prod)
 	cuts := 0
-	s.Before = func(number int, line string) bool {
+	s.Before(func(number int, line string) bool {
 		isCut := strings.Contains(line, `"token"`) && cuts < 3
 		if isCut {
 			cuts++
 		}
 		return isCut
-	}
+	})
 	if got := s.do("apply -yes @/prod.yaml"); got.status != 0 || cuts != 3 || s.model.Place != 1 ||
 		!strings.Contains(got.out, "committed at 1, made before") {
 		t.Errorf("%v, place %d", got, s.model.Place)

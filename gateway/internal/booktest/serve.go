@@ -13,10 +13,8 @@ type Server struct {
 	Address string
 	mu      sync.Mutex
 	model   *Model
-	// Before is called before each line with its number. If it returns true, the line is made and its answer is
-	// lost.
-	Before func(number int, line string) (isCut bool)
-	lines  []string
+	hook    func(number int, line string) (isCut bool)
+	lines   []string
 }
 
 // Serve starts a server, which ends with the test.
@@ -56,13 +54,24 @@ func (s *Server) converse(stream net.Conn) {
 }
 
 func (s *Server) answer(line string) (answer string, isCut bool) {
-	if s.Before != nil {
-		isCut = s.Before(len(s.Lines()), line)
+	s.mu.Lock()
+	hook, number := s.hook, len(s.lines)
+	s.mu.Unlock()
+	if hook != nil {
+		isCut = hook(number, line)
 	}
 	s.mu.Lock()
 	defer s.mu.Unlock()
 	s.lines = append(s.lines, line)
 	return s.model.Answer(line), isCut
+}
+
+// Before sets what is called before each line with its number. If it returns true, the line is made and its answer is
+// lost.
+func (s *Server) Before(hook func(number int, line string) (isCut bool)) {
+	s.mu.Lock()
+	defer s.mu.Unlock()
+	s.hook = hook
 }
 
 // Do changes the model between two lines.

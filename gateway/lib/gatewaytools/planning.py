@@ -209,7 +209,8 @@ def plans_of_full_book(folder, client, measured, limit):
     # the entries were made by hand: the first plan adopts all of them
     whole = write(folder, "whole.yaml", client.get("export", "-as", "whole"))
     rows, found = [], []
-    for what, status, *words in (("a plan that adopts all entries", 4, "plan", "-adopt", whole), ("export", 0, "export")):
+    for what, status, *words in (("a plan that adopts all entries", 4, "plan", "-adopt", whole), ("export", 0, "export"),
+                                ("backup", 0, "backup", "-partial")):
         got, seconds, processor, megabytes, out = measured(client, limit, *words)
         rows.append(f"{what} {seconds:.2f} s, {processor:.2f} s of a processor")
         if got != status:
@@ -245,4 +246,11 @@ def pipeline(programs, folder, Server):
         expect(client.run("plan", file)[0], 0, "a plan after the drift was removed")
         marker = json.loads(client.get("entry", "show", "-spiffeID", "/regdctl/set", "-output", "json"))["entries"][0]
         expect(json.loads(marker["hint"])["by"], "pipeline", "who has applied")
-    return "drift found by status 4, a lost answer by status 5, the same again, and no drift afterwards"
+        backup = write(folder, "backup.jsonl", client.get("backup", "-partial"))
+        with Server(programs) as empty:
+            empty.client.get("restore", backup)
+            for one, other in ((backup, f"@{empty.address}"), (f"@{server.address}", f"@{empty.address}")):
+                expect(client.run("diff", one, other)[0], 0, f"diff {one} {other}")
+            empty.client.get("restore", backup)
+            expect(empty.client.run("plan", file)[0], 0, "a plan of the restored book")
+    return "drift found by status 4, a lost answer by status 5, the same again, and no drift afterwards, also in a restored book"
