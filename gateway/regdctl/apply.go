@@ -278,9 +278,11 @@ func (s *session) stoppedAt(i, count int, err error) error {
 	}
 	var refused *client.Refused
 	if errors.As(err, &refused) {
-		s.warn("regdctl: nothing of batch %d of %d was made, since the book isn't the one of the plan; plan "+
-			"again", i+1,
-			count)
+		why := ""
+		if isOneOf(refused.Answer.Code, "O1", "O2", "O3", "O4", "O7", "O10") {
+			why = ", since others have changed what the plan has read: plan again"
+		}
+		s.warn("regdctl: nothing of batch %d of %d was made%s", i+1, count, why)
 	}
 	return err
 }

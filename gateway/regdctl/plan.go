@@ -19,6 +19,8 @@ import (
 // errBlocked says that a plan needs a decision, which was printed.
 var errBlocked = errors.New("entries that the plan wants are there with other ids; nothing was sent")
 
+const mostBy = 128 // bytes of -by, since the marker's hint has up to 1,024
+
 // planning are the flags of commands that plan.
 type planning struct {
 	isAdopting *bool
@@ -83,6 +85,9 @@ func (s *session) plan(state *desired.State, p planning) (*desired.Plan, error) 
 	known, err := p.names(s)
 	if err != nil {
 		return nil, err
+	}
+	if len(*p.by) > mostBy {
+		return nil, invalidf("-by has up to %d bytes", mostBy)
 	}
 	b, err := s.readCopy(client.Reading{Agents: true, Names: append(state.AgentNames(), known.agents...),
 		Bundles: true,

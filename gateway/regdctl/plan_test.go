@@ -189,6 +189,9 @@ func TestPlanStatuses(t *testing.T) {
 			t.Errorf("%s: %v", line, got)
 		}
 	}
+	if got := s.do("plan @/later.yaml -by " + strings.Repeat("x", 129)); got.status != 2 {
+		t.Errorf("%v", got)
+	}
 	if got := s.do("apply -dry-run @/later.yaml"); !strings.HasSuffix(got.out,
 		"would be accepted on commit 2; nothing was changed\n") {
 		t.Errorf("%v", got)
@@ -405,5 +408,47 @@ func TestMarkers(t *testing.T) {
 	if a, isOne := e.Applied(); !isOne || a.By != "me" || a.Set != "prod" || !(&book.Entry{Parent: e.Parent,
 		Identity: e.Identity}).IsMarker() {
 		t.Errorf("%+v", a)
+	}
+}
+
+// TestApplyTogether applies two files of one set at the same time: the set is always that of one of them, and the other
+// command is refused or plans again.
+func TestApplyTogether(t *testing.T) {
+	for _, isOld := range []bool{false, true} {
+		s := newStand(t, isOld)
+		text := prodHead + "agents: [{id: /spire/agent/a, selectors: ['x:HINT']}]\nentries:\n"
+		for i := 0; i < 9; i++ {
+			text += fmt.Sprintf("  - {parent: /p, identity: /i/%d, selectors: [x:1], hint: HINT}\n", i)
+		}
+		for _, hint := range []string{"red", "blue"} {
+			s.file(hint, strings.ReplaceAll(text, "HINT", hint))
+		}
+		counts := map[int]int{}
+		for round := 0; round < 20; round++ {
+			statuses := make(chan int, 2)
+			for _, hint := range []string{"red", "blue"} {
+				go func(hint string) { statuses <- s.do("apply -yes @/" + hint).status }(hint)
+			}
+			counts[<-statuses]++
+			counts[<-statuses]++
+			s.Do(func(m *booktest.Model) { isOneFile(t, m) })
+		}
+		if counts[0]+counts[3] != 40 || counts[0] < 20 {
+			t.Errorf("%v", counts)
+		}
+	}
+}
+
+// isOneFile checks that the entries and the agent of a book are of one file.
+func isOneFile(t *testing.T, m *booktest.Model) {
+	hints := map[string]bool{}
+	for _, e := range m.Entries {
+		if !e.IsMarker() {
+			hints[e.Hint] = true
+		}
+	}
+	selectors := m.Agents["spiffe://ex.org/spire/agent/a"]
+	if len(hints) != 1 || len(m.Entries) != 10 || !hints[strings.TrimPrefix(selectors[0], "x:")] {
+		t.Errorf("commit %d: %v %v", m.Place, hints, selectors)
 	}
 }
