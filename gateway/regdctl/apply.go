@@ -112,7 +112,8 @@ func (s *session) confirm(p *desired.Plan, isYes bool) error {
 	}
 	s.limit() // what the caller took doesn't count; the end of the program ends this time, too
 	if !isOneOf(strings.ToLower(strings.TrimSpace(word)), "y", "yes") {
-		return invalidf("nothing was sent")
+		s.warn("regdctl: nothing was sent")
+		return errNo
 	}
 	return nil
 }

@@ -146,6 +146,7 @@ func TestWatch(t *testing.T) {
 	set := `{"op":"set_agent","agent":"spiffe://ex.org/spire/agent/z","selectors":[]}`
 	create := `{"op":"create","id":"` + id + `","parent":"spiffe://ex.org/p","identity":"spiffe://ex.org/i",` +
 		`"selectors":["x:1"]}`
+	isFast := false // 71 commits between a look and the reading
 	changes := [][]string{nil, {set, create}, {`{"op":"delete","id":"` + id + `"}`}, strings.Split(
 		strings.Repeat(set+"\n", 69)+set, "\n")}
 	s.Before(func(_ int, line string) bool {
@@ -155,13 +156,19 @@ func TestWatch(t *testing.T) {
 			}
 			changes = changes[1:]
 		}
+		if strings.Contains(line, `"at":74`) && !isFast {
+			isFast = true
+			for i := 0; i < 71; i++ {
+				s.change(set)
+			}
+		}
 		return false
 	})
-	got := s.do("watch -interval 1ms -until 74")
+	got := s.do("watch -interval 1ms -until 145")
 	want := "commit 2  no entry changed\ncommit 3  + /i  24bbb05c-58d9-4fc7-bdb2-747061ad2046\n" +
 		"commit 4  - /i  24bbb05c-58d9-4fc7-bdb2-747061ad2046\ncommit 11  no entry changed\n"
 	if got.status != 0 || !strings.HasPrefix(got.out, want) || !strings.HasSuffix(got.out,
-		"commit 74  no entry changed\n") ||
+		"commit 145  no entry changed\n") ||
 		!strings.HasPrefix(got.errs, "regdctl: commits 5 to 10 are too old by now") {
 		t.Errorf("%v", got)
 	}

@@ -49,7 +49,7 @@ fi
     $words[1] __complete $words[2..-1] 2>/dev/null
 end
 complete -c regdctl -f -a '(__regdctl_complete)'
-for flag in path data file names keys certificate key authorities record out
+for flag in path data file names keys certificate key authorities record out roots
     complete -c regdctl -o $flag -r -F
 end
 `,

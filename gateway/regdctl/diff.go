@@ -253,6 +253,9 @@ func (w *watcher) look(isFirst bool) error {
 	}
 	for w.place < newest {
 		entries, err := w.read(w.place + 1)
+		if isTooOld(err) {
+			return nil // others are faster; the next look says which commits are missed
+		}
 		if err != nil {
 			return err
 		}
@@ -265,7 +268,13 @@ func (w *watcher) look(isFirst bool) error {
 	return nil
 }
 
-// read reads the entries of a commit. If others are faster, those of the first commit that can be read.
+// isTooOld returns true if a book can't be read any more.
+func isTooOld(err error) bool {
+	var refused *client.Refused
+	return errors.As(err, &refused) && refused.Answer.Code == "O8"
+}
+
+// read reads the entries of a commit.
 func (w *watcher) read(place uint64) ([]book.Entry, error) {
 	entries, err := w.client.EntriesAt(w.ctx, place, w.filter)
 	if err != nil || w.set.Name == "" {

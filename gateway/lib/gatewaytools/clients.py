@@ -176,6 +176,10 @@ def limits(programs, folder):
             parts = [pool.submit(client(small).get, "call", "-retry", text="\n".join(lines[begin : begin + 10]) + "\n") for begin in range(0, 120, 10)]
             answers = [json.loads(line) for part in parts for line in part.result().splitlines()]
         expect([len(answers), {answer["result"] for answer in answers} <= {"committed", "repeated"}], [120, True], "changes where one may wait")
+        # a plan, and one of which a batch is too long
+        client(small).get("apply", "-yes", planning.write(folder, "short.yaml", planning.state_of("s", planning.entries_of(3, "h"))))
+        long = planning.write(folder, "long.yaml", planning.state_of("s", planning.entries_of(30, "h")))
+        refused("a batch that is too long", "G6", client(small), "apply", "-yes", long)
         # G5 that stays, and G6
         for begin in range(0, 400, 4):
             rows = [{"parent": "/n", "identity": f"/e/{i}", "selectors": [f"u:{i}"], "hint": "x" * 250} for i in range(begin, begin + 4)]
@@ -270,7 +274,7 @@ def terminal(programs, folder):
     if not all(re.fullmatch(r"\d+ of 1920 operations, batch \d+ of 30, \d+s left", line) for line in lines[1:-1]) or len(lines) < 4 or lines[-1]:
         raise Wrong(f"progress: {printed[0]!r}")
     expect(printed[1], "", "what is printed into a pipe")
-    return f"{len(lines) - 2} times on a terminal, and never into a pipe"
+    return f"{len(lines) - 2} times on a terminal, and never into a pipe; {planning.asked(programs, folder, Server)}"
 
 
 class Server:

@@ -3,7 +3,9 @@ import collections
 import concurrent.futures
 import contextlib
 import json
+import os
 import pathlib
+import pty
 import re
 import select
 import socket
@@ -202,6 +204,22 @@ def resume_by_gateways(programs, folder):
         expect(client.run("plan", file)[0], 0, "the plan afterwards")
         cluster.settle(site.gateways)
     return f"10 batches while three gateways are killed, {out.count('made before')} of them sent twice"
+
+
+def asked(programs, folder, Server):
+    """apply asks on a terminal, and goes on with yes alone."""
+    file = write(folder, "asked.yaml", state_of("s", entries_of(3, "h")))
+    with Server(programs) as server:
+        for answer, status, count in ((b"n\n", 4, 0), (b"\n", 4, 0), (b"y\n", 0, 3)):
+            ours, theirs = pty.openpty()
+            with subprocess.Popen([*server.client.words, "apply", file], stdin=theirs, stdout=subprocess.PIPE, stderr=subprocess.PIPE, text=True) as process:
+                os.close(theirs)
+                os.write(ours, answer)
+                out, errors = process.communicate(timeout=60)
+                os.close(ours)
+            expect([process.returncode, "apply 3 changes? [y/N]" in errors], [status, True], f"the answer {answer}: {out}{errors}")
+            expect(len(exported(server.client, "s")), count, "entries")
+    return "apply asks there, and does nothing without yes"
 
 
 def plans_of_full_book(folder, client, measured, limit):
