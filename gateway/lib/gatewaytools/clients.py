@@ -12,6 +12,7 @@ import shlex
 import socket
 import statistics
 import subprocess
+import sys
 import threading
 import time
 import uuid
@@ -437,6 +438,13 @@ def states(programs, folder):
     return run_tests("desired", "^TestPlansOfRandomStates$", 3600, REGDCTL_STATES=os.environ.get("REGDCTL_STATES", str(STATES)))
 
 
+def files(programs, folder):
+    """What the reader of files accepts in YAML, Python's module reads as the same."""
+    if subprocess.run([sys.executable, "-c", "import yaml"], capture_output=True).returncode:
+        return "not compared: Python has no module yaml here"
+    return run_tests("document", "^TestReadAsPython$", 1800, REGDCTL_PYTHON=sys.executable)
+
+
 def races(programs, folder):
     """Clients that apply files at the same time."""
     return planning.races(programs, folder, Server)
@@ -452,5 +460,5 @@ def pipeline(programs, folder):
     return planning.pipeline(programs, folder, Server)
 
 
-CLIENTS = {"chains": chains, "model": model, "states": states, "races": races, "resume": resume, "pipeline": pipeline, "cuts": cuts, "certificates": client_certificates, "limits": limits, "shell": shell, "terminal": terminal,
+CLIENTS = {"chains": chains, "model": model, "states": states, "files": files, "races": races, "resume": resume, "pipeline": pipeline, "cuts": cuts, "certificates": client_certificates, "limits": limits, "shell": shell, "terminal": terminal,
            "operator": operator, "speed": speed, "large": large}

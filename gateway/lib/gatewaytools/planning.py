@@ -189,7 +189,8 @@ def resume_by_gateways(programs, folder):
 
     file = write(folder, "gateways.yaml", state_of("s", entries_of(600, "h")))
     with faults.Site(programs, pathlib.Path(folder) / "site") as site:
-        client = Client(programs.regdctl, ",".join(f"127.0.0.1:{gateway.port}" for gateway in site.gateways), "-timeout", "120s")
+        addresses, fresh = (",".join(f"127.0.0.1:{getattr(gateway, port)}" for gateway in site.gateways) for port in ("port", "fresh"))
+        client = Client(programs.regdctl, addresses, "-fresh", fresh, "-timeout", "120s")
         plan = str(pathlib.Path(folder) / "plan-of-gateways")
         expect(client.run("plan", "-out", plan, file)[0], 4, "the plan")
         process = subprocess.Popen([*client.words, "apply", plan], stdout=subprocess.PIPE, stderr=subprocess.STDOUT, text=True)

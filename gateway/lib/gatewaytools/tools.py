@@ -23,7 +23,7 @@ Programs = collections.namedtuple("Programs", "gateway regd load regdctl", defau
 def commands_of(parts):
     """Returns the commands that parts of gateway/test need."""
     commands = ["go"]
-    alone = ("fast", "unit-race", "fuzz/", "oracle", "removals", "client/states", "client/model")
+    alone = ("fast", "unit-race", "fuzz/", "oracle", "removals", "client/states", "client/model", "client/files")
     if not all(part.startswith(alone) for part in parts):
         commands += ["etcd", "etcdctl", "haproxy", "openssl", "curl"]
     commands += ["zsh", "fish"] * ("client/shell" in parts) + ["nc"] * ("client/speed" in parts)
