@@ -394,7 +394,8 @@ func TestLateAnswer(t *testing.T) {
 		over <- time.Now()
 		q := made.request(nil)
 		q.answer([]byte(committed(7, 1)))
-		if reply, isThere := made.receive(s.ctx, q, &wait{session: made, timer: &time.Timer{C: over}}); !isThere {
+		w := wait{session: made, timer: &time.Timer{C: over}}
+		if reply, isThere := made.receive(s.ctx, q, &w); !isThere {
 			t.Fatalf("got %s", reply)
 		}
 	}

@@ -176,9 +176,9 @@ class Chain(unittest.TestCase):
     def test_entries_that_do_not_follow(self):
         first, second, third = self.entries()
         logs.follows(second, first.name, first.time)
-        for before, time in ((third.name, 0), (first.name, 1001)):
+        for before, moment in ((third.name, 0), (first.name, 1001)):
             with self.assertRaises(logs.Damaged):
-                logs.follows(second, before, time)
+                logs.follows(second, before, moment)
 
     def test_gaps(self):
         first, second, third = self.entries()

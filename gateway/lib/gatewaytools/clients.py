@@ -317,7 +317,7 @@ def operator(programs, folder):
         client.get("entry", "create", "-data", "-", text=json.dumps({"entries": rows}))
         expect("may serve 21 entries" in client.get("explain", "/spire/agent/a"), True, "what agent a may serve")
         expect(client.get("agent", "entries", "/spire/agent/c"), "ENTRY ID  SPIFFE ID  PARENT ID  SELECTORS  REV  EXPIRES  FEDERATES WITH  HINT\n"
-               f"0 entries at commit 7\n", "what agent c may serve")
+               "0 entries at commit 7\n", "what agent c may serve")
         # a move of 33 entries, all or none
         more = [{"identity": f"/batch/{i}", "parent": "/node/rack-1", "selectors": [f"unix:uid:{2000 + i}"]} for i in range(13)]
         client.get("entry", "create", "-data", "-", text=json.dumps(more))

@@ -8,7 +8,7 @@ import shutil
 import subprocess
 
 from regdtools import crates, proving
-from regdtools.program import CRATES, ROOT
+from regdtools.program import ROOT
 
 
 class Failed(Exception):

@@ -3,11 +3,9 @@
 The planted fault is a program in front of regd. After an agent was set, it changes one reply of `regd plain` that shows an agent. The
 smallest input that shows this has two requests of one operation each.
 """
-import collections
 import json
 import os
 import pathlib
-import random
 import sys
 import tempfile
 
