@@ -50,6 +50,8 @@ func TestReadRegistration(t *testing.T) {
 		{"a prune", `{"ops":[{"op":"prune","before":0}]}`, false},
 		{"a create and a prune", `{"ops":[` + create(team+"a") + `,{"op":"prune","before":0}]}`, false},
 		{"a create and a query", `{"ops":[` + create(team+"a") + `,{"op":"show","id":"i"}]}`, false},
+		{"another operation with keys of a create",
+			`{"ops":[{"op":"prune","before":0,"id":"i","identity":"` + team + `a"}]}`, false},
 		{"set_agent", `{"ops":[{"op":"set_agent","agent":"a","selectors":[]}]}`, false},
 		{"drop_agent", `{"ops":[{"op":"drop_agent","agent":"a"}]}`, false},
 		{"set_bundle", `{"ops":[{"op":"set_bundle","domain":"a","text":""}]}`, false},
