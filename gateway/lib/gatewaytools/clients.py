@@ -281,8 +281,8 @@ def terminal(programs, folder):
 class Server:
     """A running regd serve, and a client of it."""
 
-    def __init__(self, programs, *words):
-        options = ["--domain", cluster.DOMAIN, "--listen", "127.0.0.1:0", "--workers", "4", "--connections", "65535"]
+    def __init__(self, programs, *words, workers=4):
+        options = ["--domain", cluster.DOMAIN, "--listen", "127.0.0.1:0", "--workers", str(workers), "--connections", "65535"]
         self.process = subprocess.Popen([programs.regd, "serve", *options], stdout=subprocess.PIPE)
         self.address = json.loads(self.process.stdout.readline())["listening"]
         self.client = Client(programs.regdctl, self.address, *words)

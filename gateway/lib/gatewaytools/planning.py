@@ -75,7 +75,7 @@ def races(programs, folder, Server):
     outcomes, applied, made, commits = collections.Counter(), [], set(), {}
     files = {(name, hint): write(folder, f"{name}-{hint}.yaml", state_of(name, entries_of(5, hint, f"/{name}"), f"{name}:{hint}"))
              for name in ("red", "blue") for hint in ("a", "b")}
-    with Server(programs, "-timeout", "120s") as server:
+    with Server(programs, "-timeout", "120s", workers=8) as server:
         client, stop = server.client, threading.Event()
 
         def apply(key):
