@@ -402,3 +402,25 @@ func TestManyNames(t *testing.T) {
 		t.Errorf("%d agents", sum)
 	}
 }
+
+// TestEntriesAt reads all pages of a former book, each with its commit number, and names a book that is too old.
+func TestEntriesAt(t *testing.T) {
+	l := newLibrary()
+	server := serve(t, l.answer)
+	c, ctx := calling(t, server.address)
+	entries, err := c.EntriesAt(ctx, 3, Filter{Identity: "spiffe://ex.org/w"})
+	if err != nil || len(entries) != 5 || len(server.received()) != 3 {
+		t.Errorf("%d entries, %v", len(entries), err)
+	}
+	for i, line := range server.received() {
+		op := keys(t, line)["ops"].([]any)[0].(map[string]any)
+		if op["at"] != 3.0 || op["identity"] != "spiffe://ex.org/w" || (op["from"] == nil) != (i == 0) {
+			t.Errorf("%s", line)
+		}
+	}
+	l.gone = 1
+	var refused *Refused
+	if _, err := c.EntriesAt(ctx, 3, Filter{}); !errors.As(err, &refused) || refused.Answer.Code != "O8" {
+		t.Errorf("%v", err)
+	}
+}
