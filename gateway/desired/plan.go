@@ -241,10 +241,8 @@ func (p *planner) batch(marker *book.Entry, i, count int, sum string, ops []clie
 		}
 		first, revision = client.Update(e, &expected), fmt.Sprint(expected)
 	}
-	token := hash("regdctl token", sum, fmt.Sprint(p.book.Place), revision, fmt.Sprint(i))
-	var b [16]byte
-	copy(b[:], token[:])
-	return Batch{uuid(b), append([]client.Op{first}, ops...)}, nil
+	token := Token("regdctl token", sum, fmt.Sprint(p.book.Place), revision, fmt.Sprint(i))
+	return Batch{token, append([]client.Op{first}, ops...)}, nil
 }
 
 // Changes returns the number of rows that the plan changes.

@@ -31,6 +31,14 @@ func uuid(b [16]byte) string {
 	return fmt.Sprintf("%x-%x-%x-%x-%x", b[:4], b[4:6], b[6:8], b[8:10], b[10:])
 }
 
+// Token returns the token that is made of texts: the same line, sent again, has the same one.
+func Token(texts ...string) string {
+	var b [16]byte
+	sum := hash(texts...)
+	copy(b[:], sum[:])
+	return uuid(b)
+}
+
 // of returns the id of the range with these 74 bits.
 func (s Set) of(rest [10]byte) string {
 	var b [16]byte

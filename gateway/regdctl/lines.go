@@ -1,10 +1,10 @@
 package main
 
 import (
-	"crypto/sha256"
 	"fmt"
 
 	"regd/gateway/client"
+	"regd/gateway/desired"
 )
 
 // printLines prints operations as request lines.
@@ -23,13 +23,6 @@ func (s *session) printLines(ops []client.Op) error {
 		}
 	}
 	return nil
-}
-
-// tokenOf returns a token that is made of a text: a UUID of version 8.
-func tokenOf(text []byte) string {
-	b := sha256.Sum256(append([]byte("regdctl line\x00"), text...))
-	b[6], b[8] = b[6]&0x0f|0x80, b[8]&0x3f|0x80
-	return fmt.Sprintf("%x-%x-%x-%x-%x", b[:4], b[4:6], b[6:8], b[8:10], b[10:16])
 }
 
 // sendAll sends operations in as many lines as they take. Each has a token that is made of it, so the same call again
@@ -53,7 +46,7 @@ func (s *session) sendBatches(batches [][]client.Op, verb string) error {
 		if err != nil {
 			return err
 		}
-		answer, err := s.client.ChangeAs(s.ctx, tokenOf(text), batch...)
+		answer, err := s.client.ChangeAs(s.ctx, desired.Token("regdctl line", string(text)), batch...)
 		if err != nil {
 			if i > 0 {
 				s.warn("regdctl: batches 1 to %d of %d are made; the same call again sends the "+
