@@ -1,32 +1,8 @@
-//! Which answer does an event get, and which does a call get?
-
-ghost use Rattle.std.specs.Prelude.{◌≡◌};
+//! Which answer does an event get?
 
 use batch_work::Status;
-use entry_book::{Limit, Reply};
-use std::alloc::AllocError;
+use entry_book::{CallAnswer, Limit};
 use version_book::Mark;
-
-/// The answer to a call. A clone shares the replies to the operations.
-#[derive(Drop)]
-pub enum CallAnswer {
-    /// The reply of the plain book (the reference implementation).
-    Replied(Reply),
-    /// The commit failed: a batch that was committed since the call began wrote what the call has read. The number is the place
-    /// (number of commits) at which this was found.
-    Conflict(u64),
-}
-
-impl Clone for CallAnswer {
-    ghost is_clone = { λ original copy. copy ≡ original };
-
-    fn clone(&self) -> Result<CallAnswer, AllocError> {
-        Ok(match self {
-            CallAnswer::Replied(reply) => CallAnswer::Replied(reply.clone()?),
-            CallAnswer::Conflict(place) => CallAnswer::Conflict(*place),
-        })
-    }
-}
 
 /// The result of a commit.
 #[derive(Clone, Copy, Debug, PartialEq, Eq)]

@@ -1,7 +1,6 @@
 //! What does the machine know of a call?
 
-use crate::answer::CallAnswer;
-use entry_book::Batch;
+use entry_book::{Batch, CallAnswer};
 
 /// The state of a call: its batch, the numbers of its invoke, of the event that decided it and of its reply, if they were
 /// accepted, and its answer.

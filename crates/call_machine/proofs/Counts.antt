@@ -19,7 +19,7 @@ use Rattle.commit_head.specs.Journals.{Leads, batches_of, empty_version as first
 use Rattle.commit_head.proofs.FewReads.{journal_reads_few}
 use Rattle.commit_head.proofs.Journals.{leads_in_parts}
 use Rattle.call_answers.specs.declared.answer.Decision.{Decision}
-use Rattle.call_answers.specs.declared.answer.CallAnswer.TheVariants.{Replied, Conflict}
+use Rattle.entry_book.specs.declared.reply.CallAnswer.TheVariants.{Replied, Conflict}
 use Rattle.call_machine.specs.declared.slot.Slot.{Slot}
 use Rattle.call_machine.specs.declared.slot.SlotState.{SlotState}
 use Rattle.call_machine.specs.declared.slot.SlotState.TheVariants.{Open, Over}

@@ -14,9 +14,9 @@ use Rattle.commit_head.specs.Heads.{BeganOn, Fits, Head, IsCommitted, IsItemOf, 
 use Rattle.commit_head.specs.Journals.{Joins, batches_of}
 use Rattle.commit_head.specs.Outcomes.{IsHitSince, IsReadyOn, IsUnchangedSince}
 use Rattle.commit_head.proofs.OnBooks.{batches_join, commit_on_books, count_of_batches}
-use Rattle.call_answers.specs.declared.answer.CallAnswer.{CallAnswer}
-use Rattle.call_answers.specs.declared.answer.CallAnswer.TheVariants.{Replied}
-use Rattle.call_answers.specs.declared.answer.CallAnswer.TheVariants as gave
+use Rattle.entry_book.specs.declared.reply.CallAnswer.{CallAnswer}
+use Rattle.entry_book.specs.declared.reply.CallAnswer.TheVariants.{Replied}
+use Rattle.entry_book.specs.declared.reply.CallAnswer.TheVariants as gave
 use Rattle.call_answers.specs.declared.answer.Decision.TheVariants as to
 use Rattle.call_machine.specs.Calls.{answered, committed, conflict}
 use Rattle.call_machine.specs.Kept.{BaseIsInJournal, Finishes, IsDecided, HasWholeJournal, RestsOn, head_domain, journal_of, stage_over}

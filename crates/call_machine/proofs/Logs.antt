@@ -14,7 +14,7 @@ use Rattle.call_answers.specs.declared.answer.Decision.{Decision}
 use Rattle.call_answers.specs.declared.answer.Decision.TheVariants.{Conflict, Committed, Full}
 use Rattle.call_answers.specs.declared.answer.Done.{Done}
 use Rattle.call_answers.specs.declared.answer.Done.TheVariants.{Invoked, Begun, Stepped, Decided, Answered}
-use Rattle.call_answers.specs.declared.answer.CallAnswer.{CallAnswer}
+use Rattle.entry_book.specs.declared.reply.CallAnswer.{CallAnswer}
 use Rattle.batch_work.specs.declared.status.Status.{Status}
 use Rattle.call_machine.specs.Schedules.{Happened, EventAt, HandedIn, BatchesOf, BeginsCountCommits, CountsCommits, commit_of, commits_in, CommitsAreValidated, IsDueConflict, IsValidatedCommit, ConflictsAreDue, Different}
 use Rattle.call_machine.specs.Calls.{CallStage, waiting, running, ready, answered, committed, conflict, Call, MachineState, with_call, answer_of}

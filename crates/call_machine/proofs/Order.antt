@@ -11,7 +11,7 @@ use Rattle.call_events.specs.declared.event.Event.TheVariants.{Commit, Reply as 
 use Rattle.call_answers.specs.declared.answer.Decision.TheVariants.{Committed, Conflict}
 use Rattle.call_answers.specs.declared.answer.Done.{Done}
 use Rattle.call_answers.specs.declared.answer.Done.TheVariants.{Decided, Answered}
-use Rattle.call_answers.specs.declared.answer.CallAnswer.TheVariants.{Conflict as Conflicted, Replied}
+use Rattle.entry_book.specs.declared.reply.CallAnswer.TheVariants.{Conflict as Conflicted, Replied}
 use Rattle.call_machine.specs.Schedules.{ConflictsAreOver, ConflictsWereMet, Happened, EventAt, IsListed, Different, IsSerial, IsReplyOf, RunsFrom, IsLegal, IsListedBefore, IsStrict, OneBatch, Headline}
 use Rattle.call_machine.specs.Calls.{CallStage, waiting, running, ready, answered, committed, conflict, Call, MachineState, answer_of}
 use Rattle.call_machine.specs.Laws.{is_listed_at, is_listed, number_of_turn, HoldReplies, IsOrder}

@@ -17,7 +17,7 @@ use Rattle.batch_work.specs.Working.{Base, Work, IsAnswer, IsNextRead, awaits_th
 use Rattle.commit_head.specs.declared.item.Item.{Item}
 use Rattle.commit_head.specs.Heads.{Head, head_place}
 use Rattle.commit_head.specs.Journals.{batches_of}
-use Rattle.call_answers.specs.declared.answer.CallAnswer.TheVariants.{Replied, Conflict}
+use Rattle.entry_book.specs.declared.reply.CallAnswer.TheVariants.{Replied, Conflict}
 use Rattle.call_machine.specs.declared.slot.Slot.{Slot}
 use Rattle.call_machine.specs.declared.slot.SlotState.{SlotState}
 use Rattle.call_machine.specs.declared.slot.SlotState.TheVariants.{Open, Over}

@@ -18,8 +18,8 @@ use Rattle.call_answers.specs.declared.answer.Decision.{Decision}
 use Rattle.call_answers.specs.declared.answer.Decision.TheVariants.{Conflict, Committed, Full}
 use Rattle.call_answers.specs.declared.answer.Done.{Done}
 use Rattle.call_answers.specs.declared.answer.Done.TheVariants.{Invoked, Begun, Stepped, Decided, Answered}
-use Rattle.call_answers.specs.declared.answer.CallAnswer.{CallAnswer}
-use Rattle.call_answers.specs.declared.answer.CallAnswer.TheVariants.{Conflict as Conflicted, Replied}
+use Rattle.entry_book.specs.declared.reply.CallAnswer.{CallAnswer}
+use Rattle.entry_book.specs.declared.reply.CallAnswer.TheVariants.{Conflict as Conflicted, Replied}
 use Rattle.batch_work.specs.declared.status.Status.{Status}
 use Rattle.call_machine.specs.Schedules.{Happened, EventAt, HandedIn, BatchesOf, commit_of, commits_in, IsDueConflict, IsValidatedCommit}
 use Rattle.call_machine.specs.Calls.{CallStage, waiting, running, ready, answered, committed, conflict, Call, MachineState, first_machine, with_call, answer_of, stage_settled, stage_on, status_at}

@@ -8,7 +8,7 @@ use Rattle.call_events.specs.declared.event.Event.TheVariants.{Begin, Commit, In
 use Rattle.call_answers.specs.declared.answer.Decision.TheVariants.{Committed, Full}
 use Rattle.call_answers.specs.declared.answer.Done.{Done}
 use Rattle.call_answers.specs.declared.answer.Done.TheVariants.{Answered, Begun, Decided}
-use Rattle.call_answers.specs.declared.answer.CallAnswer.{CallAnswer}
+use Rattle.entry_book.specs.declared.reply.CallAnswer.{CallAnswer}
 use Rattle.call_machine.specs.Schedules.{EventAnswer, EventAt, Happened, accepted}
 use Rattle.call_machine.specs.Calls.{CallStage, waiting, running, ready, answered, committed, conflict, Call, MachineState, first_machine, answer_of}
 use Rattle.call_machine.specs.Known.{decided_of}

@@ -8,8 +8,8 @@ use Rattle.entry_book.specs.History.{books_of, reply_to}
 use Rattle.batch_work.specs.Reads.{footprint_of, awaits_commit}
 use Rattle.batch_work.specs.declared.status.Status.{Status}
 use Rattle.batch_work.specs.declared.status.Status.TheVariants.{New, Running, Ready, Settled}
-use Rattle.call_answers.specs.declared.answer.CallAnswer.{CallAnswer}
-use Rattle.call_answers.specs.declared.answer.CallAnswer.TheVariants.{Replied, Conflict}
+use Rattle.entry_book.specs.declared.reply.CallAnswer.{CallAnswer}
+use Rattle.entry_book.specs.declared.reply.CallAnswer.TheVariants.{Replied, Conflict}
 
 -- The state of a call; `base` is the place at which it began.
 pub data CallStage : Type 0 where

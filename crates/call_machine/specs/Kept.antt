@@ -17,8 +17,8 @@ use Rattle.batch_work.specs.Working.{Base, Work, footprint_there, awaits_there, 
 use Rattle.commit_head.specs.declared.item.Item.{Item}
 use Rattle.commit_head.specs.Heads.{Head, IsAppended, IsJournal, head_place}
 use Rattle.commit_head.specs.Journals.{Leads, batches_of, empty_version}
-use Rattle.call_answers.specs.declared.answer.CallAnswer.{CallAnswer}
-use Rattle.call_answers.specs.declared.answer.CallAnswer.TheVariants.{Replied, Conflict}
+use Rattle.entry_book.specs.declared.reply.CallAnswer.{CallAnswer}
+use Rattle.entry_book.specs.declared.reply.CallAnswer.TheVariants.{Replied, Conflict}
 use Rattle.call_answers.specs.declared.answer.Decision.{Decision}
 use Rattle.call_answers.specs.declared.answer.Decision.TheVariants as to
 use Rattle.call_answers.specs.declared.answer.Done.{Done}

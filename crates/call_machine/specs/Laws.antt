@@ -19,8 +19,8 @@ use Rattle.batch_work.specs.declared.status.Status.{Status}
 use Rattle.call_answers.specs.declared.answer.Decision.TheVariants as is
 use Rattle.call_answers.specs.declared.answer.Done.{Done}
 use Rattle.call_answers.specs.declared.answer.Done.TheVariants.{Begun, Decided, Answered}
-use Rattle.call_answers.specs.declared.answer.CallAnswer.{CallAnswer}
-use Rattle.call_answers.specs.declared.answer.CallAnswer.TheVariants.{Replied}
+use Rattle.entry_book.specs.declared.reply.CallAnswer.{CallAnswer}
+use Rattle.entry_book.specs.declared.reply.CallAnswer.TheVariants.{Replied}
 use Rattle.call_machine.specs.Schedules.{EventAnswer, EventAt, Happened, Headline, accepted}
 use Rattle.call_machine.specs.Calls.{CallStage, waiting, running, ready, answered, committed, conflict, Call, MachineState, answer_of, call_at, first_machine}
 use Rattle.call_machine.specs.Known.{decided_of}

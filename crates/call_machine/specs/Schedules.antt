@@ -17,7 +17,7 @@ use Rattle.call_events.specs.declared.event.Event.TheVariants as on
 use Rattle.call_answers.specs.declared.answer.Decision.TheVariants as is
 use Rattle.call_answers.specs.declared.answer.Done.{Done}
 use Rattle.call_answers.specs.declared.answer.Done.TheVariants.{Invoked, Begun, Stepped, Decided, Answered}
-use Rattle.call_answers.specs.declared.answer.CallAnswer.TheVariants.{Replied, Conflict}
+use Rattle.entry_book.specs.declared.reply.CallAnswer.TheVariants.{Replied, Conflict}
 use Rattle.call_events.specs.declared.event.RefusedEvent.{RefusedEvent}
 
 -- ---- a schedule

@@ -8,10 +8,10 @@ ghost use Rattle.call_machine.specs.Kept.{AnsweredWhenSettled, Finishes, IsDecid
 ghost use Rattle.call_machine.specs.declared.slot.SlotState.TheVariants as slot;
 
 use batch_work::{Status, Work};
-use call_answers::{CallAnswer, Decision, KnownCall};
+use call_answers::{Decision, KnownCall};
 use call_events::EventRefusal;
 use commit_head::{Commit, Head, Prepared};
-use entry_book::{Batch, Refusal, Reply, ReplyOutcome};
+use entry_book::{Batch, CallAnswer, Refusal, Reply, ReplyOutcome};
 use std::alloc::{AllocError, Global};
 use std::mem::replace;
 use version_book::Mark;

@@ -1,8 +1,9 @@
 //! Answers, and the states of calls, as text.
 
 use batch_work::Status;
-use call_answers::{CallAnswer, Decision, Done, KnownCall};
+use call_answers::{Decision, Done, KnownCall};
 use call_events::RefusedEvent;
+use entry_book::CallAnswer;
 use std::alloc::Global;
 use test_batches::{Failed, kind_at_place, mark_words, reply_text};
 use version_book::Mark;

@@ -11,7 +11,8 @@
 //!   optionally with a condition on their selectors ([`SelectorMatch`], in one of four [`MatchMode`]s).
 //! - [`Reply`]: the outcome of a batch ([`ReplyOutcome`]): the [`OpReply`] of each operation, now or when the batch was first
 //!   committed with its token; or the [`Refusal`], of a batch that is too early or reuses a token, of the first operation
-//!   that the book refuses ([`OpRefusal`]), or for a [`Limit`] of the book. A clone shares the replies.
+//!   that the book refuses ([`OpRefusal`]), or for a [`Limit`] of the book. [`CallAnswer`]: such a reply, or a conflict, which only
+//!   concurrent calls meet. A clone shares the replies.
 //! - [`Entry`], [`Agent`], [`Bundle`], [`KeptBatch`]: the rows. Cloning a row copies no text.
 //! - [`Shared`], [`Sequence`], [`Text`], [`DomainSet`]: what rows consist of. Contracts see them as a value, a list,
 //!   bytes and a set.
@@ -67,7 +68,7 @@ pub use mode::DropMode;
 pub use op::Op;
 pub use page::{Filter, MatchMode, PageQuery, SelectorMatch};
 pub use pair::{both, pair_with};
-pub use reply::{OpRefusal, OpReply, Refusal, Reply, ReplyOutcome};
+pub use reply::{CallAnswer, OpRefusal, OpReply, Refusal, Reply, ReplyOutcome};
 pub use sequence::Sequence;
 pub use shared::Shared;
 pub use text::Text;

@@ -216,3 +216,24 @@ impl Clone for Reply {
         })
     }
 }
+
+/// The answer to a call. A clone shares the replies to the operations.
+#[derive(Drop)]
+pub enum CallAnswer {
+    /// The reply of the plain book (the reference implementation).
+    Replied(Reply),
+    /// The commit failed: a batch that was committed since the call began wrote what the call has read. The number is the place
+    /// (number of commits) at which this was found.
+    Conflict(u64),
+}
+
+impl Clone for CallAnswer {
+    ghost is_clone = { λ original copy. copy ≡ original };
+
+    fn clone(&self) -> Result<CallAnswer, AllocError> {
+        Ok(match self {
+            CallAnswer::Replied(reply) => CallAnswer::Replied(reply.clone()?),
+            CallAnswer::Conflict(place) => CallAnswer::Conflict(*place),
+        })
+    }
+}

@@ -23,8 +23,8 @@ use Rattle.call_answers.specs.declared.answer.Done.TheVariants.{Answered}
 use Rattle.call_events.specs.declared.event.Event.{Event}
 use Rattle.call_events.specs.declared.event.Event.TheVariants.{Invoke}
 use Rattle.call_events.specs.declared.event.Event.TheVariants as on
-use Rattle.call_answers.specs.declared.answer.CallAnswer.{CallAnswer}
-use Rattle.call_answers.specs.declared.answer.CallAnswer.TheVariants.{Replied}
+use Rattle.entry_book.specs.declared.reply.CallAnswer.{CallAnswer}
+use Rattle.entry_book.specs.declared.reply.CallAnswer.TheVariants.{Replied}
 use Rattle.call_machine.proofs.Runs.{runs_extend}
 use Rattle.call_machine.proofs.Whole.{calls_are_in_order, calls_are_stamped, found_under_number}
 use Rattle.reg_lines.specs.CallRecords.{HasRecord, HasRecordWith, Records}

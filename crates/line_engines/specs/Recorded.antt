@@ -16,7 +16,7 @@ use Rattle.call_answers.specs.declared.answer.Done.TheVariants.{Answered}
 use Rattle.call_events.specs.declared.event.Event.{Event}
 use Rattle.call_events.specs.declared.event.Event.TheVariants.{Invoke}
 use Rattle.call_events.specs.declared.event.Event.TheVariants as on
-use Rattle.call_answers.specs.declared.answer.CallAnswer.TheVariants.{Replied}
+use Rattle.entry_book.specs.declared.reply.CallAnswer.TheVariants.{Replied}
 use Rattle.line_reading.specs.declared.fault.Fault.{Fault}
 use Rattle.line_reading.specs.Events.{spelled_event}
 use Rattle.line_reading.specs.Ids.{first_ids}

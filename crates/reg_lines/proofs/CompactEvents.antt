@@ -11,8 +11,8 @@ use Rattle.call_events.specs.Events.{event_code}
 use Rattle.call_answers.specs.declared.answer.Decision.{Decision}
 use Rattle.call_answers.specs.declared.answer.Decision.TheVariants as is
 use Rattle.call_answers.specs.declared.answer.Done.TheVariants.{Invoked, Begun, Stepped, Decided, Answered}
-use Rattle.call_answers.specs.declared.answer.CallAnswer.{CallAnswer}
-use Rattle.call_answers.specs.declared.answer.CallAnswer.TheVariants.{Replied, Conflict}
+use Rattle.entry_book.specs.declared.reply.CallAnswer.{CallAnswer}
+use Rattle.entry_book.specs.declared.reply.CallAnswer.TheVariants.{Replied, Conflict}
 use Rattle.reg_lines.specs.Replies.{answer_json}
 use Rattle.reg_lines.specs.EventAnswers.{begun_json, commit_json, decided_json, full_json, invoked_json, mark_json, order_json, status_json, stepped_json}
 use Rattle.reg_lines.specs.EventValues.{answer_data, begun_data, commit_data, decided_data, full_data, invoked_data, stepped_data}

@@ -2,8 +2,8 @@
 use Rattle.std.specs.Prelude.{◌≡◌, ℕ, Option, Some, None}
 use Rattle.std.specs.Option.{option_copied}
 use Rattle.entry_book.specs.declared.reply.Reply.{Reply}
-use Rattle.call_answers.specs.declared.answer.CallAnswer.{CallAnswer}
-use Rattle.call_answers.specs.declared.answer.CallAnswer.TheVariants.{Replied, Conflict}
+use Rattle.entry_book.specs.declared.reply.CallAnswer.{CallAnswer}
+use Rattle.entry_book.specs.declared.reply.CallAnswer.TheVariants.{Replied, Conflict}
 use Rattle.call_answers.specs.declared.call.KnownCall.{KnownCall}
 use Rattle.reg_lines.specs.declared.printing.records.CallRecord.{CallRecord}
 

@@ -13,8 +13,8 @@ use Rattle.call_answers.specs.declared.answer.Decision.TheVariants as is
 use Rattle.call_answers.specs.declared.answer.Done.{Done}
 use Rattle.call_answers.specs.declared.answer.Done.TheVariants.{Invoked, Begun, Stepped, Decided, Answered}
 use Rattle.call_events.specs.declared.event.EventRefusal.{EventRefusal}
-use Rattle.call_answers.specs.declared.answer.CallAnswer.{CallAnswer}
-use Rattle.call_answers.specs.declared.answer.CallAnswer.TheVariants.{Replied, Conflict}
+use Rattle.entry_book.specs.declared.reply.CallAnswer.{CallAnswer}
+use Rattle.entry_book.specs.declared.reply.CallAnswer.TheVariants.{Replied, Conflict}
 use Rattle.reg_lines.specs.EventAnswers.{event_json, event_refusal_json, mark_text, order_json, status_text}
 use Rattle.reg_lines.specs.Values.{conflict_data, list_data, refused_line_data, reply_data, whole}
 

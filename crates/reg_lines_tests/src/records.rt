@@ -6,8 +6,8 @@ use crate::tables::{
     ReadAs, asserts_at, asserts_in_a_row, asserts_line, asserts_table, new_book, reply_of,
 };
 use crate::wanted::is_text;
-use call_answers::{CallAnswer, KnownCall};
-use entry_book::Batch;
+use call_answers::KnownCall;
+use entry_book::{Batch, CallAnswer};
 use plain_book::PlainBook;
 use reg_lines::CallRecord;
 use std::alloc::Global;

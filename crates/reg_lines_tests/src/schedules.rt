@@ -3,9 +3,9 @@
 use crate::printed::add;
 use crate::tables::{ReadAs, asserts_in_a_row, asserts_table, reply_of};
 use batch_work::Status;
-use call_answers::{CallAnswer, Done};
+use call_answers::Done;
 use call_events::Event;
-use entry_book::Batch;
+use entry_book::{Batch, CallAnswer};
 use plain_book::PlainBook;
 use reg_lines::printed_events_law;
 use std::alloc::Global;

@@ -2,9 +2,9 @@
 
 use crate::printed::add;
 use batch_work::Status;
-use call_answers::{CallAnswer, Decision, Done};
+use call_answers::{Decision, Done};
 use call_events::EventRefusal;
-use entry_book::{DomainSet, Limit, OpRefusal, Refusal, Reply, ReplyOutcome, Shared};
+use entry_book::{CallAnswer, DomainSet, Limit, OpRefusal, Refusal, Reply, ReplyOutcome, Shared};
 use line_reading::LineRefusal;
 use reg_lines::{AnsweredCall, CallOrder, CallReply, EventRefused, SeatRefusal, SeatRefused};
 use spiffe_name::{Failure, SpiffeId, TrustDomain};

@@ -10,9 +10,8 @@ ghost use Rattle.reg_programs.specs.Alone.{SessionsAloneArePlain};
 ghost use Rattle.reg_programs.specs.Sessions.{AnswersCall, Grew, RunsSession, Session, SessionsGrow, no_answer_json, submit_json};
 ghost use Rattle.reg_programs.specs.SessionsPrivate.{HasText, IsPrinted, IsToAnswer, TakesRequestLine, found_json};
 
-use call_answers::CallAnswer;
 use commit_head::laws::journals;
-use entry_book::Batch;
+use entry_book::{Batch, CallAnswer};
 use entry_book::laws::histories;
 use line_devices::{Input, Output, Sink, Source};
 use line_engines::{LineHandler, RunFault, run_lines};

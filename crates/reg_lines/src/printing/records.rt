@@ -5,8 +5,8 @@ ghost use Rattle.reg_lines.specs.RecordLines.{record_json};
 use crate::invariants::Written;
 use crate::printing::print_json::{PrintJson, print_number};
 use crate::printing::replies::CallReply;
-use call_answers::{CallAnswer, KnownCall};
-use entry_book::{Batch, Reply};
+use call_answers::KnownCall;
+use entry_book::{Batch, CallAnswer, Reply};
 use line_devices::{Output, Sink};
 
 /// A call with a reply, for the line of its record.

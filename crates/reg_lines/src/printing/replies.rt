@@ -7,8 +7,7 @@ ghost use Rattle.line_devices.specs.Stream.{Puts};
 use crate::printing::print_json::{PrintJson, print_list, print_number};
 use crate::printing::refusal::put_op;
 use crate::printing::text::print_text;
-use call_answers::CallAnswer;
-use entry_book::{OpRefusal, OpReply, Refusal, Reply, ReplyOutcome};
+use entry_book::{CallAnswer, OpRefusal, OpReply, Refusal, Reply, ReplyOutcome};
 use line_devices::{Output, Sink};
 use uuid::Uuid;
 
