@@ -9,7 +9,7 @@ use Rattle.batch_work.specs.Reads.{is_one_of}
 use Rattle.batch_work.specs.WalkStates.{WalkState, is_empty, met_when, with_text, with_found, walked}
 
 -- one more entry, by its three sets
-pub walked_next : (a : Agent) (e : Entry) (es : List Entry) (m w m' w' : List Bytes) (f f' : List Entry) → m' ≡ met_when (is_one_of e.identity m) e.identity m → w' ≡ met_when (is_one_of e.identity m) e.identity w → f' ≡ with_row entry_key e.id (Some e) f → walked es (record { agent = a; met = m'; waiting = w'; found = f' }) ≡ walked (e ∷ es) (record { agent = a; met = m; waiting = w; found = f })
+pub walked_next : (a : Agent) (e : Entry) (es : List Entry) (m w m' w' : List Bytes) (f f' : List Entry) → m' ≡ met_when (is_one_of e.identity m) e.identity m → w' ≡ met_when (is_one_of e.identity m) e.identity w → f' ≡ with_row entry_key e.id (Some e) f → walked es (record { agent = a; met = m'; pending = w'; found = f' }) ≡ walked (e ∷ es) (record { agent = a; met = m; pending = w; found = f })
 walked_next a e es m w m' w' f f' p q r = rw (p, q, r) refl
 
 -- ---- whether an identity is pending at the end
@@ -21,19 +21,19 @@ text_is_there x xs = elim (filter (λ t. is_before t x) xs) as (λ l. is_empty (
   | y ∷ ys ↦ refl
 ]
 
-pub still_waits : (es : List Entry) (w : WalkState) → is_empty w.waiting ≡ false → is_empty (walked es w).waiting ≡ false
+pub still_waits : (es : List Entry) (w : WalkState) → is_empty w.pending ≡ false → is_empty (walked es w).pending ≡ false
 still_waits [] w h = h
-still_waits (e ∷ es) w h = still_waits es (with_found e w) (elim (is_one_of e.identity w.met) as (λ t. is_empty (met_when t e.identity w.waiting) ≡ false) [
+still_waits (e ∷ es) w h = still_waits es (with_found e w) (elim (is_one_of e.identity w.met) as (λ t. is_empty (met_when t e.identity w.pending) ≡ false) [
   | true ↦ h
-  | false ↦ text_is_there e.identity w.waiting
+  | false ↦ text_is_there e.identity w.pending
 ])
 
 -- if none is pending, none is after the entries exactly if the identities of all were met
-pub ends_when : (es : List Entry) (w : WalkState) → is_empty w.waiting ≡ true → is_empty (walked es w).waiting ≡ list_all (λ (e : Entry). is_one_of e.identity w.met) es
+pub ends_when : (es : List Entry) (w : WalkState) → is_empty w.pending ≡ true → is_empty (walked es w).pending ≡ list_all (λ (e : Entry). is_one_of e.identity w.met) es
 ends_when [] w h = h
-ends_when (e ∷ es) w h = elim (is_one_of e.identity w.met) as (λ t. is_one_of e.identity w.met ≡ t → is_empty (walked es (record w { met = met_when t e.identity w.met; waiting = met_when t e.identity w.waiting; found = with_row entry_key e.id (Some e) w.found })).waiting ≡ (t && list_all (λ (e : Entry). is_one_of e.identity w.met) es)) [
+ends_when (e ∷ es) w h = elim (is_one_of e.identity w.met) as (λ t. is_one_of e.identity w.met ≡ t → is_empty (walked es (record w { met = met_when t e.identity w.met; pending = met_when t e.identity w.pending; found = with_row entry_key e.id (Some e) w.found })).pending ≡ (t && list_all (λ (e : Entry). is_one_of e.identity w.met) es)) [
   | true ↦ λ q. ends_when es (record w { found = with_row entry_key e.id (Some e) w.found }) h
-  | false ↦ λ q. still_waits es (record w { met = with_text e.identity w.met; waiting = with_text e.identity w.waiting; found = with_row entry_key e.id (Some e) w.found }) (text_is_there e.identity w.waiting)
+  | false ↦ λ q. still_waits es (record w { met = with_text e.identity w.met; pending = with_text e.identity w.pending; found = with_row entry_key e.id (Some e) w.found }) (text_is_there e.identity w.pending)
 ] refl
 
 pub empty_below : (xs : List Bytes) → length xs < 1 → is_empty xs ≡ true

@@ -25,14 +25,14 @@ use Rattle.version_book.proofs.NamedRows.{reads_all}
 use Rattle.version_book.specs.declared.mark.MarkKind.{MarkKind}
 use Rattle.version_book.specs.declared.mark.MarkKind.TheVariants as mark
 use Rattle.batch_work.specs.declared.phase.WalkFor.{WalkFor}
-use Rattle.batch_work.specs.declared.phase.WalkFor.TheVariants as asked
+use Rattle.batch_work.specs.declared.phase.WalkFor.TheVariants as walk_for
 use Rattle.batch_work.specs.declared.phase.Phase.TheVariants as phase
 use Rattle.batch_work.specs.declared.phase.Next.{Next}
 use Rattle.batch_work.specs.declared.phase.Next.TheVariants.{Continues, Ends}
 use Rattle.batch_work.specs.Reads.{bundle_marks, marks_unless_similar, create_marks, update_marks_when, update_marks, drop_marks, found, unread, least_then, walk, walk_marks, for_agent_marks, domains_of, trust_marks, marks_of}
 use Rattle.batch_work.specs.Steps.{next_bundle, bundles_next, bundle_next, unless_similar_next, create_next, update_next_when, update_next, delete_next_when, delete_next, for_agent_next, drop_next, users_next, next_trusted, trusted_next, agent_gone, walk_end, identity_next, walk_next, ContinuesWith, Plays}
 use Rattle.batch_work.specs.WalkStates.{WalkState, first_walk, walked}
-use Rattle.batch_work.proofs.Walks.{Known, found_inside, known_more, walk_gives, waiting, fewer}
+use Rattle.batch_work.proofs.Walks.{Known, found_inside, known_more, walk_gives, pending, fewer}
 use Rattle.batch_work.proofs.WalkStates.{Reached, reached_first, all_found_in, waiting_is, one_read}
 use Rattle.batch_work.proofs.TrustedBundles.{named_bundles}
 
@@ -123,20 +123,20 @@ module _ (s : Bytes) (op : Op) (b : Book) where
     ended rs w r k u = subst (λ es. Turn s op b (walk_end ask es) tail o) (sym (walk_gives s a b ordered.entries rs k u w.found r.found_order r.from_found r.into_found)) ending
 
     -- the children of one more identity were read
-    continues : (rs : List Bytes) (w : WalkState) (i : Bytes) (is : List Bytes) → Reached a rs (found s a rs b) w → w.waiting ≡ i ∷ is → Reached a (i ∷ rs) (found s a (i ∷ rs) b) (walked (children_of i b) (record w { waiting = is }))
-    continues rs w i is r h = all_found_in a b.entries ordered.entries (i ∷ rs) (children_of i b) (found s a rs b) (record w { waiting = is }) (one_read a rs (found s a rs b) w i is r h) (found_inside s a b rs) (child_inside i)
+    continues : (rs : List Bytes) (w : WalkState) (i : Bytes) (is : List Bytes) → Reached a rs (found s a rs b) w → w.pending ≡ i ∷ is → Reached a (i ∷ rs) (found s a (i ∷ rs) b) (walked (children_of i b) (record w { pending = is }))
+    continues rs w i is r h = all_found_in a b.entries ordered.entries (i ∷ rs) (children_of i b) (found s a rs b) (record w { pending = is }) (one_read a rs (found s a rs b) w i is r h) (found_inside s a b rs) (child_inside i)
 
-    walk_turn : (n : ℕ) (rs : List Bytes) (w : WalkState) → Reached a rs (found s a rs b) w → AllByRecursion (Known s a b) rs → length (waiting s a b rs) ≤ n → Turn s op b (walk_next ask w) (map mark.Children (walk n s a rs b) ++ tail) o
-    walk_turn zero rs w r k l = none w.waiting refl
+    walk_turn : (n : ℕ) (rs : List Bytes) (w : WalkState) → Reached a rs (found s a rs b) w → AllByRecursion (Known s a b) rs → length (pending s a b rs) ≤ n → Turn s op b (walk_next ask w) (map mark.Children (walk n s a rs b) ++ tail) o
+    walk_turn zero rs w r k l = none w.pending refl
       where
-        none : (us : List Bytes) → w.waiting ≡ us → Turn s op b (identity_next us ask w) tail o
+        none : (us : List Bytes) → w.pending ≡ us → Turn s op b (identity_next us ask w) tail o
         none [] e = ended rs w r k (sym (waiting_is a rs (found s a rs b) w r) ∙ e)
         none (i ∷ is) e = let f = fewer s a b rs i is (sym (waiting_is a rs (found s a rs b) w r) ∙ e) in absurd (omega arith)
     walk_turn (suc n) rs w r k l =
         subst (λ us. Turn s op b (walk_next ask w) (map mark.Children (least_then (first us) (λ i. walk n s a (i ∷ rs) b)) ++ tail) o) (waiting_is a rs (found s a rs b) w r)
-        (some w.waiting refl (λ i is e. let u = sym (waiting_is a rs (found s a rs b) w r) ∙ e in walk_turn n (i ∷ rs) (walked (children_of i b) (record w { waiting = is })) (continues rs w i is r e) (known_more s a b rs i is k u) (let f = fewer s a b rs i is u in omega arith)))
+        (some w.pending refl (λ i is e. let u = sym (waiting_is a rs (found s a rs b) w r) ∙ e in walk_turn n (i ∷ rs) (walked (children_of i b) (record w { pending = is })) (continues rs w i is r e) (known_more s a b rs i is k u) (let f = fewer s a b rs i is u in omega arith)))
       where
-        some : (us : List Bytes) → w.waiting ≡ us → ((i : Bytes) (is : List Bytes) → w.waiting ≡ i ∷ is → Turn s op b (walk_next ask (walked (children_of i b) (record w { waiting = is }))) (map mark.Children (walk n s a (i ∷ rs) b) ++ tail) o) → Turn s op b (identity_next us ask w) (map mark.Children (least_then (first us) (λ i. walk n s a (i ∷ rs) b)) ++ tail) o
+        some : (us : List Bytes) → w.pending ≡ us → ((i : Bytes) (is : List Bytes) → w.pending ≡ i ∷ is → Turn s op b (walk_next ask (walked (children_of i b) (record w { pending = is }))) (map mark.Children (walk n s a (i ∷ rs) b) ++ tail) o) → Turn s op b (identity_next us ask w) (map mark.Children (least_then (first us) (λ i. walk n s a (i ∷ rs) b)) ++ tail) o
         some [] e further = ended rs w r k (sym (waiting_is a rs (found s a rs b) w r) ∙ e)
         some (i ∷ is) e further = (refl, further i is e)
 
@@ -146,17 +146,17 @@ module _ (s : Bytes) (op : Op) (b : Book) where
     held_inside : (e : Entry) → Within held e → Within b.entries e
     held_inside e w = child_inside s e (from_within_filter (holds s a) (children_of s b) e w).0
 
-    own_turn : (w : WalkState) → Reached a [] held w → length (waiting s a b []) ≤ length b.entries → Plays s op (phase.OfAgent ask w) b (mark.Children a.id ∷ (map mark.Children (walk (length b.entries) s a [] b) ++ tail)) o
+    own_turn : (w : WalkState) → Reached a [] held w → length (pending s a b []) ≤ length b.entries → Plays s op (phase.OfAgent ask w) b (mark.Children a.id ∷ (map mark.Children (walk (length b.entries) s a [] b) ++ tail)) o
     own_turn w r l = (
       ap (λ x. mark.Children x.id) (sym r.agent_is),
       subst (λ x. Turn s op b (walk_next ask (walked (children_of x.id b) w)) (map mark.Children (walk (length b.entries) s a [] b) ++ tail) o) (sym r.agent_is)
           (walk_turn (length b.entries) [] (walked (children_of a.id b) w) (all_found_in a b.entries ordered.entries [] (children_of a.id b) held w r held_inside (child_inside a.id)) tt l),
     )
 
-    server_turn : length (waiting s a b []) ≤ length b.entries → Turn s op b (Continues (phase.Server ask a)) (walk_marks s a b ++ tail) o
+    server_turn : length (pending s a b []) ≤ length b.entries → Turn s op b (Continues (phase.Server ask a)) (walk_marks s a b ++ tail) o
     server_turn l = (refl, own_turn (walked held (first_walk a)) (all_found_in a b.entries ordered.entries [] held [] (first_walk a) (reached_first a) (λ e w. absurd w) held_inside) l)
 
-  all_inside : (a : Agent) → length (waiting s a b []) ≤ length b.entries
+  all_inside : (a : Agent) → length (pending s a b []) ≤ length b.entries
   all_inside a = length_filter_le _ b.entries
 
   walk_plays : AscendingBook b → (a : Agent) (ask : WalkFor) (tail : List MarkKind) (o : OpResult) → Turn s op b (walk_end ask (authorised s a b)) tail o → Turn s op b (Continues (phase.Server ask a)) (walk_marks s a b ++ tail) o
@@ -166,13 +166,13 @@ module _ (s : Bytes) (op : Op) (b : Book) where
   agent_turn ask f m h None = (refl, refl)
   agent_turn ask f m h (Some a) = h a
 
-  authorised_turn : AscendingBook b → (a : Agent) → Turn s op b (Continues (phase.Server asked.Entries a)) (walk_marks s a b) (done (replied.Entries (authorised s a b)) [])
-  authorised_turn ordered a = subst (λ ms. Turn s op b (Continues (phase.Server asked.Entries a)) ms (done (replied.Entries (authorised s a b)) [])) (append-nil (walk_marks s a b)) (walk_plays ordered a asked.Entries [] (done (replied.Entries (authorised s a b)) []) (refl, refl))
+  authorised_turn : AscendingBook b → (a : Agent) → Turn s op b (Continues (phase.Server walk_for.Entries a)) (walk_marks s a b) (done (replied.Entries (authorised s a b)) [])
+  authorised_turn ordered a = subst (λ ms. Turn s op b (Continues (phase.Server walk_for.Entries a)) ms (done (replied.Entries (authorised s a b)) [])) (append-nil (walk_marks s a b)) (walk_plays ordered a walk_for.Entries [] (done (replied.Entries (authorised s a b)) []) (refl, refl))
 
-  trust_turn : AscendingBook b → (a : Agent) → Turn s op b (Continues (phase.Server asked.Bundles a)) (trust_marks s a b) (done (replied.Bundles (bundles_of (authorised s a b) b)) [])
+  trust_turn : AscendingBook b → (a : Agent) → Turn s op b (Continues (phase.Server walk_for.Bundles a)) (trust_marks s a b) (done (replied.Bundles (bundles_of (authorised s a b) b)) [])
   trust_turn ordered a =
       let ds : List Bytes = domains_of (authorised s a b) in
-      walk_plays ordered a asked.Bundles (map mark.Bundle ds) (done (replied.Bundles (bundles_of (authorised s a b) b)) [])
+      walk_plays ordered a walk_for.Bundles (map mark.Bundle ds) (done (replied.Bundles (bundles_of (authorised s a b) b)) [])
       (subst (λ l. Turn s op b (trusted_next ds 0 []) (map mark.Bundle ds) (done (replied.Bundles l) [])) (named_bundles (authorised s a b) b ordered.bundles) (trusted_turn ds ds 0 [] refl))
 
   dropped_turn : (o : Option Agent) → Turn s op b (for_agent_next o (λ a. Ends (replied.Agent a) (agent_gone a ∷ []))) [] (for_agent o agent_dropped)
@@ -189,8 +189,8 @@ plays own_domain (ShowAgent k) b ordered = (refl, (refl, refl))
 plays own_domain (ShowBundle d) b ordered = (refl, (refl, refl))
 plays own_domain (Children p) b ordered = (refl, (refl, refl))
 plays own_domain (Page q) b ordered = (refl, (refl, sym (ap (λ r. done (replied.Page (listed q r) (next_of q r)) []) (reads_all b))))
-plays own_domain (Authorised k) b ordered = (refl, agent_turn (server_text own_domain) (Authorised k) b asked.Entries _ _ (authorised_turn (server_text own_domain) (Authorised k) b ordered) (agent_at k b))
-plays own_domain (Trust k) b ordered = (refl, agent_turn (server_text own_domain) (Trust k) b asked.Bundles _ _ (trust_turn (server_text own_domain) (Trust k) b ordered) (agent_at k b))
+plays own_domain (Authorised k) b ordered = (refl, agent_turn (server_text own_domain) (Authorised k) b walk_for.Entries _ _ (authorised_turn (server_text own_domain) (Authorised k) b ordered) (agent_at k b))
+plays own_domain (Trust k) b ordered = (refl, agent_turn (server_text own_domain) (Trust k) b walk_for.Bundles _ _ (trust_turn (server_text own_domain) (Trust k) b ordered) (agent_at k b))
 plays own_domain (Prune moment) b ordered = (refl, (refl, refl))
 plays own_domain (SetAgent a) b ordered = (refl, (refl, refl))
 plays own_domain (DropAgent k) b ordered = (refl, dropped_turn (server_text own_domain) (DropAgent k) b (agent_at k b))

@@ -33,7 +33,7 @@ use Rattle.batch_work.specs.WalkStates.{WalkState, first_walk, walked}
 use Rattle.batch_work.specs.Windows.{book_in}
 use Rattle.batch_work.specs.Working.{Base, reply_there, version_read}
 use Rattle.batch_work.proofs.WorkInvariants.{early_settles, going_more, gone_settles}
-use Rattle.batch_work.proofs.Walks.{Known, fewer, found_inside, known_more, waiting, walk_gives}
+use Rattle.batch_work.proofs.Walks.{Known, fewer, found_inside, known_more, pending, walk_gives}
 use Rattle.batch_work.proofs.WalkStates.{Reached, all_found_in, one_read, reached_first, waiting_is}
 
 -- ---- the operations, one after another
@@ -130,7 +130,7 @@ module _ (s : Bytes) (a : Agent) (b : Book) where
     pub read : List Bytes
     pub reached : Reached a read (found s a read b) w
     pub known : AllByRecursion (Known s a b) read
-    pub left : length (waiting s a b read) + n ≤ length b.entries
+    pub left : length (pending s a b read) + n ≤ length b.entries
 
   child_inside : (p : Bytes) (e : Entry) → Within (children_of p b) e → Within b.entries e
   child_inside p e w = (from_within_filter (λ x. bytes_eq x.parent p) b.entries e w).0
@@ -149,30 +149,30 @@ module _ (s : Bytes) (a : Agent) (b : Book) where
           (all_found_in a b.entries ordered.entries [] held [] (first_walk a) (reached_first a) (λ e w. absurd w) held_inside)
           held_inside (child_inside a.id);
       known = tt;
-      left = let l : length (waiting s a b []) ≤ length b.entries = length_filter_le _ b.entries in omega arith;
+      left = let l : length (pending s a b []) ≤ length b.entries = length_filter_le _ b.entries in omega arith;
     }
 
-    unread_is : (n : ℕ) (w : WalkState) (is : List Bytes) (k : Walking n w) → w.waiting ≡ is → unread a k.read (found s a k.read b) ≡ is
+    unread_is : (n : ℕ) (w : WalkState) (is : List Bytes) (k : Walking n w) → w.pending ≡ is → unread a k.read (found s a k.read b) ≡ is
     unread_is n w is k e = sym (waiting_is a k.read (found s a k.read b) w k.reached) ∙ e
 
-    pub walk_extends : (n : ℕ) (w : WalkState) (i : Bytes) (is : List Bytes) → Walking n w → w.waiting ≡ i ∷ is → Walking (n + 1) (walked (children_of i b) (record w { waiting = is }))
+    pub walk_extends : (n : ℕ) (w : WalkState) (i : Bytes) (is : List Bytes) → Walking n w → w.pending ≡ i ∷ is → Walking (n + 1) (walked (children_of i b) (record w { pending = is }))
     walk_extends n w i is k e =
         let u = unread_is n w (i ∷ is) k e in
         record {
           read = i ∷ k.read;
-          reached = all_found_in a b.entries ordered.entries (i ∷ k.read) (children_of i b) (found s a k.read b) (record w { waiting = is })
+          reached = all_found_in a b.entries ordered.entries (i ∷ k.read) (children_of i b) (found s a k.read b) (record w { pending = is })
               (one_read a k.read (found s a k.read b) w i is k.reached e) (found_inside s a b k.read) (child_inside i);
           known = known_more s a b k.read i is k.known u;
           left = let f = fewer s a b k.read i is u in let l = k.left in omega arith;
         }
 
     -- after as many reads as there are entries, no identity is pending
-    pub none_waits : (n : ℕ) (w : WalkState) → Walking n w → length b.entries ≤ n → w.waiting ≡ []
-    none_waits n w k end = none w.waiting refl
+    pub none_waits : (n : ℕ) (w : WalkState) → Walking n w → length b.entries ≤ n → w.pending ≡ []
+    none_waits n w k end = none w.pending refl
       where
-        none : (is : List Bytes) → w.waiting ≡ is → is ≡ []
+        none : (is : List Bytes) → w.pending ≡ is → is ≡ []
         none [] e = refl
         none (i ∷ is) e = let f = fewer s a b k.read i is (unread_is n w (i ∷ is) k e) in let l = k.left in absurd (omega arith)
 
-    pub walk_ends : (n : ℕ) (w : WalkState) → Walking n w → w.waiting ≡ [] → w.found ≡ authorised s a b
+    pub walk_ends : (n : ℕ) (w : WalkState) → Walking n w → w.pending ≡ [] → w.found ≡ authorised s a b
     walk_ends n w k e = walk_gives s a b ordered.entries k.read k.known (unread_is n w [] k e) w.found k.reached.found_order k.reached.from_found k.reached.into_found

@@ -1,14 +1,14 @@
 -- The two lists of a shared window: their last versions, a version by its distance from the end, and the next window.
-use Rattle.std.proofs.Common.{◌≡◌, ℕ, ◌+◌, ◌-◌, ◌<◌, ◌≤◌, Bool, true, false, cond, List, [], ◌∷◌, ◌++◌, length, drop, Option, Some, None, refl, sym, ap, subst, ◌∙◌, arith, append_assoc, length-append, length-drop, drop-drop}
-use Rattle.std.specs.Prelude.{map, nat_lt, slice_get}
+use Rattle.std.proofs.Common.{◌≡◌, ℕ, ◌+◌, ◌-◌, ◌<◌, ◌≤◌, Bool, true, false, List, [], ◌∷◌, ◌++◌, length, drop, Option, Some, None, refl, sym, ap, subst, ◌∙◌, arith, append_assoc, length-append, length-drop, drop-drop}
+use Rattle.std.specs.Prelude.{map, nat_lt}
 use Rattle.std.proofs.lemmas.Bool.Decides.{nat_tests}
 use Rattle.std.proofs.lemmas.List.{append-nil, drop-append-le}
 use Rattle.version_book.specs.CommittedRows.{VersionState}
-use Rattle.batch_work.specs.SharedWindows.{IsShared, back_from, last_of_both}
+use Rattle.batch_work.specs.SharedWindows.{IsShared, last_of_both}
 use Rattle.batch_work.specs.WindowSlots.{held}
-use Rattle.batch_work.specs.Windows.{Counted, IsNextVersion, Window, ending, pushed, version_at, versions}
+use Rattle.batch_work.specs.Windows.{Counted, IsNextVersion, Window, back_from, ending, pushed, versions}
 use Rattle.batch_work.proofs.WindowSlots.{all_append, all_ending, few_last, held_append, held_ending}
-use Rattle.batch_work.proofs.Windows.{at_gone, at_older, counted_pushed}
+use Rattle.batch_work.proofs.Windows.{counted_pushed, gone}
 
 -- ---- the last of two lists
 
@@ -110,24 +110,8 @@ module _ (shared recent : List (Option VersionState)) (newest : VersionState) (k
               counted = still_counted s p q n next_is;
             }
 
-  -- no version is 64 steps before the newest one
-  pub none_at : (n : ℕ) → n + 63 < newest.number → None ≡ version_at n (window_of shared recent newest)
-  none_at n l =
-      let few : length (last_of_both (held shared) (held recent)) ≤ 63 = few_last (held shared ++ held recent) in
-      at_gone n (window_of shared recent newest) k.counted (omega arith)
-
 -- ---- a version by its distance from the end
 
-gone : (n : ℕ) (ss : List VersionState) → length ss < n → None ≡ back_from n ss
-gone n ss l = let t : nat_lt (length ss) n ≡ true = grind (arith, nat_tests, l) in sym (ap (λ b. cond b None (slice_get ss (length ss - n))) t)
-
-there : (n : ℕ) (ss : List VersionState) → n ≤ length ss → slice_get ss (length ss - n) ≡ back_from n ss
-there n ss l = let t : nat_lt (length ss) n ≡ false = grind (arith, nat_tests, l) in sym (ap (λ b. cond b None (slice_get ss (length ss - n))) t)
-
--- the version with a number, by the difference to the newest number
-pub found_back : (n back : ℕ) (w : Window) → Counted (versions w) → n + back ≡ w.newest.number → 0 < back → back_from back w.older ≡ version_at n w
-found_back n back w c e p = found (nat_lt (length w.older) back) refl
-  where
-    found : (few : Bool) → nat_lt (length w.older) back ≡ few → back_from back w.older ≡ version_at n w
-    found true t = let l : length w.older < back = grind (arith, nat_tests, t) in sym (gone back w.older l) ∙ at_gone n w c (omega arith)
-    found false t = let l : back ≤ length w.older = grind (arith, nat_tests, t) in sym (there back w.older l) ∙ at_older n w c (length w.older - back) (omega arith) (omega arith)
+-- no version is more than 63 steps before the newest one
+pub none_back : (steps : ℕ) (shared recent : List VersionState) → 63 < steps → None ≡ back_from steps (last_of_both shared recent)
+none_back steps shared recent l = let few : length (last_of_both shared recent) ≤ 63 = few_last (shared ++ recent) in gone steps (last_of_both shared recent) (omega arith)

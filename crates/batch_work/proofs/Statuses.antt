@@ -1,5 +1,5 @@
 -- The status of a work at each stage, and the writes and replies of a ready one.
-use Rattle.std.proofs.Common.{◌≡◌, ℕ, ◌+◌, Bool, true, false, cond, List, [], ◌∷◌, ◌++◌, length, length-append, Option, Some, None, refl, sym, ap, subst, ◌∙◌, arith}
+use Rattle.std.proofs.Common.{◌≡◌, ℕ, ◌+◌, ◌-◌, Bool, true, false, cond, List, [], ◌∷◌, ◌++◌, length, length-append, Option, Some, None, refl, sym, ap, subst, ◌∙◌, arith}
 use Rattle.std.specs.Prelude.{nat_lt, option_map}
 use Rattle.std.proofs.lemmas.Bool.{lt-ltb, both_ways}
 use Rattle.entry_book.specs.declared.reply.OpReply.{OpReply}
@@ -19,7 +19,7 @@ use Rattle.batch_work.specs.declared.stage.Stage.TheVariants as stage
 use Rattle.batch_work.specs.declared.status.Status.TheVariants.{Running, Ready, Settled}
 use Rattle.batch_work.specs.Reads.{footprint_in}
 use Rattle.batch_work.specs.Windows.{book_in}
-use Rattle.batch_work.specs.Working.{Base, version_read, footprint_there, end_status, status_on, status_from, IsAccepted, IsAcceptedOn}
+use Rattle.batch_work.specs.Working.{Base, Work, version_read, footprint_there, end_status, status_on, status_from, IsAccepted, IsAcceptedOn}
 use Rattle.batch_work.specs.WorkInvariants.{InOps, AtStart, AtToken, IsReady, IsNewStage, FoundInvariant, StageInvariant, WorkInvariant, base_of, book_now, later_marks}
 use Rattle.batch_work.specs.Steps.{Plays}
 use Rattle.batch_work.proofs.WorkInvariants.{meets_none, token_first}
@@ -106,3 +106,13 @@ module _ (batch : Batch) (base : Base) (marks : List MarkKind) (changes : List R
 pub unsettled : (begun : Option Begun) (g : Stage) (batch : Batch) (marks : List MarkKind) (changes : List RowWrite) (replies : List OpReply) → WorkInvariant begun g batch marks changes replies → ((r : Reply) → g ≡ stage.Settled r → ⊥) → status_from (option_map base_of begun) batch (length marks) ≡ Settled → ⊥
 unsettled None g batch marks changes replies h f e = cc
 unsettled (Some begun) g batch marks changes replies h f e = settled_at batch (base_of begun) marks changes replies g h.1 f e
+
+-- ---- running
+
+-- the number of reads that a work has left to make
+abbrev pub left_on : Option Base → Batch → ℕ → ℕ
+left_on None batch n = 0
+left_on (Some base) batch n = length (footprint_there batch base) - n
+
+abbrev pub reads_left : Work → ℕ
+reads_left w = left_on w.base w.batch w.steps

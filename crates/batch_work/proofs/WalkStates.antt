@@ -30,20 +30,20 @@ module _ (a : Agent) where
   -- These identities were read, and these entries were found.
   pub record Reached (rs : List Bytes) (es : List Entry) (w : WalkState) : Type 0 where
     pub agent_is : w.agent ≡ a
-    pub waiting_order : Ascending (λ t. t) w.waiting
+    pub pending_order : Ascending (λ t. t) w.pending
     pub found_order : Ascending entry_key w.found
     pub from_met : (x : Bytes) → Within w.met x → Within (a.id ∷ rs) x ⊎ HasIdentity es x
     pub read_met : (x : Bytes) → Within (a.id ∷ rs) x → Within w.met x
     pub found_met : (e : Entry) → Within es e → Within w.met e.identity
-    pub from_waiting : (x : Bytes) → Within w.waiting x → HasIdentity es x × (Within (a.id ∷ rs) x → ⊥)
-    pub found_waits : (e : Entry) → Within es e → (Within (a.id ∷ rs) e.identity → ⊥) → Within w.waiting e.identity
+    pub from_waiting : (x : Bytes) → Within w.pending x → HasIdentity es x × (Within (a.id ∷ rs) x → ⊥)
+    pub found_waits : (e : Entry) → Within es e → (Within (a.id ∷ rs) e.identity → ⊥) → Within w.pending e.identity
     pub from_found : (e : Entry) → Within w.found e → Within es e
     pub into_found : (e : Entry) → Within es e → Within w.found e
 
   pub reached_first : Reached [] [] (first_walk a)
   reached_first = record {
     agent_is = refl;
-    waiting_order = tt;
+    pending_order = tt;
     found_order = tt;
     from_met = λ x w. inl w;
     read_met = λ x w. w;
@@ -83,7 +83,7 @@ module _ (a : Agent) where
       old_identity : Within w.met f.identity → Reached rs (es ++ f ∷ []) (record w { found = set })
       old_identity m = record {
         agent_is = r.agent_is;
-        waiting_order = r.waiting_order;
+        pending_order = r.pending_order;
         found_order = set_order;
         from_met = λ x v. ⊎_elim (λ k. inl k) (λ h. inr (has_more es f x h)) (r.from_met x v);
         read_met = r.read_met;
@@ -93,7 +93,7 @@ module _ (a : Agent) where
             (λ o. r.found_waits e o n)
             (λ q. ⊎_elim
             (λ k. absurd (n (subst (λ g. Within (a.id ∷ rs) g.identity) q k)))
-            (λ h. subst (Within w.waiting) (h.2 ∙ ap (λ g. g.identity) q) (r.found_waits h.0 h.1 (λ k. n (subst (Within (a.id ∷ rs)) (h.2 ∙ ap (λ g. g.identity) q) k))))
+            (λ h. subst (Within w.pending) (h.2 ∙ ap (λ g. g.identity) q) (r.found_waits h.0 h.1 (λ k. n (subst (Within (a.id ∷ rs)) (h.2 ∙ ap (λ g. g.identity) q) k))))
             (r.from_met f.identity m))
             (one_of_more es f e v);
         from_found = from_set;
@@ -101,10 +101,10 @@ module _ (a : Agent) where
       }
 
       -- it is met now
-      new_identity : (Within w.met f.identity → ⊥) → Reached rs (es ++ f ∷ []) (record w { met = with_text f.identity w.met; waiting = with_text f.identity w.waiting; found = set })
+      new_identity : (Within w.met f.identity → ⊥) → Reached rs (es ++ f ∷ []) (record w { met = with_text f.identity w.met; pending = with_text f.identity w.pending; found = set })
       new_identity m = record {
         agent_is = r.agent_is;
-        waiting_order = text-ascending f.identity w.waiting r.waiting_order;
+        pending_order = text-ascending f.identity w.pending r.pending_order;
         found_order = set_order;
         from_met = λ x v. ⊎_elim (λ q. inr (subst (HasIdentity (es ++ f ∷ [])) q (has_new es f))) (λ o. ⊎_elim (λ k. inl k) (λ h. inr (has_more es f x h)) (r.from_met x o)) (from_text f.identity x w.met v);
         read_met = λ x v. into_text f.identity x w.met (r.read_met x v);
@@ -112,17 +112,17 @@ module _ (a : Agent) where
         from_waiting = λ x v. ⊎_elim
             (λ q. (subst (HasIdentity (es ++ f ∷ [])) q (has_new es f), λ k. m (r.read_met f.identity (subst (Within (a.id ∷ rs)) (sym q) k))))
             (λ o. let h = r.from_waiting x o in (has_more es f x h.0, h.1))
-            (from_text f.identity x w.waiting v);
+            (from_text f.identity x w.pending v);
         found_waits = λ e v n. ⊎_elim
-            (λ o. into_text f.identity e.identity w.waiting (r.found_waits e o n))
-            (λ q. subst (λ g. Within (with_text f.identity w.waiting) g.identity) q (new_text f.identity w.waiting))
+            (λ o. into_text f.identity e.identity w.pending (r.found_waits e o n))
+            (λ q. subst (λ g. Within (with_text f.identity w.pending) g.identity) q (new_text f.identity w.pending))
             (one_of_more es f e v);
         from_found = from_set;
         into_found = into_set;
       }
 
       pub one_found : Reached rs (es ++ f ∷ []) (with_found f w)
-      one_found = elim (is_one_of f.identity w.met) as (λ t. is_one_of f.identity w.met ≡ t → Reached rs (es ++ f ∷ []) (record w { met = met_when t f.identity w.met; waiting = met_when t f.identity w.waiting; found = set })) [
+      one_found = elim (is_one_of f.identity w.met) as (λ t. is_one_of f.identity w.met ≡ t → Reached rs (es ++ f ∷ []) (record w { met = met_when t f.identity w.met; pending = met_when t f.identity w.pending; found = set })) [
         | true ↦ λ q. old_identity (from_one_of f.identity w.met q)
         | false ↦ λ q. new_identity (λ k. both_ways _ q (one_of f.identity w.met k))
       ] refl
@@ -136,22 +136,22 @@ module _ (a : Agent) where
         (λ e v. here e (inr v)))
 
   -- the pending identities are those that are unread
-  pub waiting_is : (rs : List Bytes) (es : List Entry) (w : WalkState) → Reached rs es w → w.waiting ≡ unread a rs es
-  waiting_is rs es w r = same_sets (λ t. t) w.waiting (unread a rs es) r.waiting_order (text_set-ascending _)
+  pub waiting_is : (rs : List Bytes) (es : List Entry) (w : WalkState) → Reached rs es w → w.pending ≡ unread a rs es
+  waiting_is rs es w r = same_sets (λ t. t) w.pending (unread a rs es) r.pending_order (text_set-ascending _)
       (λ x v. let h = r.from_waiting x v in within_text_set _ x (within_filter (λ i. not (is_one_of i (a.id ∷ rs))) (map (λ e. e.identity) es) x (subst (Within (map (λ e. e.identity) es)) (h.0).2 (within_map (λ e. e.identity) es (h.0).0 (h.0).1)) (not_from_false _ (not_one_of x (a.id ∷ rs) h.1))))
       (λ x v.
       let u = from_within_filter (λ i. not (is_one_of i (a.id ∷ rs))) (map (λ e. e.identity) es) x (from_text_set _ x v) in
       let e = from_within_map (λ e. e.identity) es x u.0 in
-      subst (Within w.waiting) e.2 (r.found_waits e.0 e.1 (λ k. both_ways _ (not-true _ u.1) (one_of x (a.id ∷ rs) (subst (Within (a.id ∷ rs)) e.2 k)))))
+      subst (Within w.pending) e.2 (r.found_waits e.0 e.1 (λ k. both_ways _ (not-true _ u.1) (one_of x (a.id ∷ rs) (subst (Within (a.id ∷ rs)) e.2 k)))))
 
   -- the least of them is read
-  pub one_read : (rs : List Bytes) (es : List Entry) (w : WalkState) (i : Bytes) (is : List Bytes) → Reached rs es w → w.waiting ≡ i ∷ is → Reached (i ∷ rs) es (record w { waiting = is })
+  pub one_read : (rs : List Bytes) (es : List Entry) (w : WalkState) (i : Bytes) (is : List Bytes) → Reached rs es w → w.pending ≡ i ∷ is → Reached (i ∷ rs) es (record w { pending = is })
   one_read rs es w i is r h =
-      let order : Ascending (λ t. t) (i ∷ is) = subst (Ascending (λ t. t)) h r.waiting_order in
+      let order : Ascending (λ t. t) (i ∷ is) = subst (Ascending (λ t. t)) h r.pending_order in
       let first : HasIdentity es i × (Within (a.id ∷ rs) i → ⊥) = r.from_waiting i (subst (λ l. Within l i) (sym h) (inl refl)) in
       record {
         agent_is = r.agent_is;
-        waiting_order = order.1;
+        pending_order = order.1;
         found_order = r.found_order;
         from_met = λ x v. ⊎_elim (λ k. inl (⊎_elim (λ q. inl q) (λ o. inr (inr o)) k)) (λ n. inr n) (r.from_met x v);
         read_met = λ x v. ⊎_elim (λ q. r.read_met x (inl q)) (λ o. ⊎_elim (λ q. subst (Within w.met) ((first.0).2 ∙ q) (r.found_met (first.0).0 (first.0).1)) (λ k. r.read_met x (inr k)) o) v;

@@ -18,7 +18,7 @@ use Rattle.batch_work.specs.Reads.{found, is_one_of, unread, least_then, walk, w
 use Rattle.batch_work.specs.Walked.{IsAuthorised, IsFound, IsUnread, IsNextIdentity, IsWalk, WalkAsSaid, OneWalk, TrustedAsSaid, AuthorisedReads, TrustReads, MissingReads}
 use Rattle.batch_work.proofs.Plays.{cons_apart}
 use Rattle.batch_work.proofs.TextSets.{text_set-ascending, from_text_set, within_text_set, within_map, from_within_map, within_flat, from_within_flat, one_of, from_one_of, not_one_of}
-use Rattle.batch_work.proofs.Walks.{Known, found_inside, found_start, found_child, read_all, all_found, known_more, waiting, fewer}
+use Rattle.batch_work.proofs.Walks.{Known, found_inside, found_start, found_child, read_all, all_found, known_more, pending, fewer}
 use Rattle.batch_work.proofs.WalkOrder.{walk_new, walk_once}
 
 -- ---- what is read after others: the others in reverse, in front of what was read before
@@ -142,7 +142,7 @@ module _ (s : Bytes) (a : Agent) (b : Book) where
   unfolding Known
   at_end rs u i k = subst (Within (a.id ∷ rs)) k.3 (from_one_of (k.0).identity (a.id ∷ rs) (read_all s a b rs u k.0 (all_found s a b rs u (length b.entries) k.0 k.1 k.2)))
 
-  all_read : (n : ℕ) (rs : List Bytes) → length (waiting s a b rs) ≤ n → (i : Bytes) → Known s a b i → Within (walk n s a rs b) i ⊎ Within (a.id ∷ rs) i
+  all_read : (n : ℕ) (rs : List Bytes) → length (pending s a b rs) ≤ n → (i : Bytes) → Known s a b i → Within (walk n s a rs b) i ⊎ Within (a.id ∷ rs) i
   all_read zero rs l i k = inr (none (unread a rs (found s a rs b)) refl)
     where
       none : (us : List Bytes) → unread a rs (found s a rs b) ≡ us → Within (a.id ∷ rs) i

@@ -90,10 +90,10 @@ module _ (s : Bytes) (a : Agent) (b : Book) where
   known_more rs i is k h = let n = (next_is rs i is h).0 in ((n.0, found_inside rs n.0 n.1, found_ends rs k n.0 n.1, n.2), k)
 
   -- the entries whose identity wasn't read: their number falls with each read
-  abbrev pub waiting : List Bytes → List Entry
-  waiting rs = filter (λ e. not (is_one_of e.identity (a.id ∷ rs))) b.entries
+  abbrev pub pending : List Bytes → List Entry
+  pending rs = filter (λ e. not (is_one_of e.identity (a.id ∷ rs))) b.entries
 
-  pub fewer : (rs : List Bytes) (i : Bytes) (is : List Bytes) → unread a rs (found s a rs b) ≡ i ∷ is → length (waiting (i ∷ rs)) < length (waiting rs)
+  pub fewer : (rs : List Bytes) (i : Bytes) (is : List Bytes) → unread a rs (found s a rs b) ≡ i ∷ is → length (pending (i ∷ rs)) < length (pending rs)
   fewer rs i is h =
       let n = next_is rs i is h in
       let e : Entry = n.0.0 in

@@ -14,8 +14,8 @@ held_map [] = refl
 held_map (s ∷ ss) = ap (λ l. s ∷ l) (held_map ss)
 
 -- no slot is empty, so there are as many versions
-pub held_count : (places : List (Option VersionState)) → places ≡ map Some (held places) → length places ≡ length (held places)
-held_count places e = ap length e ∙ length-map (held places) Some
+pub held_count : (slots : List (Option VersionState)) → slots ≡ map Some (held slots) → length slots ≡ length (held slots)
+held_count slots e = ap length e ∙ length-map (held slots) Some
 
 pub held_append : (ps qs : List (Option VersionState)) → held (ps ++ qs) ≡ held ps ++ held qs
 held_append [] qs = refl
@@ -49,39 +49,39 @@ few_last xs = let l = length-drop (length xs - 63) xs in omega arith
 -- ---- a push
 
 -- one more slot after these, of which the last 63 remain
-abbrev pub with_place : VersionState → List (Option VersionState) → List (Option VersionState)
-with_place s places = ending 63 (places ++ Some s ∷ [])
+abbrev pub with_slot : VersionState → List (Option VersionState) → List (Option VersionState)
+with_slot s slots = ending 63 (slots ++ Some s ∷ [])
 
 -- the window with the versions in these slots
 abbrev window_in : List (Option VersionState) → VersionState → Window
-window_in places newest = record { older = held places; newest = newest }
+window_in slots newest = record { older = held slots; newest = newest }
 
-module _ (places : List (Option VersionState)) (newest : VersionState) (k : AreKept places newest) where
-  all_more : places ++ Some newest ∷ [] ≡ map Some (held (places ++ Some newest ∷ []))
-  all_more = all_append places (Some newest ∷ []) k.all refl
+module _ (slots : List (Option VersionState)) (newest : VersionState) (k : AreKept slots newest) where
+  all_more : slots ++ Some newest ∷ [] ≡ map Some (held (slots ++ Some newest ∷ []))
+  all_more = all_append slots (Some newest ∷ []) k.all refl
 
-  held_are : (rest : List (Option VersionState)) → rest ≡ with_place newest places → held rest ≡ ending 63 (versions (window_in places newest))
-  held_are rest e = ap held e ∙ (held_ending (places ++ Some newest ∷ []) all_more ∙ ap (ending 63) (held_append places (Some newest ∷ [])))
+  held_are : (rest : List (Option VersionState)) → rest ≡ with_slot newest slots → held rest ≡ ending 63 (versions (window_in slots newest))
+  held_are rest e = ap held e ∙ (held_ending (slots ++ Some newest ∷ []) all_more ∙ ap (ending 63) (held_append slots (Some newest ∷ [])))
 
-  pub window_is : (rest : List (Option VersionState)) (s : VersionState) → rest ≡ with_place newest places → window_in rest s ≡ pushed s (window_in places newest)
+  pub window_is : (rest : List (Option VersionState)) (s : VersionState) → rest ≡ with_slot newest slots → window_in rest s ≡ pushed s (window_in slots newest)
   window_is rest s e = ap (λ l. record { older = l; newest = s }) (held_are rest e)
 
-  pub still_kept : (rest : List (Option VersionState)) (s : VersionState) → rest ≡ with_place newest places → IsNextVersion newest s → AreKept rest s
+  pub still_kept : (rest : List (Option VersionState)) (s : VersionState) → rest ≡ with_slot newest slots → IsNextVersion newest s → AreKept rest s
   still_kept rest s e n =
       let l = ap length e in
-      let m = few_last (places ++ Some newest ∷ []) in
+      let m = few_last (slots ++ Some newest ∷ []) in
       record {
-        all = subst (λ (l : List (Option VersionState)). l ≡ map Some (held l)) (sym e) (all_ending (places ++ Some newest ∷ []) all_more);
+        all = subst (λ (l : List (Option VersionState)). l ≡ map Some (held l)) (sym e) (all_ending (slots ++ Some newest ∷ []) all_more);
         few = omega arith;
-        counted = subst (λ l. Counted (l ++ s ∷ [])) (sym (held_are rest e)) (counted_pushed (window_in places newest) s k.counted n);
+        counted = subst (λ l. Counted (l ++ s ∷ [])) (sym (held_are rest e)) (counted_pushed (window_in slots newest) s k.counted n);
       }
 
 -- slots whose versions are those of others
-pub same_places : (R : Option VersionState → Option VersionState → Type 0) → ((s : VersionState) → R None (Some s) → ⊥) → ((s : VersionState) → R (Some s) None → ⊥) → ((s t : VersionState) → R (Some s) (Some t) → t ≡ s) → (xs ys : List (Option VersionState)) → AllZip R xs ys → ys ≡ xs
-same_places R f g h xs ys z = same_from_all_zip R xs ys z (λ x y. same_place x y)
+pub same_slots : (R : Option VersionState → Option VersionState → Type 0) → ((s : VersionState) → R None (Some s) → ⊥) → ((s : VersionState) → R (Some s) None → ⊥) → ((s t : VersionState) → R (Some s) (Some t) → t ≡ s) → (xs ys : List (Option VersionState)) → AllZip R xs ys → ys ≡ xs
+same_slots R f g h xs ys z = same_from_all_zip R xs ys z (λ x y. same_slot x y)
   where
-    same_place : (x y : Option VersionState) → R x y → y ≡ x
-    same_place None None r = refl
-    same_place None (Some s) r = absurd (f s r)
-    same_place (Some s) None r = absurd (g s r)
-    same_place (Some s) (Some t) r = ap Some (h s t r)
+    same_slot : (x y : Option VersionState) → R x y → y ≡ x
+    same_slot None None r = refl
+    same_slot None (Some s) r = absurd (f s r)
+    same_slot (Some s) None r = absurd (g s r)
+    same_slot (Some s) (Some t) r = ap Some (h s t r)

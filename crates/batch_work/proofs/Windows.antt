@@ -16,7 +16,7 @@ use Rattle.entry_book.proofs.Histories.{last-snoc}
 use Rattle.version_book.specs.CommittedRows.{VersionState}
 use Rattle.batch_work.specs.Laws.{WindowBegins, WindowExtends, WindowLast, WindowRepresentsBooks}
 use Rattle.batch_work.specs.Reads.{case_at, footprint_in, awaits_in}
-use Rattle.batch_work.specs.Windows.{Counted, IsNextVersion, WindowRepresents, Window, book_in, ending, pushed, version_at, versions}
+use Rattle.batch_work.specs.Windows.{Counted, IsNextVersion, WindowRepresents, Window, back_from, book_in, ending, pushed, version_at, versions}
 use Rattle.batch_work.specs.Working.{earlier_in, version_read}
 
 -- ---- lists
@@ -90,6 +90,22 @@ module _ (n : ℕ) (w : Window) (c : Counted (versions w)) where
 
   pub at_older : (i : ℕ) → n < w.newest.number → n + length w.older ≡ w.newest.number + i → slice_get w.older i ≡ version_at n w
   at_older i l e = sym (found_at n i w.older w.newest c e ∙ slice_get-snoc w.older w.newest i (omega arith))
+
+-- ---- a version by its distance from the newest one
+
+pub gone : (n : ℕ) (ss : List VersionState) → length ss < n → None ≡ back_from n ss
+gone n ss l = let t : nat_lt (length ss) n ≡ true = grind (arith, nat_tests, l) in sym (ap (λ b. cond b None (slice_get ss (length ss - n))) t)
+
+pub there : (n : ℕ) (ss : List VersionState) → n ≤ length ss → slice_get ss (length ss - n) ≡ back_from n ss
+there n ss l = let t : nat_lt (length ss) n ≡ false = grind (arith, nat_tests, l) in sym (ap (λ b. cond b None (slice_get ss (length ss - n))) t)
+
+-- the version with a number, by the difference to the newest number
+pub found_back : (n back : ℕ) (w : Window) → Counted (versions w) → n + back ≡ w.newest.number → 0 < back → back_from back w.older ≡ version_at n w
+found_back n back w c e p = found (nat_lt (length w.older) back) refl
+  where
+    found : (few : Bool) → nat_lt (length w.older) back ≡ few → back_from back w.older ≡ version_at n w
+    found true t = let l : length w.older < back = grind (arith, nat_tests, t) in sym (gone back w.older l) ∙ at_gone n w c (omega arith)
+    found false t = let l : back ≤ length w.older = grind (arith, nat_tests, t) in sym (there back w.older l) ∙ at_older n w c (length w.older - back) (omega arith) (omega arith)
 
 -- ---- the same on each list of books that the window represents
 

@@ -1,5 +1,5 @@
 -- How a window stores its older versions in two lists of slots, the first of which it shares with other windows. For this crate's own contracts.
-use Rattle.std.specs.Prelude.{◌≡◌, ◌≤◌, ℕ, ◌-◌, List, [], ◌∷◌, ◌++◌, map, length, nat_lt, slice_get, Option, Some, None, if◌then◌else◌}
+use Rattle.std.specs.Prelude.{◌≡◌, ◌≤◌, List, [], ◌∷◌, ◌++◌, map, length, Option, Some}
 use Rattle.version_book.specs.CommittedRows.{VersionState}
 use Rattle.batch_work.specs.WindowSlots.{held}
 use Rattle.batch_work.specs.Windows.{Counted, ending}
@@ -7,10 +7,6 @@ use Rattle.batch_work.specs.Windows.{Counted, ending}
 -- the last 63 of the versions that windows share and of a window's own
 abbrev pub last_of_both : List VersionState → List VersionState → List VersionState
 last_of_both shared recent = ending 63 (shared ++ recent)
-
--- the version this many steps before the end of the list, if there is one
-abbrev pub back_from : ℕ → List VersionState → Option VersionState
-back_from n states = if nat_lt (length states) n then None else slice_get states (length states - n)
 
 -- No slot is empty, and both lists are short. Each version, up to the newest one, is the next after the one before it.
 pub record IsShared (shared recent : List (Option VersionState)) (newest : VersionState) : Type 0 where

@@ -22,7 +22,7 @@ use Rattle.version_book.specs.declared.mark.MarkKind.{MarkKind}
 use Rattle.version_book.specs.declared.mark.MarkKind.TheVariants as mark
 use Rattle.version_book.specs.Marks.{reads}
 use Rattle.batch_work.specs.declared.phase.WalkFor.{WalkFor}
-use Rattle.batch_work.specs.declared.phase.WalkFor.TheVariants as asked
+use Rattle.batch_work.specs.declared.phase.WalkFor.TheVariants as walk_for
 use Rattle.batch_work.specs.declared.phase.Phase.{Phase}
 use Rattle.batch_work.specs.declared.phase.Phase.TheVariants as phase
 use Rattle.batch_work.specs.declared.phase.Next.{Next}
@@ -134,16 +134,16 @@ abbrev pub trusted_next : List Bytes → ℕ → List Bundle → Next
 trusted_next ds n bs = next_trusted (slice_get ds n) ds n bs
 
 abbrev pub walk_end : WalkFor → List Entry → Next
-walk_end asked.Entries es = Ends (replied.Entries es) []
-walk_end asked.Bundles es = trusted_next (domains_of es) 0 []
+walk_end walk_for.Entries es = Ends (replied.Entries es) []
+walk_end walk_for.Bundles es = trusted_next (domains_of es) 0 []
 
 -- the next read is that of the children of the least pending identity; if none is pending, the walk ends
 abbrev pub identity_next : List Bytes → WalkFor → WalkState → Next
 identity_next [] ask w = walk_end ask w.found
-identity_next (i ∷ is) ask w = Continues (phase.Identity ask (record w { waiting = is }) i)
+identity_next (i ∷ is) ask w = Continues (phase.Identity ask (record w { pending = is }) i)
 
 abbrev pub walk_next : WalkFor → WalkState → Next
-walk_next ask w = identity_next w.waiting ask w
+walk_next ask w = identity_next w.pending ask w
 
 -- ---- what comes after a read
 
@@ -157,8 +157,8 @@ first_next (ShowAgent k) r = Ends (replied.AgentShown (first r.agents)) []
 first_next (ShowBundle d) r = Ends (replied.BundleShown (first r.bundles)) []
 first_next (Children p) r = Ends (replied.Entries r.entries) []
 first_next (Page q) r = Ends (replied.Page (listed q r) (next_of q r)) []
-first_next (Authorised k) r = for_agent_next (first r.agents) (λ a. Continues (phase.Server asked.Entries a))
-first_next (Trust k) r = for_agent_next (first r.agents) (λ a. Continues (phase.Server asked.Bundles a))
+first_next (Authorised k) r = for_agent_next (first r.agents) (λ a. Continues (phase.Server walk_for.Entries a))
+first_next (Trust k) r = for_agent_next (first r.agents) (λ a. Continues (phase.Server walk_for.Bundles a))
 first_next (Prune moment) r = Ends (replied.Pruned (map entry_key r.entries)) (map removed r.entries)
 first_next (SetAgent a) r = Ends (replied.Agent a) (wrote_agent (record { key = a.id; old = first r.agents; new = Some a }) ∷ [])
 first_next (DropAgent k) r = for_agent_next (first r.agents) (λ a. Ends (replied.Agent a) (agent_gone a ∷ []))

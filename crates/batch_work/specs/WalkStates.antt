@@ -11,12 +11,12 @@ use Rattle.batch_work.specs.Reads.{is_one_of}
 pub record WalkState : Type 0 where
   pub agent : Agent
   pub met : List Bytes
-  pub waiting : List Bytes
+  pub pending : List Bytes
   pub found : List Entry
 
 -- the walk before its first entry
 abbrev pub first_walk : Agent → WalkState
-first_walk a = record { agent = a; met = a.id ∷ []; waiting = []; found = [] }
+first_walk a = record { agent = a; met = a.id ∷ []; pending = []; found = [] }
 
 -- the set with this text added
 abbrev pub with_text : Bytes → List Bytes → List Bytes
@@ -29,7 +29,7 @@ met_when false x set = with_text x set
 
 -- the walk with one more entry among those found
 abbrev pub with_found : Entry → WalkState → WalkState
-with_found e w = record w { met = met_when (is_one_of e.identity w.met) e.identity w.met; waiting = met_when (is_one_of e.identity w.met) e.identity w.waiting; found = with_row entry_key e.id (Some e) w.found }
+with_found e w = record w { met = met_when (is_one_of e.identity w.met) e.identity w.met; pending = met_when (is_one_of e.identity w.met) e.identity w.pending; found = with_row entry_key e.id (Some e) w.found }
 
 -- the walk after the entries of a read are added, one after another
 abbrev pub walked : List Entry → WalkState → WalkState
@@ -43,4 +43,4 @@ is_empty (x ∷ xs) = false
 
 -- the walk has no identity left to read
 abbrev pub is_walk_over : WalkState → Bool
-is_walk_over w = is_empty w.waiting
+is_walk_over w = is_empty w.pending

@@ -6,11 +6,11 @@ use Rattle.batch_work.specs.Windows.{Counted}
 -- the versions in these slots
 abbrev pub held : List (Option VersionState) → List VersionState
 held [] = []
-held (None ∷ places) = held places
-held (Some s ∷ places) = s ∷ held places
+held (None ∷ slots) = held slots
+held (Some s ∷ slots) = s ∷ held slots
 
 -- No slot is empty, and there are at most 63 of them. Each version, up to the newest one, is the next after the one before it.
-pub record AreKept (places : List (Option VersionState)) (newest : VersionState) : Type 0 where
-  pub all : places ≡ map Some (held places)
-  pub few : length places ≤ 63
-  pub counted : Counted (held places ++ newest ∷ [])
+pub record AreKept (slots : List (Option VersionState)) (newest : VersionState) : Type 0 where
+  pub all : slots ≡ map Some (held slots)
+  pub few : length slots ≤ 63
+  pub counted : Counted (held slots ++ newest ∷ [])

@@ -1,5 +1,5 @@
 -- A window: the last versions of one history, among which a batch finds the book that it runs on.
-use Rattle.std.specs.Prelude.{◌≡◌, ⊤, ℕ, ◌+◌, ◌-◌, List, [], ◌∷◌, ◌++◌, map, filter, drop, length, nat_eq, Option}
+use Rattle.std.specs.Prelude.{◌≡◌, ⊤, ℕ, ◌+◌, ◌-◌, List, [], ◌∷◌, ◌++◌, map, filter, drop, length, nat_eq, nat_lt, slice_get, Option, None, if◌then◌else◌}
 use Rattle.entry_book.specs.Book.{Book}
 use Rattle.entry_book.specs.Order.{first}
 use Rattle.entry_book.specs.History.{last_of}
@@ -17,6 +17,10 @@ versions w = w.older ++ w.newest ∷ []
 -- the version with this number, if the window has it
 abbrev pub version_at : ℕ → Window → Option VersionState
 version_at n w = first (filter (λ s. nat_eq s.number n) (versions w))
+
+-- the version this many steps before the end of the list, if there is one
+abbrev pub back_from : ℕ → List VersionState → Option VersionState
+back_from n states = if nat_lt (length states) n then None else slice_get states (length states - n)
 
 -- the last n of a list, or all of it if it has fewer
 abbrev pub ending : {X : Type 0} → ℕ → List X → List X

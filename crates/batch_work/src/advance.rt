@@ -150,13 +150,13 @@ pub(crate) fn advance(
             let next = users_next(alloc, mode, reading.entries(), &bundle);
             or_back(next, Phase::Users(bundle, mode))
         }
-        Phase::Server(asked, agent) => {
-            let next = held_next(alloc, server.get(), asked, &agent, reading.entries());
-            or_back(next, Phase::Server(asked, agent))
+        Phase::Server(walk_for, agent) => {
+            let next = held_next(alloc, server.get(), walk_for, &agent, reading.entries());
+            or_back(next, Phase::Server(walk_for, agent))
         }
-        Phase::OfAgent(asked, walk) => own_next(alloc, asked, walk, reading.into_entries()),
-        Phase::Identity(asked, walk, identity) => {
-            identity_next(alloc, asked, walk, identity, reading.into_entries())
+        Phase::OfAgent(walk_for, walk) => own_next(alloc, walk_for, walk, reading.into_entries()),
+        Phase::Identity(walk_for, walk, identity) => {
+            identity_next(alloc, walk_for, walk, identity, reading.into_entries())
         }
         Phase::Trusted(domain, domains, index, found) => {
             trusted_turn(alloc, domain, domains, index, found, reading.into_bundles())

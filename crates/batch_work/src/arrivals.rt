@@ -20,7 +20,7 @@ use std::marker::Model;
 pub(crate) struct Arrival {
     entry: Entry,
     met: Shared<SpiffeId>,
-    waiting: Shared<SpiffeId>,
+    pending: Shared<SpiffeId>,
 }
 
 impl Model for Arrival {
@@ -31,7 +31,7 @@ impl Model for Arrival {
 
     ghost view = { λ arrival. arrival.entry };
 
-    ghost invariant = { λ arrival. (arrival.met ≡ arrival.entry.identity) × (arrival.waiting ≡ arrival.entry.identity) };
+    ghost invariant = { λ arrival. (arrival.met ≡ arrival.entry.identity) × (arrival.pending ≡ arrival.entry.identity) };
 }
 
 impl Arrival {
@@ -42,12 +42,12 @@ impl Arrival {
         ensures { IfOk result (λ arrival. arrival ≡ entry) }
     {
         let met: Result<_, _> = entry.identity().clone();
-        let waiting: Result<_, _> = entry.identity().clone();
-        let (entry, (met, waiting)) = both(Ok(entry), both(met, waiting))?;
+        let pending: Result<_, _> = entry.identity().clone();
+        let (entry, (met, pending)) = both(Ok(entry), both(met, pending))?;
         Ok(Arrival {
             entry,
             met,
-            waiting,
+            pending,
         })
     }
 }
@@ -67,30 +67,30 @@ pub(crate) fn arrivals_of(alloc: Global, entries: Vec<Entry>) -> Result<Vec<Arri
 /// room. Allocates no memory.
 fn put_arrival(
     met: &mut Vec<Shared<SpiffeId>>,
-    waiting: &mut Vec<Shared<SpiffeId>>,
+    pending: &mut Vec<Shared<SpiffeId>>,
     found: &mut Vec<Entry>,
     arrival: Arrival,
 )
     requires met_order { Ascending (λ id. id) met.old.items }
-    requires waiting_order { Ascending (λ id. id) waiting.old.items }
+    requires pending_order { Ascending (λ id. id) pending.old.items }
     requires found_order { Ascending entry_key found.old.items }
     requires met_room { vec_len met.old < vec_capacity met.old }
-    requires waiting_room { vec_len waiting.old < vec_capacity waiting.old }
+    requires pending_room { vec_len pending.old < vec_capacity pending.old }
     requires found_room { vec_len found.old < vec_capacity found.old }
     ensures met { met.new.items ≡ met_when (is_one_of arrival.identity met.old.items) arrival.identity met.old.items }
-    ensures waiting { waiting.new.items ≡ met_when (is_one_of arrival.identity met.old.items) arrival.identity waiting.old.items }
+    ensures pending { pending.new.items ≡ met_when (is_one_of arrival.identity met.old.items) arrival.identity pending.old.items }
     ensures found { found.new.items ≡ with_row entry_key arrival.id (Some arrival) found.old.items }
     ensures met_len { (vec_len met.new ≤ vec_len met.old + 1) × (vec_capacity met.old ≤ vec_capacity met.new) }
-    ensures waiting_len { (vec_len waiting.new ≤ vec_len waiting.old + 1) × (vec_capacity waiting.old ≤ vec_capacity waiting.new) }
+    ensures pending_len { (vec_len pending.new ≤ vec_len pending.old + 1) × (vec_capacity pending.old ≤ vec_capacity pending.new) }
     ensures found_len { (vec_len found.new ≤ vec_len found.old + 1) × (vec_capacity found.old ≤ vec_capacity found.new) }
 {
     let Arrival {
         entry,
         met: identity,
-        waiting: other,
+        pending: other,
     } = arrival;
     if put_reserved(met, identity) {
-        put_reserved(waiting, other);
+        put_reserved(pending, other);
     }
     put_reserved(found, entry);
 }
@@ -98,22 +98,22 @@ fn put_arrival(
 /// Adds entries, one after another, to sets that have room for all of them. Allocates no memory.
 pub(crate) fn put_arrivals(
     met: &mut Vec<Shared<SpiffeId>>,
-    waiting: &mut Vec<Shared<SpiffeId>>,
+    pending: &mut Vec<Shared<SpiffeId>>,
     found: &mut Vec<Entry>,
     arrivals: Vec<Arrival>,
 )
     requires met_order { Ascending (λ id. id) met.old.items }
-    requires waiting_order { Ascending (λ id. id) waiting.old.items }
+    requires pending_order { Ascending (λ id. id) pending.old.items }
     requires found_order { Ascending entry_key found.old.items }
     requires met_room { vec_len met.old + length arrivals.items ≤ vec_capacity met.old }
-    requires waiting_room { vec_len waiting.old + length arrivals.items ≤ vec_capacity waiting.old }
+    requires pending_room { vec_len pending.old + length arrivals.items ≤ vec_capacity pending.old }
     requires found_room { vec_len found.old + length arrivals.items ≤ vec_capacity found.old }
-    ensures order { Ascending (λ id. id) met.new.items × Ascending (λ id. id) waiting.new.items × Ascending entry_key found.new.items }
+    ensures order { Ascending (λ id. id) met.new.items × Ascending (λ id. id) pending.new.items × Ascending entry_key found.new.items }
     ensures walked { (agent : AgentRow) →
-        record { agent = agent; met = met.new.items; waiting = waiting.new.items; found = found.new.items }
-        ≡ walked arrivals.items (record { agent = agent; met = met.old.items; waiting = waiting.old.items; found = found.old.items }) }
+        record { agent = agent; met = met.new.items; pending = pending.new.items; found = found.new.items }
+        ≡ walked arrivals.items (record { agent = agent; met = met.old.items; pending = pending.old.items; found = found.old.items }) }
 {
     for arrival in arrivals {
-        put_arrival(met, waiting, found, arrival);
+        put_arrival(met, pending, found, arrival);
     }
 }

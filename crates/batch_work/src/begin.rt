@@ -6,7 +6,7 @@ ghost use Rattle.batch_work.specs.WorkInvariants.{IsStartOf, IsReadableVersion, 
 
 use crate::phase::Phase;
 use crate::stage::{Begun, Stage};
-use crate::take::settled;
+use crate::take::settle;
 use crate::versions::Versions;
 use entry_book::{Batch, Refusal, ReplyOutcome, both};
 use std::alloc::AllocError;
@@ -33,7 +33,7 @@ fn earlier_clone(
 }
 
 /// Returns clones of the versions on which a batch begins, with the server's ID. The error is a reference count at its maximum.
-pub(crate) fn begun_on(
+pub(crate) fn begin_on(
     batch: &Batch,
     newest: &Version,
     earlier: Option<&Version>,
@@ -68,7 +68,7 @@ pub(crate) fn first_stage(batch: &Batch, begun: &Begun) -> Stage
         },
         Err(Refusal::NotYet) => {
             let place = begun.newest.number();
-            settled(place, ReplyOutcome::Refused(Refusal::NotYet))
+            settle(place, ReplyOutcome::Refused(Refusal::NotYet))
         }
         Err(_) => Stage::Gone,
     }

@@ -60,19 +60,19 @@ impl<'a> BorrowedOpReply<'a> {
     }
 
     /// Returns the same reply with copies of the rows. The error is out of memory.
-    fn kept(&self, alloc: Global) -> Result<OpReply, AllocError>
+    fn to_owned(&self, alloc: Global) -> Result<OpReply, AllocError>
         ensures { IfOk result (λ reply. reply ≡ self.now) }
     {
         Ok(match &self.rows {
-            BorrowedRows::Entry(entry) => OpReply::EntryShown(copied(entry)?),
+            BorrowedRows::Entry(entry) => OpReply::EntryShown(row_to_owned(entry)?),
             BorrowedRows::Entries(entries) => {
                 OpReply::Entries(Sequence::of(owned(alloc, entries.as_slice())?))
             }
             BorrowedRows::Page(entries, next) => {
                 OpReply::Page(Sequence::of(owned(alloc, entries.as_slice())?), *next)
             }
-            BorrowedRows::Agent(agent) => OpReply::AgentShown(copied(agent)?),
-            BorrowedRows::Bundle(bundle) => OpReply::BundleShown(copied(bundle)?),
+            BorrowedRows::Agent(agent) => OpReply::AgentShown(row_to_owned(agent)?),
+            BorrowedRows::Bundle(bundle) => OpReply::BundleShown(row_to_owned(bundle)?),
             BorrowedRows::Bundles(bundles) => {
                 OpReply::Bundles(Sequence::of(owned(alloc, bundles.as_slice())?))
             }
@@ -126,13 +126,13 @@ impl<'a> BorrowedReply<'a> {
     }
 
     /// Returns the same reply with copies of the rows, so that it can outlive the version. The error is out of memory.
-    pub fn kept(&self, alloc: Global) -> Result<Reply, AllocError>
+    pub fn to_owned(&self, alloc: Global) -> Result<Reply, AllocError>
         ensures { IfOk result (λ reply. reply ≡ self.now) }
     {
         let outcome = match &self.outcome {
             Ok(replies) => ReplyOutcome::Answered(Shared::of(
                 alloc,
-                kept_replies(alloc, replies.as_slice())?,
+                replies_to_owned(alloc, replies.as_slice())?,
             )?),
             Err(refusal) => ReplyOutcome::Refused(refusal.clone()?),
         };
@@ -152,7 +152,7 @@ pub(crate) fn borrowed<'a, T>(row: Option<&'a T>) -> Option<Borrowed<'a, T>>
 }
 
 /// Returns a copy of the row, if there is one. The error is a reference count at its maximum.
-fn copied<T: Clone>(row: &Option<Borrowed<'_, T>>) -> Result<Option<T>, AllocError>
+fn row_to_owned<T: Clone>(row: &Option<Borrowed<'_, T>>) -> Result<Option<T>, AllocError>
     requires clones { (one copy : T) → T.is_clone one copy → copy ≡ one }
     ensures { IfOk result (λ copy. copy ≡ row.now) }
 {
@@ -163,15 +163,15 @@ fn copied<T: Clone>(row: &Option<Borrowed<'_, T>>) -> Result<Option<T>, AllocErr
 }
 
 /// Returns the same replies with copies of the rows. The error is out of memory.
-fn kept_replies(
+fn replies_to_owned(
     alloc: Global,
     replies: &[BorrowedOpReply<'_>],
 ) -> Result<Sequence<OpReply>, AllocError>
-    ensures { IfOk result (λ kept. kept ≡ replies.now) }
+    ensures { IfOk result (λ owned. owned ≡ replies.now) }
 {
-    let mut kept = Sequence::empty(alloc);
+    let mut owned = Sequence::empty(alloc);
     for reply in replies {
-        kept.push(reply.kept(alloc)?)?;
+        owned.push(reply.to_owned(alloc)?)?;
     }
-    Ok(kept)
+    Ok(owned)
 }

@@ -13,7 +13,7 @@
 //!   [`BorrowedOpReply`] for each operation, which has its [`BorrowedRows`].
 //! - [`Window`]: the newest version of one history and up to 63 before it. A batch reads the newest one, or the one of the
 //!   earlier book that its page names. [`SharedWindow`]: the same in a small value that never changes; the next one shares most
-//!   versions with it. [`answer_shared`] is for it.
+//!   versions with it. [`Versioned`]: what works begin on, which either of them is.
 //! - [`laws`]: theorems. They state that what a batch reads decides its outcome, and what its outcome at a commit is; how many
 //!   reads it makes, and which; and how a window represents the list of all books.
 //!
@@ -46,14 +46,16 @@ mod sorted;
 mod stage;
 mod status;
 mod take;
+mod versioned;
 mod versions;
 mod walk;
 mod window;
 mod work;
 
 pub use borrowed_reply::{BorrowedOpReply, BorrowedReply, BorrowedRows};
-pub use read_only::{answer, answer_shared};
+pub use read_only::answer;
 pub use shared_window::SharedWindow;
 pub use status::Status;
+pub use versioned::Versioned;
 pub use window::Window;
 pub use work::Work;

@@ -46,13 +46,13 @@ fn look_op(
     alloc: Global,
     begun: &Begun,
     batch: &Batch,
-    course: &Progress,
+    progress: &Progress,
     index: usize,
     phase: Phase,
 ) -> Result<(Mark, Next), Phase>
     requires began { IsStartOf batch.now begun.now }
-    requires going { Going batch.now (base_of begun.now) course.now.marks.items course.now.changes course.now.replies.items index phase }
-    ensures looked { IfOk result (λ found. Looked batch.now (base_of begun.now) course.now.marks.items course.now.changes course.now.replies.items index found.0 found.1) }
+    requires going { Going batch.now (base_of begun.now) progress.now.marks.items progress.now.changes progress.now.replies.items index phase }
+    ensures looked { IfOk result (λ found. Looked batch.now (base_of begun.now) progress.now.marks.items progress.now.changes progress.now.replies.items index found.0 found.1) }
     ensures back { IfErr result (λ back. back ≡ phase) }
 {
     let Some(version) = Versions::begun(begun).read(batch) else {
@@ -62,7 +62,7 @@ fn look_op(
     let Ok(mark) = mark_of(&begun.server, op, &phase) else {
         return Err(phase);
     };
-    let Ok(reading) = version.read_after(&mark, &course.changes) else {
+    let Ok(reading) = version.read_after(&mark, &progress.changes) else {
         drop(mark);
         return Err(phase);
     };
@@ -90,16 +90,16 @@ fn look_token(begun: &Begun, batch: &Batch, token: Uuid) -> Result<Option<KeptBa
 pub(crate) fn next_mark(
     begun: &Begun,
     batch: &Batch,
-    course: &Progress,
+    progress: &Progress,
     stage: &Stage,
 ) -> Result<Mark, AllocError>
     requires began { IsStartOf batch.now begun.now }
-    requires holds_at_stage { StageInvariant stage.now batch.now (base_of begun.now) course.now.marks.items course.now.changes course.now.replies.items }
+    requires holds_at_stage { StageInvariant stage.now batch.now (base_of begun.now) progress.now.marks.items progress.now.changes progress.now.replies.items }
     requires running { IsRunning stage.now }
-    ensures { IfOk result (λ mark. slice_get (footprint_there batch.now (base_of begun.now)) (length course.now.marks.items) ≡ Some mark) }
+    ensures { IfOk result (λ mark. slice_get (footprint_there batch.now (base_of begun.now)) (length progress.now.marks.items) ≡ Some mark) }
 {
-    // the course occurs in the contract alone
-    let _ = course;
+    // the progress occurs in the contract alone
+    let _ = progress;
     match stage {
         Stage::Token(token) => Ok(Mark::token(*token)),
         Stage::Gone => Ok(Mark::all()),
@@ -115,13 +115,13 @@ pub(crate) fn look(
     alloc: Global,
     begun: &Begun,
     batch: &Batch,
-    course: &Progress,
+    progress: &Progress,
     stage: Stage,
 ) -> Result<(Mark, Found), Stage>
     requires began { IsStartOf batch.now begun.now }
-    requires holds_at_stage { StageInvariant stage batch.now (base_of begun.now) course.now.marks.items course.now.changes course.now.replies.items }
+    requires holds_at_stage { StageInvariant stage batch.now (base_of begun.now) progress.now.marks.items progress.now.changes progress.now.replies.items }
     requires running { IsRunning stage }
-    ensures holds_at_stage { IfOk result (λ read. FoundInvariant read.0 read.1 batch.now (base_of begun.now) course.now.marks.items course.now.changes course.now.replies.items) }
+    ensures holds_at_stage { IfOk result (λ read. FoundInvariant read.0 read.1 batch.now (base_of begun.now) progress.now.marks.items progress.now.changes progress.now.replies.items) }
     ensures back { IfErr result (λ back. back ≡ stage) }
 {
     match stage {
@@ -131,7 +131,7 @@ pub(crate) fn look(
         },
         Stage::Gone => Ok((Mark::all(), Found::Gone)),
         Stage::At(index, phase) => {
-            match look_op(alloc, begun, batch, course, index, phase) {
+            match look_op(alloc, begun, batch, progress, index, phase) {
                 Ok((mark, next)) => Ok((mark, Found::Op(index, next))),
                 Err(phase) => Err(Stage::At(index, phase)),
             }

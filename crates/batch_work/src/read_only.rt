@@ -20,9 +20,8 @@ use crate::borrowed_reply::{
     BorrowedOpReply, BorrowedOutcome, BorrowedReply, BorrowedRows, borrowed,
 };
 use crate::read_only::authorised::{authorised_reply, trust_reply};
-use crate::shared_window::SharedWindow;
+use crate::versioned::Versioned;
 use crate::versions::Versions;
-use crate::window::Window;
 use entry_book::{Batch, Op, OpRefusal, PageQuery, Refusal, Sequence};
 use std::alloc::{AllocError, Global};
 use version_book::Version;
@@ -137,27 +136,14 @@ fn answer_in<'a>(
 
 /// Returns the reply to a read-only batch: that of a work which begins on the window, once it is settled. Its rows are borrowed
 /// from the window. The error is out of memory.
-pub fn answer<'a>(
+pub fn answer<'a, W: Versioned>(
     alloc: Global,
     batch: &Batch,
-    window: &'a Window,
+    window: &'a W,
 ) -> Result<BorrowedReply<'a>, AllocError>
     requires query { is_query batch.now.ops ≡ true }
-    requires fits { MayBegin batch.now window.now }
-    ensures { IfOk result (λ reply. reply ≡ reply_there batch.now (base_in batch.now window.now)) }
+    requires fits { MayBegin batch.now (W.window window.now) }
+    ensures { IfOk result (λ reply. reply ≡ reply_there batch.now (base_in batch.now (W.window window.now))) }
 {
-    answer_in(alloc, batch, &Versions::in_window(batch, window))
-}
-
-/// Does the same on a shared window.
-pub fn answer_shared<'a>(
-    alloc: Global,
-    batch: &Batch,
-    window: &'a SharedWindow,
-) -> Result<BorrowedReply<'a>, AllocError>
-    requires query { is_query batch.now.ops ≡ true }
-    requires fits { MayBegin batch.now window.now }
-    ensures { IfOk result (λ reply. reply ≡ reply_there batch.now (base_in batch.now window.now)) }
-{
-    answer_in(alloc, batch, &Versions::in_shared(batch, window))
+    answer_in(alloc, batch, &Versions::of(batch, window))
 }

@@ -37,7 +37,7 @@ pub(crate) fn holds(server: &SpiffeId, agent: &Agent, entry: &Entry) -> bool
 }
 
 /// Returns the aliases among these entries that the agent holds. The error is out of memory.
-pub(crate) fn held(
+pub(crate) fn held_among(
     alloc: Global,
     server: &SpiffeId,
     agent: &Agent,

@@ -2,10 +2,11 @@
 
 ghost use Rattle.std.specs.Prelude.{◌≡◌, ◌≤◌, ◌<◌, ◌+◌, ◌++◌, ◌∷◌, [], IfOk, OnOk, Some, length, map, slice_get};
 ghost use Rattle.std.specs.Option.{option_copied};
-ghost use Rattle.batch_work.specs.SharedWindows.{back_from, last_of_both};
+ghost use Rattle.batch_work.specs.SharedWindows.{last_of_both};
 ghost use Rattle.batch_work.specs.WindowSlots.{held};
-ghost use Rattle.batch_work.specs.Windows.{ending};
+ghost use Rattle.batch_work.specs.Windows.{back_from, ending};
 
+use crate::versioned::Versioned;
 use crate::window::version_in;
 use arrayvec::ArrayVec;
 use entry_book::Shared;
@@ -30,8 +31,8 @@ fn push_clones(
     requires room { length all.old.items + length more.now ≤ 63 }
     ensures { OnOk result (all.new.items ≡ all.old.items ++ more.now) }
 {
-    for place in more {
-        all.push(place.clone()?);
+    for slot in more {
+        all.push(slot.clone()?);
     }
     Ok(())
 }
@@ -78,18 +79,21 @@ fn next_slots(
     Ok((shared.clone()?, more))
 }
 
-/// Returns the version this many steps before the end of two lists of slots, if there is one.
+/// Returns the version this many steps before the end of the last 63 of two lists of slots, if there is one.
 fn version_back<'a>(
     shared: &'a [Option<Version>],
     recent: &'a [Option<Version>],
-    steps: usize,
+    steps: u64,
 ) -> Option<&'a Version>
     requires few { (length shared.now ≤ 63) × (length recent.now ≤ 10) }
     requires held { (shared.now ≡ map Some (held shared.now)) × (recent.now ≡ map Some (held recent.now)) }
-    requires steps { (0 < steps) × (steps ≤ 63) }
+    requires steps { 0 < steps }
     ensures { option_copied result ≡ back_from steps (last_of_both (held shared.now) (held recent.now)) }
 {
-    let own = recent.len();
+    if steps > MOST_OLDER as u64 {
+        return None;
+    }
+    let (steps, own) = (steps as usize, recent.len());
     if steps <= own {
         return version_in(recent, own - steps);
     }
@@ -134,9 +138,8 @@ impl Model for SharedWindow {
 }
 
 impl SharedWindow {
-    ghost use Rattle.std.specs.Prelude.{◌≡◌, ◌≤◌, IfOk, IfSome, []};
-    ghost use Rattle.std.specs.Option.{option_copied};
-    ghost use Rattle.batch_work.specs.Windows.{Counted, IsNextVersion, pushed, version_at, versions};
+    ghost use Rattle.std.specs.Prelude.{◌≡◌, IfOk, []};
+    ghost use Rattle.batch_work.specs.Windows.{IsNextVersion, pushed};
 
     /// Makes the window with this version alone. The error is out of memory.
     pub fn of(alloc: Global, version: Version) -> Result<SharedWindow, AllocError>
@@ -147,54 +150,6 @@ impl SharedWindow {
             recent: ArrayVec::new(),
             newest: version,
         })
-    }
-
-    /// Returns the newest version. Allocates no memory.
-    pub fn newest(&self) -> &Version
-        ensures { result.now ≡ self.now.newest }
-    {
-        &self.newest
-    }
-
-    /// Returns the version with this number, if the window has it. Allocates no memory.
-    pub fn book(&self, number: u64) -> Option<&Version>
-        ensures found { option_copied result ≡ version_at number self.now }
-        ensures earlier { IfSome result (λ version. (version.now.domain ≡ self.now.newest.domain) × (version.now.number ≤ self.now.newest.number)) }
-    {
-        self.know_history();
-        let found = self.find(number);
-        found
-    }
-
-    /// Each version is the next one after the version before it. The function only brings this fact into a proof.
-    fn know_history(&self)
-        ensures { Counted (versions self.now) }
-    {
-        // the use of a field brings the type invariant into the proof
-        let _ = &self.newest;
-    }
-
-    /// Returns the version with this number, if the window has it.
-    fn find(&self, number: u64) -> Option<&Version>
-        ensures { option_copied result ≡ version_at number self.now }
-    {
-        let newest = self.newest.number();
-        if number >= newest {
-            return if number == newest {
-                Some(&self.newest)
-            } else {
-                None
-            };
-        }
-        let back = newest - number;
-        if back > MOST_OLDER as u64 {
-            return None;
-        }
-        version_back(
-            self.shared.get().as_slice(),
-            self.recent.as_slice(),
-            back as usize,
-        )
     }
 
     /// Returns the window after the next version: that of the same trust domain with the next number. It is without the oldest
@@ -209,5 +164,17 @@ impl SharedWindow {
             recent,
             newest: version,
         })
+    }
+}
+
+impl Versioned for SharedWindow {
+    ghost window = { λ window. window };
+
+    fn newest(&self) -> &Version {
+        &self.newest
+    }
+
+    fn back(&self, steps: u64) -> Option<&Version> {
+        version_back(self.shared.get().as_slice(), self.recent.as_slice(), steps)
     }
 }

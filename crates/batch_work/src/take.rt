@@ -16,45 +16,45 @@ use std::alloc::{AllocError, Global};
 use version_book::{Changes, Mark};
 
 /// Returns the stage of a work that is settled, with this outcome at this place.
-pub(crate) fn settled(place: u64, outcome: ReplyOutcome) -> Stage
+pub(crate) fn settle(place: u64, outcome: ReplyOutcome) -> Stage
     ensures { result ≡ Stage.Settled (record { place = place; outcome = outcome }) }
 {
     Stage::Settled(Reply { place, outcome })
 }
 
 /// Returns the stage of a work whose operation with this index, counted from 0, is refused.
-fn refused(begun: &Begun, index: usize, reason: OpRefusal) -> Stage
+fn refuse(begun: &Begun, index: usize, reason: OpRefusal) -> Stage
     ensures { result ≡ Stage.Settled (record {
       place = begun.now.newest.number;
       outcome = ReplyOutcome.Refused (Refusal.OfOp index reason);
     }) }
 {
     let refusal = Refusal::OfOp(index, reason);
-    settled(begun.newest.number(), ReplyOutcome::Refused(refusal))
+    settle(begun.newest.number(), ReplyOutcome::Refused(refusal))
 }
 
 /// Returns the stage of a work whose token is in use: its batch repeats the stored one, or reuses the token for other
 /// operations.
-fn repeated_or_reused(begun: &Begun, batch: &Batch, kept: KeptBatch) -> Stage
+fn repeat_or_refuse(begun: &Begun, batch: &Batch, kept: KeptBatch) -> Stage
     ensures { result ≡ Stage.Settled
         (reply_with begun.now.newest.number (verdict_again (ops_eq kept.ops batch.now.ops) kept)) }
 {
     if kept.has_ops(batch.ops()) {
-        settled(kept.place, ReplyOutcome::Repeated(kept.replies))
+        settle(kept.place, ReplyOutcome::Repeated(kept.replies))
     } else {
         let place = begun.newest.number();
-        settled(place, ReplyOutcome::Refused(Refusal::TokenReused))
+        settle(place, ReplyOutcome::Refused(Refusal::TokenReused))
     }
 }
 
 /// Returns the stage of a work whose page asks for a book that isn't there.
-fn gone(begun: &Begun) -> Stage
+fn refuse_gone(begun: &Begun) -> Stage
     ensures { result ≡ Stage.Settled (record {
       place = begun.now.newest.number;
       outcome = ReplyOutcome.Refused (Refusal.OfOp 0 OpRefusal.VersionGone);
     }) }
 {
-    settled(begun.newest.number(), ReplyOutcome::Refused(version_gone()))
+    settle(begun.newest.number(), ReplyOutcome::Refused(version_gone()))
 }
 
 /// Appends a copy of these writes to the changes. The error is out of memory, and then nothing has changed.
@@ -68,19 +68,19 @@ fn append_copy(changes: &mut Changes, writes: &Changes) -> Result<(), AllocError
 
 /// Records the reply and the writes of an operation that isn't the last one. The error is out of memory, and then nothing has
 /// changed.
-fn end_op(course: &mut Progress, reply: &OpReply, writes: &Changes) -> Result<(), AllocError>
-    ensures changes { OnOk result (course.new.changes ≡ course.old.changes ++ writes.now) }
-    ensures replies { OnOk result (course.new.replies.items ≡ course.old.replies.items ++ reply.now ∷ []) }
-    ensures err { OnErr result ((course.new.changes ≡ course.old.changes) × (course.new.replies.items ≡ course.old.replies.items)) }
-    ensures marks { course.new.marks ≡ course.old.marks }
+fn end_op(progress: &mut Progress, reply: &OpReply, writes: &Changes) -> Result<(), AllocError>
+    ensures changes { OnOk result (progress.new.changes ≡ progress.old.changes ++ writes.now) }
+    ensures replies { OnOk result (progress.new.replies.items ≡ progress.old.replies.items ++ reply.now ∷ []) }
+    ensures err { OnErr result ((progress.new.changes ≡ progress.old.changes) × (progress.new.replies.items ≡ progress.old.replies.items)) }
+    ensures marks { progress.new.marks ≡ progress.old.marks }
 {
-    course.replies.reserve(1)?;
+    progress.replies.reserve(1)?;
     let reply = reply.clone()?;
-    let Ok(()) = append_copy(&mut course.changes, writes) else {
+    let Ok(()) = append_copy(&mut progress.changes, writes) else {
         drop(reply);
         return Err(AllocError);
     };
-    let Ok(()) = course.replies.push(reply) else {
+    let Ok(()) = progress.replies.push(reply) else {
         unreachable!()
     };
     Ok(())
@@ -121,16 +121,16 @@ fn end_changes(
 fn end_query(
     alloc: Global,
     begun: &Begun,
-    course: &Progress,
+    progress: &Progress,
     reply: &OpReply,
 ) -> Result<Stage, AllocError>
     ensures { IfOk result (λ stage. stage ≡ Stage.Settled (record {
       place = begun.now.newest.number;
-      outcome = ReplyOutcome.Answered (course.now.replies.items ++ reply.now ∷ []);
+      outcome = ReplyOutcome.Answered (progress.now.replies.items ++ reply.now ∷ []);
     })) }
 {
-    let all = all_replies(alloc, &course.replies, reply)?;
-    Ok(settled(begun.newest.number(), ReplyOutcome::Answered(all)))
+    let all = all_replies(alloc, &progress.replies, reply)?;
+    Ok(settle(begun.newest.number(), ReplyOutcome::Answered(all)))
 }
 
 /// Records the writes of the last operation of a batch of changes, and returns the stage after it. The error is out of memory,
@@ -138,48 +138,48 @@ fn end_query(
 fn end_changes_batch(
     alloc: Global,
     batch: &Batch,
-    course: &mut Progress,
+    progress: &mut Progress,
     reply: &OpReply,
     writes: &Changes,
 ) -> Result<Stage, AllocError>
-    ensures ready { IfOk result (λ stage. stage ≡ Stage.Ready (course.old.replies.items ++ reply.now ∷ [])) }
-    ensures changes { OnOk result (course.new.changes ≡ course.old.changes ++ (writes.now ++ token_writes batch.now.token batch.now.ops 0 (course.old.replies.items ++ reply.now ∷ []))) }
-    ensures err { OnErr result (course.new.changes ≡ course.old.changes) }
-    ensures replies { course.new.replies ≡ course.old.replies }
-    ensures marks { course.new.marks ≡ course.old.marks }
+    ensures ready { IfOk result (λ stage. stage ≡ Stage.Ready (progress.old.replies.items ++ reply.now ∷ [])) }
+    ensures changes { OnOk result (progress.new.changes ≡ progress.old.changes ++ (writes.now ++ token_writes batch.now.token batch.now.ops 0 (progress.old.replies.items ++ reply.now ∷ []))) }
+    ensures err { OnErr result (progress.new.changes ≡ progress.old.changes) }
+    ensures replies { progress.new.replies ≡ progress.old.replies }
+    ensures marks { progress.new.marks ≡ progress.old.marks }
 {
-    let all = all_replies(alloc, &course.replies, reply)?;
-    end_changes(&mut course.changes, batch, writes, &all)?;
+    let all = all_replies(alloc, &progress.replies, reply)?;
+    end_changes(&mut progress.changes, batch, writes, &all)?;
     Ok(Stage::Ready(all))
 }
 
 /// Records an operation, counted from 0, that has ended, and returns the stage after it. The error is out of memory, and then
 /// nothing has changed.
-fn ended(
+fn record_op(
     alloc: Global,
     begun: &Begun,
     batch: &Batch,
-    course: &mut Progress,
+    progress: &mut Progress,
     mark: &Mark,
     index: usize,
     reply: &OpReply,
     writes: &Changes,
 ) -> Result<Stage, AllocError>
     requires began { IsStartOf batch.now begun.now }
-    requires looked { Looked batch.now (base_of begun.now) course.old.marks.items course.old.changes course.old.replies.items index mark.now (Next.Ends reply.now writes.now) }
-    ensures holds_at_stage { IfOk result (λ stage. StageInvariant stage batch.now (base_of begun.now) (course.old.marks.items ++ mark.now ∷ []) course.new.changes course.new.replies.items) }
-    ensures err { OnErr result ((course.new.changes ≡ course.old.changes) × (course.new.replies.items ≡ course.old.replies.items)) }
-    ensures marks { course.new.marks ≡ course.old.marks }
+    requires looked { Looked batch.now (base_of begun.now) progress.old.marks.items progress.old.changes progress.old.replies.items index mark.now (Next.Ends reply.now writes.now) }
+    ensures holds_at_stage { IfOk result (λ stage. StageInvariant stage batch.now (base_of begun.now) (progress.old.marks.items ++ mark.now ∷ []) progress.new.changes progress.new.replies.items) }
+    ensures err { OnErr result ((progress.new.changes ≡ progress.old.changes) × (progress.new.replies.items ≡ progress.old.replies.items)) }
+    ensures marks { progress.new.marks ≡ progress.old.marks }
 {
     if index + 1 < batch.ops().len() {
-        end_op(course, reply, writes)?;
+        end_op(progress, reply, writes)?;
         return Ok(Stage::At(index + 1, Phase::First));
     }
     if batch.is_query() {
-        let stage = end_query(alloc, begun, course, reply)?;
+        let stage = end_query(alloc, begun, progress, reply)?;
         Ok(stage)
     } else {
-        let stage = end_changes_batch(alloc, batch, course, reply, writes)?;
+        let stage = end_changes_batch(alloc, batch, progress, reply, writes)?;
         Ok(stage)
     }
 }
@@ -190,22 +190,22 @@ pub(crate) fn take_down(
     alloc: Global,
     begun: &Begun,
     batch: &Batch,
-    course: &mut Progress,
+    progress: &mut Progress,
     mark: &Mark,
     found: Found,
 ) -> Result<Stage, Found>
     requires began { IsStartOf batch.now begun.now }
-    requires holds_at_stage { FoundInvariant mark.now found batch.now (base_of begun.now) course.old.marks.items course.old.changes course.old.replies.items }
-    ensures holds_at_stage { IfOk result (λ stage. StageInvariant stage batch.now (base_of begun.now) (course.old.marks.items ++ mark.now ∷ []) course.new.changes course.new.replies.items) }
+    requires holds_at_stage { FoundInvariant mark.now found batch.now (base_of begun.now) progress.old.marks.items progress.old.changes progress.old.replies.items }
+    ensures holds_at_stage { IfOk result (λ stage. StageInvariant stage batch.now (base_of begun.now) (progress.old.marks.items ++ mark.now ∷ []) progress.new.changes progress.new.replies.items) }
     ensures back { IfErr result (λ back. back ≡ found) }
-    ensures err { OnErr result ((course.new.changes ≡ course.old.changes) × (course.new.replies.items ≡ course.old.replies.items)) }
-    ensures marks { course.new.marks ≡ course.old.marks }
+    ensures err { OnErr result ((progress.new.changes ≡ progress.old.changes) × (progress.new.replies.items ≡ progress.old.replies.items)) }
+    ensures marks { progress.new.marks ≡ progress.old.marks }
 {
     match found {
         Found::Op(index, Next::Continues(phase)) => Ok(Stage::At(index, phase)),
-        Found::Op(index, Next::Refused(reason)) => Ok(refused(begun, index, reason)),
+        Found::Op(index, Next::Refused(reason)) => Ok(refuse(begun, index, reason)),
         Found::Op(index, Next::Ends(reply, writes)) => {
-            match ended(alloc, begun, batch, course, mark, index, &reply, &writes) {
+            match record_op(alloc, begun, batch, progress, mark, index, &reply, &writes) {
                 Ok(stage) => {
                     drop(reply);
                     drop(writes);
@@ -214,8 +214,8 @@ pub(crate) fn take_down(
                 Err(_) => Err(Found::Op(index, Next::Ends(reply, writes))),
             }
         }
-        Found::Kept(Some(kept)) => Ok(repeated_or_reused(begun, batch, kept)),
+        Found::Kept(Some(kept)) => Ok(repeat_or_refuse(begun, batch, kept)),
         Found::Kept(None) => Ok(Stage::At(0, Phase::First)),
-        Found::Gone => Ok(gone(begun)),
+        Found::Gone => Ok(refuse_gone(begun)),
     }
 }

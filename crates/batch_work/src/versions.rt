@@ -5,28 +5,16 @@ ghost use Rattle.std.specs.Option.{option_copied};
 ghost use Rattle.entry_book.specs.Batches.{past_place};
 ghost use Rattle.batch_work.specs.Working.{earlier_in};
 
-use crate::shared_window::SharedWindow;
 use crate::stage::Begun;
-use crate::window::Window;
+use crate::versioned::Versioned;
 use entry_book::{Batch, OpRefusal, Refusal};
 use std::marker::Model;
 use version_book::Version;
 
 /// Returns the version of the earlier book that a batch asks for, if it asks for one and the window has it.
-pub(crate) fn earlier_in<'a>(batch: &Batch, window: &'a Window) -> Option<&'a Version>
-    ensures found { option_copied result ≡ earlier_in (past_place batch.now.ops) window.now }
-    ensures earlier { IfSome result (λ version. (version.now.domain ≡ window.now.newest.domain) × (version.now.number ≤ window.now.newest.number)) }
-{
-    match batch.past_place() {
-        None => None,
-        Some(place) => window.book(place),
-    }
-}
-
-/// Returns the same of a shared window.
-pub(crate) fn earlier_in_shared<'a>(batch: &Batch, window: &'a SharedWindow) -> Option<&'a Version>
-    ensures found { option_copied result ≡ earlier_in (past_place batch.now.ops) window.now }
-    ensures earlier { IfSome result (λ version. (version.now.domain ≡ window.now.newest.domain) × (version.now.number ≤ window.now.newest.number)) }
+pub(crate) fn earlier_in<'a, W: Versioned>(batch: &Batch, window: &'a W) -> Option<&'a Version>
+    ensures found { option_copied result ≡ earlier_in (past_place batch.now.ops) (W.window window.now) }
+    ensures earlier { IfSome result (λ version. (version.now.domain ≡ (W.window window.now).newest.domain) × (version.now.number ≤ (W.window window.now).newest.number)) }
 {
     let place = batch.past_place()?;
     window.book(place)
@@ -66,24 +54,13 @@ impl<'a> Versions<'a> {
     ghost use Rattle.batch_work.specs.Working.{base_in, version_read};
 
     /// Returns those of a window.
-    pub(crate) fn in_window(batch: &Batch, window: &'a Window) -> Versions<'a>
-        ensures base { result ≡ base_in batch.now window.now }
-        ensures domain { IfSome result.earlier (λ earlier. earlier.domain ≡ window.now.newest.domain) }
+    pub(crate) fn of<W: Versioned>(batch: &Batch, window: &'a W) -> Versions<'a>
+        ensures base { result ≡ base_in batch.now (W.window window.now) }
+        ensures domain { IfSome result.earlier (λ earlier. earlier.domain ≡ (W.window window.now).newest.domain) }
     {
         Versions {
             newest: window.newest(),
             earlier: earlier_in(batch, window),
-        }
-    }
-
-    /// Returns those of a shared window.
-    pub(crate) fn in_shared(batch: &Batch, window: &'a SharedWindow) -> Versions<'a>
-        ensures base { result ≡ base_in batch.now window.now }
-        ensures domain { IfSome result.earlier (λ earlier. earlier.domain ≡ window.now.newest.domain) }
-    {
-        Versions {
-            newest: window.newest(),
-            earlier: earlier_in_shared(batch, window),
         }
     }
 

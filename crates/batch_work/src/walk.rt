@@ -20,7 +20,7 @@ struct WalkParts {
     /// The identities met, including the agent's own ID, in order.
     met: Vec<Shared<SpiffeId>>,
     /// Those of them that are pending: their children are still to be read. They are in order.
-    waiting: Vec<Shared<SpiffeId>>,
+    pending: Vec<Shared<SpiffeId>>,
     /// The entries found, in the order of their ids.
     found: Vec<Entry>,
 }
@@ -43,13 +43,13 @@ impl Model for Walk {
     ghost view = { λ walk. record {
       agent = walk.parts.value.agent;
       met = walk.parts.value.met.items;
-      waiting = walk.parts.value.waiting.items;
+      pending = walk.parts.value.pending.items;
       found = walk.parts.value.found.items;
     } };
 
     ghost invariant = { λ walk.
         Ascending (λ id. id) walk.parts.value.met.items
-        × Ascending (λ id. id) walk.parts.value.waiting.items
+        × Ascending (λ id. id) walk.parts.value.pending.items
         × Ascending entry_key walk.parts.value.found.items };
 }
 
@@ -66,7 +66,7 @@ impl Walk {
         let parts = WalkParts {
             agent,
             met,
-            waiting: Vec::new(alloc),
+            pending: Vec::new(alloc),
             found: Vec::new(alloc),
         };
         Ok(Walk {
@@ -82,11 +82,11 @@ impl Walk {
         let arrivals = arrivals_of(alloc, entries)?;
         let parts = &mut *self.parts;
         parts.met.reserve(arrivals.len())?;
-        parts.waiting.reserve(arrivals.len())?;
+        parts.pending.reserve(arrivals.len())?;
         parts.found.reserve(arrivals.len())?;
         put_arrivals(
             &mut parts.met,
-            &mut parts.waiting,
+            &mut parts.pending,
             &mut parts.found,
             arrivals,
         );
@@ -98,7 +98,7 @@ impl Walk {
         ensures { result ≡ is_walk_over (walked entries.now self.now) }
     {
         let parts = &*self.parts;
-        match parts.waiting.as_slice() {
+        match parts.pending.as_slice() {
             [] => are_met(parts.met.as_slice(), entries),
             [_, ..] => false,
         }
@@ -106,15 +106,15 @@ impl Walk {
 
     /// Removes and returns the least pending identity, if there is one. Allocates no memory.
     pub(crate) fn take_least(&mut self) -> Option<Shared<SpiffeId>>
-        ensures none { IfNone result ((self.old.waiting ≡ []) × (self.new ≡ self.old)) }
+        ensures none { IfNone result ((self.old.pending ≡ []) × (self.new ≡ self.old)) }
         ensures some { IfSome result (λ least.
-            (self.old.waiting ≡ least ∷ self.new.waiting)
-            × (self.new ≡ record self.old { waiting = self.new.waiting })) }
+            (self.old.pending ≡ least ∷ self.new.pending)
+            × (self.new ≡ record self.old { pending = self.new.pending })) }
     {
-        if self.parts.waiting.is_empty() {
+        if self.parts.pending.is_empty() {
             return None;
         }
-        Some(self.parts.waiting.remove(0))
+        Some(self.parts.pending.remove(0))
     }
 
     /// Returns the agent whose entries are searched.
@@ -141,7 +141,7 @@ impl Clone for Walk {
         let parts = WalkParts {
             agent: self.parts.agent.clone()?,
             met: self.parts.met.clone()?,
-            waiting: self.parts.waiting.clone()?,
+            pending: self.parts.pending.clone()?,
             found: self.parts.found.clone()?,
         };
         Ok(Walk {

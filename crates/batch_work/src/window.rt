@@ -5,6 +5,7 @@ ghost use Rattle.std.specs.Option.{option_copied};
 ghost use Rattle.batch_work.specs.WindowSlots.{held};
 ghost use Rattle.batch_work.specs.Windows.{ending};
 
+use crate::versioned::Versioned;
 use arrayvec::ArrayVec;
 use std::alloc::AllocError;
 use std::marker::Model;
@@ -22,11 +23,11 @@ fn push_last<T: Default + Drop>(items: &mut ArrayVec<T, 63>, item: T)
 }
 
 /// Returns the version in the slot with this index, if there is one.
-pub(crate) fn version_in(places: &[Option<Version>], index: usize) -> Option<&Version>
-    requires held { places.now ≡ map Some (held places.now) }
-    ensures { option_copied result ≡ slice_get (held places.now) index }
+pub(crate) fn version_in(slots: &[Option<Version>], index: usize) -> Option<&Version>
+    requires held { slots.now ≡ map Some (held slots.now) }
+    ensures { option_copied result ≡ slice_get (held slots.now) index }
 {
-    match places.get(index) {
+    match slots.get(index) {
         Some(Some(version)) => Some(version),
         _ => None,
     }
@@ -64,9 +65,8 @@ impl Model for Window {
 }
 
 impl Window {
-    ghost use Rattle.std.specs.Prelude.{◌≡◌, ◌≤◌, IfSome, [], ℕ};
-    ghost use Rattle.std.specs.Option.{option_copied};
-    ghost use Rattle.batch_work.specs.Windows.{Counted, IsNextVersion, pushed, version_at, versions};
+    ghost use Rattle.std.specs.Prelude.{◌≡◌, []};
+    ghost use Rattle.batch_work.specs.Windows.{IsNextVersion, pushed};
 
     /// Makes the window with this version alone.
     pub fn of(version: Version) -> Window
@@ -78,51 +78,6 @@ impl Window {
         }
     }
 
-    /// Returns the newest version.
-    pub fn newest(&self) -> &Version
-        ensures { result.now ≡ self.now.newest }
-    {
-        &self.newest
-    }
-
-    /// Returns the version with this number, if the window has it.
-    pub fn book(&self, number: u64) -> Option<&Version>
-        ensures found { option_copied result ≡ version_at number self.now }
-        ensures earlier { IfSome result (λ version. (version.now.domain ≡ self.now.newest.domain) × (version.now.number ≤ self.now.newest.number)) }
-    {
-        self.know_history();
-        let found = self.find(number);
-        found
-    }
-
-    /// Each version is the next one after the version before it. The function only brings this fact into a proof.
-    fn know_history(&self)
-        ensures { Counted (versions self.now) }
-    {
-        // the use of a field brings the type invariant into the proof
-        let _ = &self.newest;
-    }
-
-    /// Returns the version with this number, if the window has it.
-    fn find(&self, number: u64) -> Option<&Version>
-        ensures { option_copied result ≡ version_at number self.now }
-    {
-        let newest = self.newest.number();
-        if number >= newest {
-            return if number == newest {
-                Some(&self.newest)
-            } else {
-                None
-            };
-        }
-        let back = newest - number;
-        let count = self.older.as_slice().len() as u64;
-        if back > count {
-            return None;
-        }
-        version_in(self.older.as_slice(), (count - back) as usize)
-    }
-
     /// Adds the next version: that of the same trust domain with the next number. It drops the oldest one if there are 64.
     pub fn push(&mut self, version: Version)
         requires next { IsNextVersion self.old.newest version }
@@ -130,6 +85,22 @@ impl Window {
     {
         let before = mem::replace(&mut self.newest, version);
         push_last(&mut self.older, Some(before));
+    }
+}
+
+impl Versioned for Window {
+    ghost window = { λ window. window };
+
+    fn newest(&self) -> &Version {
+        &self.newest
+    }
+
+    fn back(&self, steps: u64) -> Option<&Version> {
+        let count = self.older.as_slice().len() as u64;
+        if steps > count {
+            return None;
+        }
+        version_in(self.older.as_slice(), (count - steps) as usize)
     }
 }
 

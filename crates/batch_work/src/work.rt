@@ -4,50 +4,39 @@ ghost use Rattle.std.specs.Prelude.{◌≡◌, ◌++◌, ◌∷◌, [], ◌+◌,
 ghost use Rattle.version_book.specs.declared.mark.MarkKind.{MarkKind};
 ghost use Rattle.batch_work.specs.WorkInvariants.{IsStartOf, IsRunning, StageInvariant, FoundInvariant, base_of};
 
-use crate::begin::{begun_on, first_stage};
+use crate::begin::{begin_on, first_stage};
 use crate::look::{look, next_mark};
-use crate::shared_window::SharedWindow;
 use crate::stage::{Begun, Found, Progress, Stage};
 use crate::status::Status;
 use crate::take::take_down;
-use crate::versions::{earlier_in, earlier_in_shared};
-use crate::window::Window;
+use crate::versioned::Versioned;
+use crate::versions::earlier_in;
 use entry_book::{Batch, OpReply, Reply, Sequence, Shared};
 use std::alloc::{AllocError, Global};
 use std::marker::Model;
 use std::mem::replace;
 use version_book::{Changes, Mark, Version};
 
-/// Appends a mark, for which there is room.
-fn push_reserved(marks: &mut Vec<Mark>, mark: Mark)
-    requires room { vec_len marks.old + 1 ≤ vec_capacity marks.old }
-    ensures { marks.new.items ≡ marks.old.items ++ mark ∷ [] }
-{
-    let Ok(()) = marks.push(mark) else {
-        unreachable!()
-    };
-}
-
 /// Records a read that was made, and its mark, for which there is room. Returns the stage after it, and true. If memory runs
 /// out, it returns false, and the read is still to be recorded.
-fn taken(
+fn record_read(
     alloc: Global,
     begun: &Begun,
     batch: &Batch,
-    course: &mut Progress,
+    progress: &mut Progress,
     mark: Mark,
     found: Found,
 ) -> (Stage, bool)
     requires began { IsStartOf batch.now begun.now }
-    requires room { vec_len course.old.marks + 1 ≤ vec_capacity course.old.marks }
-    requires holds_at_stage { FoundInvariant mark found batch.now (base_of begun.now) course.old.marks.items course.old.changes course.old.replies.items }
-    ensures holds_at_stage { StageInvariant result.0 batch.now (base_of begun.now) course.new.marks.items course.new.changes course.new.replies.items }
-    ensures kept { result.1 ≡ true → length course.new.marks.items ≡ length course.old.marks.items + 1 }
-    ensures is_unchanged { result.1 ≡ false → course.new.marks.items ≡ course.old.marks.items }
+    requires room { vec_len progress.old.marks + 1 ≤ vec_capacity progress.old.marks }
+    requires holds_at_stage { FoundInvariant mark found batch.now (base_of begun.now) progress.old.marks.items progress.old.changes progress.old.replies.items }
+    ensures holds_at_stage { StageInvariant result.0 batch.now (base_of begun.now) progress.new.marks.items progress.new.changes progress.new.replies.items }
+    ensures kept { result.1 ≡ true → length progress.new.marks.items ≡ length progress.old.marks.items + 1 }
+    ensures is_unchanged { result.1 ≡ false → progress.new.marks.items ≡ progress.old.marks.items }
 {
-    match take_down(alloc, begun, batch, course, &mark, found) {
+    match take_down(alloc, begun, batch, progress, &mark, found) {
         Ok(stage) => {
-            push_reserved(&mut course.marks, mark);
+            progress.marks.push_reserved(mark);
             (stage, true)
         }
         Err(found) => (Stage::Read(mark, found), false),
@@ -56,23 +45,23 @@ fn taken(
 
 /// Makes the next read of a running work, and records it and its mark, for which there is room. Returns the stage after it, and
 /// true. If memory runs out, it returns false, and the same read is still to be made or to be recorded.
-fn stepped(
+fn make_step(
     alloc: Global,
     begun: &Begun,
     batch: &Batch,
-    course: &mut Progress,
+    progress: &mut Progress,
     stage: Stage,
 ) -> (Stage, bool)
     requires began { IsStartOf batch.now begun.now }
-    requires room { vec_len course.old.marks + 1 ≤ vec_capacity course.old.marks }
-    requires holds_at_stage { StageInvariant stage batch.now (base_of begun.now) course.old.marks.items course.old.changes course.old.replies.items }
+    requires room { vec_len progress.old.marks + 1 ≤ vec_capacity progress.old.marks }
+    requires holds_at_stage { StageInvariant stage batch.now (base_of begun.now) progress.old.marks.items progress.old.changes progress.old.replies.items }
     requires running { IsRunning stage }
-    ensures holds_at_stage { StageInvariant result.0 batch.now (base_of begun.now) course.new.marks.items course.new.changes course.new.replies.items }
-    ensures kept { result.1 ≡ true → length course.new.marks.items ≡ length course.old.marks.items + 1 }
-    ensures is_unchanged { result.1 ≡ false → course.new.marks.items ≡ course.old.marks.items }
+    ensures holds_at_stage { StageInvariant result.0 batch.now (base_of begun.now) progress.new.marks.items progress.new.changes progress.new.replies.items }
+    ensures kept { result.1 ≡ true → length progress.new.marks.items ≡ length progress.old.marks.items + 1 }
+    ensures is_unchanged { result.1 ≡ false → progress.new.marks.items ≡ progress.old.marks.items }
 {
-    match look(alloc, begun, batch, course, stage) {
-        Ok((mark, found)) => taken(alloc, begun, batch, course, mark, found),
+    match look(alloc, begun, batch, progress, stage) {
+        Ok((mark, found)) => record_read(alloc, begun, batch, progress, mark, found),
         Err(stage) => (stage, false),
     }
 }
@@ -93,7 +82,7 @@ pub struct Work {
     alloc: Global,
     batch: Batch,
     begun: Option<Begun>,
-    course: Progress,
+    progress: Progress,
     stage: Stage,
 }
 
@@ -107,10 +96,10 @@ impl Model for Work {
     ghost view = { λ work. record {
       batch = work.batch;
       base = option_map base_of work.begun;
-      steps = length work.course.marks.items;
+      steps = length work.progress.marks.items;
     } };
 
-    ghost invariant = { λ work. WorkInvariant work.begun work.stage work.batch work.course.marks.items work.course.changes work.course.replies.items };
+    ghost invariant = { λ work. WorkInvariant work.begun work.stage work.batch work.progress.marks.items work.progress.changes work.progress.replies.items };
 }
 
 impl Work {
@@ -122,7 +111,7 @@ impl Work {
     pub fn new(alloc: Global, batch: Batch) -> Work
         ensures { result ≡ record { batch = batch; base = None; steps = 0 } }
     {
-        let course = Progress {
+        let progress = Progress {
             marks: Vec::new(alloc),
             changes: Changes::new(alloc),
             replies: Vec::new(alloc),
@@ -131,40 +120,23 @@ impl Work {
             alloc,
             batch,
             begun: None,
-            course,
+            progress,
             stage: Stage::New,
         }
     }
 
     /// Begins on a window of the trust domain that the batch was made for, whose number is within the limit on commits. A batch
     /// that may not run yet is settled immediately. The error is out of memory, and then nothing has changed.
-    pub fn begin(&mut self, window: &Window) -> Result<(), AllocError>
+    pub fn begin<W: Versioned>(&mut self, window: &W) -> Result<(), AllocError>
         requires is_new { status_of self.old ≡ Status.New }
-        requires fits { MayBegin self.old.batch window.now }
-        ensures begun { OnOk result (self.new ≡ record self.old { base = Some (base_in self.old.batch window.now) }) }
+        requires fits { MayBegin self.old.batch (W.window window.now) }
+        ensures begun { OnOk result (self.new ≡ record self.old { base = Some (base_in self.old.batch (W.window window.now)) }) }
         ensures err { OnErr result (self.new ≡ self.old) }
     {
         // its contract says that the batch was made for its trust domain
         let _ = self.batch.ops();
         let earlier = earlier_in(&self.batch, window);
-        let begun = begun_on(&self.batch, window.newest(), earlier)?;
-        let stage = first_stage(&self.batch, &begun);
-        self.begun = Some(begun);
-        discard(replace(&mut self.stage, stage));
-        Ok(())
-    }
-
-    /// Does the same on a shared window.
-    pub fn begin_shared(&mut self, window: &SharedWindow) -> Result<(), AllocError>
-        requires is_new { status_of self.old ≡ Status.New }
-        requires fits { MayBegin self.old.batch window.now }
-        ensures begun { OnOk result (self.new ≡ record self.old { base = Some (base_in self.old.batch window.now) }) }
-        ensures err { OnErr result (self.new ≡ self.old) }
-    {
-        // its contract says that the batch was made for its trust domain
-        let _ = self.batch.ops();
-        let earlier = earlier_in_shared(&self.batch, window);
-        let begun = begun_on(&self.batch, window.newest(), earlier)?;
+        let begun = begin_on(&self.batch, window.newest(), earlier)?;
         let stage = first_stage(&self.batch, &begun);
         self.begun = Some(begun);
         discard(replace(&mut self.stage, stage));
@@ -179,7 +151,7 @@ impl Work {
         let Some(begun) = &self.begun else {
             unreachable!()
         };
-        next_mark(begun, &self.batch, &self.course, &self.stage)
+        next_mark(begun, &self.batch, &self.progress, &self.stage)
     }
 
     /// Makes the next read; its mark is then the last of `marks`. After the last read of an operation, later operations see its
@@ -192,11 +164,23 @@ impl Work {
         let Some(begun) = &self.begun else {
             unreachable!()
         };
-        self.course.marks.reserve(1)?;
+        self.progress.marks.reserve(1)?;
         let stage = replace(&mut self.stage, Stage::New);
-        let (stage, is_made) = stepped(self.alloc, begun, &self.batch, &mut self.course, stage);
+        let (stage, is_made) = make_step(self.alloc, begun, &self.batch, &mut self.progress, stage);
         discard(replace(&mut self.stage, stage));
         if is_made { Ok(()) } else { Err(AllocError) }
+    }
+
+    /// Makes all reads that are left. The error is out of memory: then those that were made are recorded, and the call can be
+    /// repeated.
+    pub fn run(&mut self) -> Result<(), AllocError>
+        ensures is_over { OnOk result (status_of self.new ≡ Status.Running → ⊥) }
+        ensures same { self.new ≡ record self.old { steps = self.new.steps } }
+    {
+        while self.status() == Status::Running {
+            self.step()?;
+        }
+        Ok(())
     }
 
     /// Returns what the work waits for. Allocates no memory.
@@ -233,7 +217,7 @@ impl Work {
         ensures marks { result.now ≡ marks_so_far self.now }
         ensures steps { length result.now ≡ self.now.steps }
     {
-        self.course.marks.as_slice()
+        self.progress.marks.as_slice()
     }
 
     /// Returns the writes of the batch, in order, if the work is ready: those of its operations, then that of its token, with
@@ -241,7 +225,7 @@ impl Work {
     pub fn changes(&self) -> &Changes
         ensures { status_of self.now ≡ Status.Ready → HasWrites self.now result.now }
     {
-        &self.course.changes
+        &self.progress.changes
     }
 
     /// Returns the replies to the operations, if the work is ready.
@@ -273,12 +257,12 @@ impl Work {
         let Work {
             batch,
             begun,
-            course,
+            progress,
             stage,
             ..
         } = self;
         drop(begun);
-        drop(course);
+        drop(progress);
         discard(stage);
         batch
     }
@@ -291,13 +275,13 @@ impl Work {
         let Work {
             batch,
             begun,
-            course,
+            progress,
             stage,
             ..
         } = self;
         drop(batch);
         drop(begun);
-        drop(course);
+        drop(progress);
         match stage {
             Stage::Settled(answer) => Some(answer),
             _ => {

@@ -2,7 +2,7 @@
 
 use crate::running::{commit, end_text, ended};
 use crate::wanted::is_text;
-use batch_work::Window;
+use batch_work::{Versioned, Window};
 use std::alloc::Global;
 use std::process::Abort;
 use std::test::Fail;

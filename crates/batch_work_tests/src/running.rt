@@ -3,7 +3,7 @@
 ghost use Rattle.std.specs.Prelude.{◌≡◌, ◌≤◌, ◌^◌, true};
 ghost use Rattle.batch_work.specs.Windows.{IsNextVersion};
 
-use batch_work::{Status, Window, Work, answer};
+use batch_work::{Status, Versioned, Window, Work, answer};
 use entry_book::Batch;
 use std::alloc::Global;
 use std::test::Fail;
@@ -45,7 +45,7 @@ fn answered_text(alloc: Global, window: &Window, batch: &Batch) -> Result<String
         return Err(Fail::from("no window for this question"));
     }
     let borrowed = answer(alloc, batch, window)?;
-    let reply = borrowed.kept(alloc);
+    let reply = borrowed.to_owned(alloc);
     drop(borrowed);
     let reply = reply?;
     let text = reply_text(alloc, &reply);

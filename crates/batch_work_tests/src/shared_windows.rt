@@ -2,19 +2,17 @@
 
 ghost use Rattle.std.specs.Prelude.{◌≡◌, true};
 ghost use Rattle.batch_work.specs.Windows.{IsNextVersion};
-ghost use Rattle.batch_work.specs.Working.{MayBegin};
 
 use crate::playing::{first_window, found_number, newest_number, plays_on};
-use crate::running::{end_text, ended, run_to_end};
+use crate::running::{end_text, ended};
 use crate::wanted::{holds_at, is_text};
-use batch_work::{SharedWindow, Window, Work, answer_shared};
-use entry_book::Batch;
+use batch_work::{SharedWindow, Versioned, Window, Work, answer};
 use std::alloc::Global;
 use std::process::Abort;
 use std::test::Fail;
 use test_batches::{batch, reply_text};
 use test_support::if_done;
-use test_works::MOST;
+use test_works::{MOST, may_begin};
 use version_book::Version;
 
 fn is_next(window: &SharedWindow, version: &Version) -> bool
@@ -22,12 +20,6 @@ fn is_next(window: &SharedWindow, version: &Version) -> bool
 {
     let number = window.newest().number();
     number <= MOST && version.number() == number + 1 && version.domain() == window.newest().domain()
-}
-
-fn may_begin(window: &SharedWindow, batch: &Batch) -> bool
-    ensures { result ≡ true → MayBegin batch.now window.now }
-{
-    batch.domain() == window.newest().domain() && window.newest().number() <= MOST
 }
 
 /// The shared window after this one and the version, which must be the next one.
@@ -122,11 +114,6 @@ fn a_shared_window_has_the_versions_of_a_window(rt: HostRuntime) -> Result<(), F
     played
 }
 
-fn runs(alloc: Global, work: &mut Work) -> Result<(), Fail> {
-    run_to_end(alloc, work)?;
-    Ok(())
-}
-
 /// The outcome of a batch on the shared window.
 fn shared_text(alloc: Global, shared: &SharedWindow, text: &str) -> Result<String, Fail> {
     let batch = batch(alloc, text)?;
@@ -135,24 +122,24 @@ fn shared_text(alloc: Global, shared: &SharedWindow, text: &str) -> Result<Strin
         return Err(Fail::from("no window for this batch"));
     }
     let mut work = Work::new(alloc, batch);
-    let begun = work.begin_shared(shared);
+    let begun = work.begin(shared);
     let mut work = if_done(begun, work)?;
-    let ran = runs(alloc, &mut work);
+    let ran = work.run();
     let work = if_done(ran, work)?;
     let as_text = end_text(alloc, &work);
     drop(work);
     as_text
 }
 
-/// The reply of `answer_shared` to a read-only batch.
+/// The reply of `answer` to a read-only batch.
 fn answered_text(alloc: Global, shared: &SharedWindow, text: &str) -> Result<String, Fail> {
     let batch = batch(alloc, text)?;
     if !batch.is_query() || !may_begin(shared, &batch) {
         drop(batch);
         return Err(Fail::from("no window for this question"));
     }
-    let borrowed = answer_shared(alloc, &batch, shared)?;
-    let reply = borrowed.kept(alloc);
+    let borrowed = answer(alloc, &batch, shared)?;
+    let reply = borrowed.to_owned(alloc);
     drop(borrowed);
     let reply = reply?;
     let text = reply_text(alloc, &reply);

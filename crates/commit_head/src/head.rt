@@ -7,7 +7,7 @@ use crate::commit::Commit;
 use crate::item::Item;
 use crate::prepare::prepared;
 use crate::prepared::Prepared;
-use batch_work::{Status, Window, Work};
+use batch_work::{Status, Versioned, Window, Work};
 use spiffe_name::TrustDomain;
 use std::alloc::{AllocError, Global};
 use std::marker::Model;

@@ -3,6 +3,7 @@
 use crate::telling::{commit_text, item_text};
 use crate::test_head::TestHead;
 use crate::wanted::is_text;
+use batch_work::Versioned;
 use commit_head::{Commit, Item};
 use std::alloc::{AllocError, Global};
 use std::process::Abort;

@@ -5,7 +5,7 @@ ghost use Rattle.batch_work.specs.Working.{status_of};
 ghost use Rattle.batch_work.specs.declared.status.Status.TheVariants as status;
 ghost use Rattle.commit_head.specs.Heads.{BeganOn, IsCommit};
 
-use batch_work::{Status, Work};
+use batch_work::{Status, Versioned, Work};
 use commit_head::{Commit, Head, Item};
 use entry_book::Batch;
 use spiffe_name::TrustDomain;

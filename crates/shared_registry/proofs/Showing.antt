@@ -1,32 +1,35 @@
 -- Properties of a published value.
-use Rattle.std.proofs.Common.{◌≡◌, ℕ, ◌<◌, ◌≤◌, ◌^◌, List, length, sym, subst, arith}
+use Rattle.std.proofs.Common.{◌≡◌, ℕ, ◌<◌, ◌≤◌, ◌^◌, List, length, sym, ap, subst, ◌∙◌, arith}
 use Rattle.std.specs.Prelude.{slice_index}
 use Rattle.entry_book.specs.Rows.{Bytes}
-use Rattle.entry_book.specs.Batches.{Batch, IsMadeFor}
-use Rattle.entry_book.specs.History.{books_of}
+use Rattle.entry_book.specs.Batches.{Batch}
 use Rattle.batch_work.specs.Windows.{Window}
-use Rattle.batch_work.specs.Working.{base_in, footprint_there}
-use Rattle.batch_work.proofs.Windows.{window_represents}
+use Rattle.batch_work.specs.declared.status.Status.TheVariants.{Running}
+use Rattle.batch_work.specs.Working.{Work, status_of}
 use Rattle.commit_head.specs.declared.item.Item.{Item}
 use Rattle.commit_head.specs.Heads.{IsJournal}
-use Rattle.commit_head.specs.Journals.{IsLawfulJournal, batches_of}
-use Rattle.commit_head.proofs.FewReads.{journal_reads_few}
+use Rattle.commit_head.specs.Journals.{IsLawfulJournal}
 use Rattle.commit_head.proofs.Journals.{journal_is_lawful, low}
 use Rattle.commit_head.proofs.OnBooks.{led_to}
+use Rattle.shared_registry.specs.Shown.{Shown}
 use Rattle.shared_registry.specs.ShownPrivate.{ShowsJournal, whole_head}
+use Rattle.shared_registry.specs.Works.{IsAtEnd, IsBegun}
 use Rattle.shared_registry.proofs.Calls.{calls_length}
 
 -- its journal is lawful
 pub lawful_shown : (domain : Bytes) (items : List Item) (w : Window) (counts : List ℕ) → w.newest.domain ≡ domain → ShowsJournal items w counts → IsLawfulJournal domain items
 lawful_shown domain items w counts e s = subst (λ d. IsLawfulJournal d items) e (journal_is_lawful w.newest.domain items w.newest s.journal.leads s.once)
 
--- ---- no batch makes many reads on its books
+-- ---- a work that has begun on it, after more reads
 
-pub reads_few : (batch : Batch) (items : List Item) (w : Window) → batch.domain ≡ w.newest.domain → IsMadeFor batch.domain batch → IsJournal items (whole_head w items) → length (footprint_there batch (base_in batch w)) ≤ 2 ^ 21
-reads_few batch items w e made k =
-    let own_domain = w.newest.domain in
-    let few = journal_reads_few own_domain items w.newest batch k.leads (subst (λ d. IsMadeFor d batch) e made) in
-    subst (λ l. length l ≤ 2 ^ 21) (sym (window_represents batch w (books_of (batches_of items)) k.shown).reads) few
+pub at_end : (batch : Batch) (snapshot : Shown) (w w' : Work) → IsBegun batch snapshot w → w' ≡ record w { steps = w'.steps } → (status_of w' ≡ Running → ⊥) → IsAtEnd batch snapshot w'
+at_end batch snapshot w w' b same over = record {
+  begun = record {
+    batch_is = ap (λ w. w.batch) same ∙ b.batch_is;
+    base_is = ap (λ w. w.base) same ∙ b.base_is;
+  };
+  over = over;
+}
 
 -- ---- the length of a journal
 

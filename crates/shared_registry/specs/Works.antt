@@ -14,11 +14,6 @@ pub record IsBegun (batch : Batch) (snapshot : Shown) (w : Work) : Type 0 where
   pub batch_is : w.batch ≡ batch
   pub base_is : w.base ≡ Some (base_in batch snapshot.window)
 
--- and it has made no read
-pub record HasJustBegun (batch : Batch) (snapshot : Shown) (w : Work) : Type 0 where
-  pub begun : IsBegun batch snapshot w
-  pub fresh : w.steps ≡ 0
-
 -- and it has no read left to make
 pub record IsAtEnd (batch : Batch) (snapshot : Shown) (w : Work) : Type 0 where
   pub begun : IsBegun batch snapshot w

@@ -7,7 +7,7 @@ ghost use Rattle.shared_registry.specs.SeatCalls.{calls_of};
 ghost use Rattle.shared_registry.specs.ShownPrivate.{IsCounted, IsOf, ShowsJournal};
 
 use crate::history::{HistoryPrefix, RegistryId, SeenEntries};
-use batch_work::SharedWindow;
+use batch_work::{SharedWindow, Versioned};
 use commit_head::{Head, Item};
 use entry_book::Shared;
 use left_right::Absorb;

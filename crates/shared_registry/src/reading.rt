@@ -12,7 +12,7 @@ use crate::history::{HistoryPrefix, RegistryId};
 use crate::published::PublishedValue;
 use crate::rule::{PublishedRule, Sees, View};
 use crate::seat::{NoAnswer, NoEntry};
-use batch_work::{BorrowedReply, answer_shared};
+use batch_work::{BorrowedReply, answer};
 use entry_book::Batch;
 use left_right::reader::Reader;
 use std::alloc::{AllocError, Global};
@@ -125,5 +125,5 @@ pub(crate) fn borrowed_answer<'a>(
     ensures place { IfOk result (λ reply. reply.place ≡ length snapshot.now.journal) }
 {
     let _ = batch.ops();
-    answer_shared(alloc, batch, snapshot.window())
+    answer(alloc, batch, snapshot.window())
 }

@@ -13,7 +13,7 @@ use crate::gate::{Gate, Point};
 use crate::history::{HistoryPrefix, RegistryId};
 use crate::published::PublishedValue;
 use crate::reading::{SeatReader, borrowed_answer, find};
-use crate::run::{begun, ran};
+use crate::run::{begin_work, run_work};
 use batch_work::{BorrowedReply, Work};
 use commit_head::Item;
 use entry_book::{Batch, Reply};
@@ -272,12 +272,12 @@ impl<J: RegistryId> Seat<J> {
         let _made = batch.ops();
         let _place = prefix.len();
         let _window = self.snapshot.window();
-        let Ok(work) = begun(self.alloc, &self.snapshot, batch) else {
+        let Ok(work) = begin_work(self.alloc, &self.snapshot, batch) else {
             return Err(NoAnswer::NoMemory);
         };
         self.seen = prefix;
         gate.pass(Point::AfterBegin, self.number as u32, self.calls);
-        match ran(&self.snapshot, work) {
+        match run_work(&self.snapshot, work) {
             Ok(work) => Ok(work),
             Err(AllocError) => Err(NoAnswer::NoMemory),
         }
@@ -362,7 +362,7 @@ impl<J: RegistryId> Seat<J> {
         ensures place { IfOk result (λ reply. reply.place ≡ length self.now.found) }
     {
         let borrowed = self.answer(batch)?;
-        let reply = borrowed.kept(self.alloc);
+        let reply = borrowed.to_owned(self.alloc);
         drop(borrowed);
         reply
     }

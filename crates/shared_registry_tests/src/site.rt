@@ -73,7 +73,7 @@ fn query<J: RegistryId>(
     }
     seat.look()?;
     let borrowed = seat.answer(&batch)?;
-    let reply = borrowed.kept(alloc);
+    let reply = borrowed.to_owned(alloc);
     drop(borrowed);
     drop(batch);
     seat.see_found();
@@ -103,7 +103,7 @@ fn query_after<J: RegistryId, R: Wait>(
     match registry.submit(rt, seat, &OpenGate, changes, 1) {
         Outcome::Committed(_) => {
             let borrowed = seat.answer(query)?;
-            let reply = borrowed.kept(alloc);
+            let reply = borrowed.to_owned(alloc);
             drop(borrowed);
             Ok(reply?)
         }
@@ -144,7 +144,7 @@ fn shows_last<J: RegistryId>(
         return Err(Failed("a batch isn't for a query"));
     }
     let borrowed = closed.answer(alloc, &query)?;
-    let reply = borrowed.kept(alloc);
+    let reply = borrowed.to_owned(alloc);
     drop(borrowed);
     let is_whole = last.receipt.place() == closed.place() && last.seat.place() == closed.place();
     if is_whole && reply_text(alloc, &reply?)? == last.reply {

@@ -10,7 +10,7 @@ ghost use Rattle.version_book.specs.Written.{placed};
 ghost use Rattle.batch_work.specs.declared.status.Status.TheVariants as status;
 ghost use Rattle.batch_work.specs.Working.{IsAccepted, MayBegin, status_of};
 
-use batch_work::{Status, Window, Work};
+use batch_work::{Versioned, Window, Work};
 use entry_book::Batch;
 use std::alloc::{AllocError, Global};
 use std::test::Fail;
@@ -25,8 +25,8 @@ pub const MOST: u64 = 1_000_000;
 pub const STEPS: u64 = 10_000;
 
 /// Returns true if a work of the batch may begin on the window.
-pub fn may_begin(window: &Window, batch: &Batch) -> bool
-    ensures { result ≡ true → MayBegin batch.now window.now }
+pub fn may_begin<W: Versioned>(window: &W, batch: &Batch) -> bool
+    ensures { result ≡ true → MayBegin batch.now (W.window window.now) }
 {
     batch.domain() == window.newest().domain() && window.newest().number() <= MOST
 }
@@ -51,20 +51,10 @@ fn begun_on_version(alloc: Global, version: &Version, batch: Batch) -> Result<Wo
     work
 }
 
-fn run_to_end(work: &mut Work) -> Result<(), AllocError> {
-    for _ in 0..STEPS {
-        if work.status() != Status::Running {
-            break;
-        }
-        work.step()?;
-    }
-    Ok(())
-}
-
 /// Returns the work of the batch on the version, at its end.
 pub fn ended(alloc: Global, version: &Version, batch: Batch) -> Result<Work, Fail> {
     let mut work = begun_on_version(alloc, version, batch)?;
-    let ended = run_to_end(&mut work);
+    let ended = work.run();
     Ok(if_done(ended, work)?)
 }
 

@@ -8,7 +8,7 @@ ghost use Rattle.batch_work.specs.WalkStates.{first_walk, is_walk_over, walked};
 use crate::advance::answered;
 use crate::domains::domains_of;
 use crate::phase::{Next, Phase, WalkFor};
-use crate::rows::held;
+use crate::rows::held_among;
 use crate::walk::Walk;
 use entry_book::{Agent, Bundle, Entry, OpReply, Sequence, Shared};
 use spiffe_name::{SpiffeId, TrustDomain};
@@ -19,58 +19,63 @@ use std::alloc::{AllocError, Global};
 pub(crate) fn held_next(
     alloc: Global,
     server: &SpiffeId,
-    asked: WalkFor,
+    walk_for: WalkFor,
     agent: &Agent,
     entries: &[Entry],
 ) -> Result<Next, AllocError>
-    ensures { IfOk result (λ next. next ≡ Next.Continues (Phase.OfAgent asked
+    ensures { IfOk result (λ next. next ≡ Next.Continues (Phase.OfAgent walk_for
         (walked (filter (holds server.now agent.now) entries.now) (first_walk agent.now)))) }
 {
     let mut walk = Walk::new(alloc, agent.clone()?)?;
-    walk.continues(alloc, held(alloc, server, agent, entries)?)?;
-    Ok(Next::Continues(Phase::OfAgent(asked, walk)))
+    walk.continues(alloc, held_among(alloc, server, agent, entries)?)?;
+    Ok(Next::Continues(Phase::OfAgent(walk_for, walk)))
 }
 
 /// Returns what follows from the read of the agent's own children. If memory runs out, the error is the phase, unchanged.
 pub(crate) fn own_next(
     alloc: Global,
-    asked: WalkFor,
+    walk_for: WalkFor,
     walk: Walk,
     entries: Vec<Entry>,
 ) -> Result<Next, Phase>
-    ensures next { IfOk result (λ next. next ≡ walk_next asked (walked entries.items walk)) }
-    ensures back { IfErr result (λ back. back ≡ Phase.OfAgent asked walk) }
+    ensures next { IfOk result (λ next. next ≡ walk_next walk_for (walked entries.items walk)) }
+    ensures back { IfErr result (λ back. back ≡ Phase.OfAgent walk_for walk) }
 {
-    match walk_next(alloc, asked, walk, entries) {
+    match walk_next(alloc, walk_for, walk, entries) {
         Ok(next) => Ok(next),
-        Err(walk) => Err(Phase::OfAgent(asked, walk)),
+        Err(walk) => Err(Phase::OfAgent(walk_for, walk)),
     }
 }
 
 /// Returns what follows from the read of the children of an identity. If memory runs out, the error is the phase, unchanged.
 pub(crate) fn identity_next(
     alloc: Global,
-    asked: WalkFor,
+    walk_for: WalkFor,
     walk: Walk,
     identity: Shared<SpiffeId>,
     entries: Vec<Entry>,
 ) -> Result<Next, Phase>
-    ensures next { IfOk result (λ next. next ≡ walk_next asked (walked entries.items walk)) }
-    ensures back { IfErr result (λ back. back ≡ Phase.Identity asked walk identity) }
+    ensures next { IfOk result (λ next. next ≡ walk_next walk_for (walked entries.items walk)) }
+    ensures back { IfErr result (λ back. back ≡ Phase.Identity walk_for walk identity) }
 {
-    match walk_next(alloc, asked, walk, entries) {
+    match walk_next(alloc, walk_for, walk, entries) {
         Ok(next) => Ok(next),
-        Err(walk) => Err(Phase::Identity(asked, walk, identity)),
+        Err(walk) => Err(Phase::Identity(walk_for, walk, identity)),
     }
 }
 
 /// Adds the entries of a read to the walk. The next read is that of the children of the least pending identity; if none is
 /// pending, the walk is over. If memory runs out, the error is the walk, unchanged.
-fn walk_next(alloc: Global, asked: WalkFor, walk: Walk, entries: Vec<Entry>) -> Result<Next, Walk>
-    ensures next { IfOk result (λ next. next ≡ walk_next asked (walked entries.items walk)) }
+fn walk_next(
+    alloc: Global,
+    walk_for: WalkFor,
+    walk: Walk,
+    entries: Vec<Entry>,
+) -> Result<Next, Walk>
+    ensures next { IfOk result (λ next. next ≡ walk_next walk_for (walked entries.items walk)) }
     ensures back { IfErr result (λ back. back ≡ walk) }
 {
-    match asked {
+    match walk_for {
         WalkFor::Entries => entries_next(alloc, walk, entries),
         WalkFor::Bundles => {
             if !walk.ends_with(entries.as_slice()) {

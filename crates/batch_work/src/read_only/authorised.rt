@@ -54,7 +54,7 @@ fn held_aliases<'a>(
 
 /// Begins the walk: it has found the aliases that the agent holds and the agent's own children. The next read is that of its
 /// first identity. The error is out of memory.
-fn begun<'a>(
+fn begin_walk<'a>(
     alloc: Global,
     version: &'a Version,
     agent: &'a Agent,
@@ -107,7 +107,7 @@ fn authorised_of<'a>(
 ) -> Result<Vec<Borrowed<'a, Entry>>, AllocError>
     ensures { IfOk result (λ found. found.items ≡ authorised (server_text version.now.domain) agent.now (book_in version.now)) }
 {
-    let mut walk = begun(alloc, version, agent)?;
+    let mut walk = begin_walk(alloc, version, agent)?;
     to_end(version, agent, &mut walk)?;
     Ok(walk.into_found())
 }

@@ -26,7 +26,7 @@ pub(crate) struct BorrowedWalk<'a> {
     /// The identities met, including the agent's own ID, in order.
     met: Vec<BorrowedId<'a>>,
     /// Those of them that are pending: their children are still to be read. They are in order.
-    waiting: Vec<BorrowedId<'a>>,
+    pending: Vec<BorrowedId<'a>>,
     /// The entries found, in the order of their ids.
     found: Vec<Borrowed<'a, Entry>>,
 }
@@ -41,13 +41,13 @@ impl<'a> Model for BorrowedWalk<'a> {
     ghost view = { λ walk. record {
       agent = walk.agent.now;
       met = walk.met.items;
-      waiting = walk.waiting.items;
+      pending = walk.pending.items;
       found = walk.found.items;
     } };
 
     ghost invariant = { λ walk.
         Ascending (λ id. id) walk.met.items
-        × Ascending (λ id. id) walk.waiting.items
+        × Ascending (λ id. id) walk.pending.items
         × Ascending entry_key walk.found.items };
 }
 
@@ -64,7 +64,7 @@ impl<'a> BorrowedWalk<'a> {
         Ok(BorrowedWalk {
             agent,
             met,
-            waiting: Vec::with_capacity(alloc, FEW)?,
+            pending: Vec::with_capacity(alloc, FEW)?,
             found: Vec::with_capacity(alloc, FEW)?,
         })
     }
@@ -73,7 +73,7 @@ impl<'a> BorrowedWalk<'a> {
     fn takes_in(&mut self, entry: Borrowed<'a, Entry>) -> Result<(), AllocError>
         ensures { OnOk result (self.new ≡ with_found entry.entry self.old) }
     {
-        put_met(&mut self.met, &mut self.waiting, entry.get().identity())?;
+        put_met(&mut self.met, &mut self.pending, entry.get().identity())?;
         put(&mut self.found, entry)?;
         Ok(())
     }
@@ -90,15 +90,15 @@ impl<'a> BorrowedWalk<'a> {
 
     /// Removes and returns the least pending identity, if there is one. Allocates no memory.
     pub(crate) fn take_least(&mut self) -> Option<BorrowedId<'a>>
-        ensures none { IfNone result ((self.old.waiting ≡ []) × (self.new ≡ self.old)) }
+        ensures none { IfNone result ((self.old.pending ≡ []) × (self.new ≡ self.old)) }
         ensures some { IfSome result (λ least.
-            (self.old.waiting ≡ least ∷ self.new.waiting)
-            × (self.new ≡ record self.old { waiting = self.new.waiting })) }
+            (self.old.pending ≡ least ∷ self.new.pending)
+            × (self.new ≡ record self.old { pending = self.new.pending })) }
     {
-        if self.waiting.is_empty() {
+        if self.pending.is_empty() {
             return None;
         }
-        Some(self.waiting.remove(0))
+        Some(self.pending.remove(0))
     }
 
     /// Returns the entries found, in the order of their ids. Allocates no memory.
@@ -112,17 +112,17 @@ impl<'a> BorrowedWalk<'a> {
 /// Adds the identity to those met and to the pending ones, if it wasn't met yet. The error is out of memory.
 fn put_met<'a>(
     met: &mut Vec<BorrowedId<'a>>,
-    waiting: &mut Vec<BorrowedId<'a>>,
+    pending: &mut Vec<BorrowedId<'a>>,
     identity: &'a Shared<SpiffeId>,
 ) -> Result<(), AllocError>
     requires met_order { Ascending (λ id. id) met.old.items }
-    requires waiting_order { Ascending (λ id. id) waiting.old.items }
+    requires pending_order { Ascending (λ id. id) pending.old.items }
     ensures met { OnOk result (met.new.items ≡ met_when (is_one_of identity.now met.old.items) identity.now met.old.items) }
-    ensures waiting { OnOk result (waiting.new.items ≡ met_when (is_one_of identity.now met.old.items) identity.now waiting.old.items) }
-    ensures order { Ascending (λ id. id) met.new.items × Ascending (λ id. id) waiting.new.items }
+    ensures pending { OnOk result (pending.new.items ≡ met_when (is_one_of identity.now met.old.items) identity.now pending.old.items) }
+    ensures order { Ascending (λ id. id) met.new.items × Ascending (λ id. id) pending.new.items }
 {
     if put(met, Borrowed::of(identity))? {
-        put(waiting, Borrowed::of(identity))?;
+        put(pending, Borrowed::of(identity))?;
     }
     Ok(())
 }

@@ -19,20 +19,20 @@ loop-arrival-preserved c =
     let next = c.in-Some.ensures.steps.0 in
     let count : length (into_iter_items c.loop-arrival.arrival-iterator) ≡ length rest + 1 = omega (arith, ap length next) in
     let met_room = before.met_room in
-    let waiting_room = before.waiting_room in
+    let pending_room = before.pending_room in
     let found_room = before.found_room in
     let met_len = put.met_len in
-    let waiting_len = put.waiting_len in
+    let pending_len = put.pending_len in
     let found_len = put.found_len in
     record {
       met_order = subst (Ascending (λ id. id)) (sym put.met) (ascending_met met e.identity c.loop-arrival.met.items before.met_order);
-      waiting_order = subst (Ascending (λ id. id)) (sym put.waiting) (ascending_met met e.identity c.loop-arrival.waiting.items before.waiting_order);
+      pending_order = subst (Ascending (λ id. id)) (sym put.pending) (ascending_met met e.identity c.loop-arrival.pending.items before.pending_order);
       found_order = subst (Ascending entry_key) (sym put.found) (ascending-with_row entry_key e.id (Some e) c.loop-arrival.found.items before.found_order refl);
       met_room = omega arith;
-      waiting_room = omega arith;
+      pending_room = omega arith;
       found_room = omega arith;
       left = λ agent.
-          walked_next agent e rest c.loop-arrival.met.items c.loop-arrival.waiting.items c.put_arrival.new.met.items c.put_arrival.new.waiting.items c.loop-arrival.found.items c.put_arrival.new.found.items put.met put.waiting put.found
-          ∙ (ap (λ es. walked es (record { agent = agent; met = c.loop-arrival.met.items; waiting = c.loop-arrival.waiting.items; found = c.loop-arrival.found.items })) (sym next)
+          walked_next agent e rest c.loop-arrival.met.items c.loop-arrival.pending.items c.put_arrival.new.met.items c.put_arrival.new.pending.items c.loop-arrival.found.items c.put_arrival.new.found.items put.met put.pending put.found
+          ∙ (ap (λ es. walked es (record { agent = agent; met = c.loop-arrival.met.items; pending = c.loop-arrival.pending.items; found = c.loop-arrival.found.items })) (sym next)
           ∙ before.left agent);
     }

@@ -11,10 +11,10 @@ use Rattle.batch_work.proofs.arrivals.put_arrivals.Given as goal
 abbrev pub invariant-loop-arrival : goal.invariant-loop-arrival
 invariant-loop-arrival l = record {
   met_order : Ascending (λ id. id) l.met.items;
-  waiting_order : Ascending (λ id. id) l.waiting.items;
+  pending_order : Ascending (λ id. id) l.pending.items;
   found_order : Ascending entry_key l.found.items;
   met_room : vec_len l.met + length (into_iter_items l.arrival-iterator) ≤ vec_capacity l.met;
-  waiting_room : vec_len l.waiting + length (into_iter_items l.arrival-iterator) ≤ vec_capacity l.waiting;
+  pending_room : vec_len l.pending + length (into_iter_items l.arrival-iterator) ≤ vec_capacity l.pending;
   found_room : vec_len l.found + length (into_iter_items l.arrival-iterator) ≤ vec_capacity l.found;
-  left : (agent : Agent) → walked (into_iter_items l.arrival-iterator) (record { agent = agent; met = l.met.items; waiting = l.waiting.items; found = l.found.items }) ≡ walked l.fn.arrivals.items (record { agent = agent; met = l.fn.met.items; waiting = l.fn.waiting.items; found = l.fn.found.items });
+  left : (agent : Agent) → walked (into_iter_items l.arrival-iterator) (record { agent = agent; met = l.met.items; pending = l.pending.items; found = l.found.items }) ≡ walked l.fn.arrivals.items (record { agent = agent; met = l.fn.met.items; pending = l.fn.pending.items; found = l.fn.found.items });
 }

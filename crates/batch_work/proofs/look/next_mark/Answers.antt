@@ -8,15 +8,15 @@ use Rattle.batch_work.proofs.look.next_mark.Goals as goal
 
 pub returns-in-At : goal.returns-in-At
 returns-in-At c =
-    let course = c.args.course.now in
-    let going = subst (λ g. StageInvariant g c.args.batch.now (base_of c.args.begun.now) course.marks.items course.changes course.replies.items) c.in-At.is c.requires.holds_at_stage in
+    let progress = c.args.progress.now in
+    let going = subst (λ g. StageInvariant g c.args.batch.now (base_of c.args.begun.now) progress.marks.items progress.changes progress.replies.items) c.in-At.is c.requires.holds_at_stage in
     IfOk-weaker c.mark_of.result _ _ (λ mark e.
-    next_in_op c.args.batch.now (base_of c.args.begun.now) course.marks.items course.changes course.replies.items c.in-At.index c.in-At.phase going c.ops.result.now c.index-ops-index.result c.ops.ensures.ops c.index-ops-index.is c.args.begun.now.server c.requires.began.server_is mark e) c.mark_of.ensures
+    next_in_op c.args.batch.now (base_of c.args.begun.now) progress.marks.items progress.changes progress.replies.items c.in-At.index c.in-At.phase going c.ops.result.now c.index-ops-index.result c.ops.ensures.ops c.index-ops-index.is c.args.begun.now.server c.requires.began.server_is mark e) c.mark_of.ensures
 
 pub returns-in-Read : goal.returns-in-Read
 returns-in-Read c =
-    let course = c.args.course.now in
-    let read = subst (λ g. StageInvariant g c.args.batch.now (base_of c.args.begun.now) course.marks.items course.changes course.replies.items) c.in-Read.is c.requires.holds_at_stage in
+    let progress = c.args.progress.now in
+    let read = subst (λ g. StageInvariant g c.args.batch.now (base_of c.args.begun.now) progress.marks.items progress.changes progress.replies.items) c.in-Read.is c.requires.holds_at_stage in
     let there = footprint_there c.args.batch.now (base_of c.args.begun.now) in
-    when_copied (λ mark. slice_get there (length course.marks.items) ≡ Some mark) c.in-Read.mark
-    (next_read c.args.batch.now (base_of c.args.begun.now) course.marks.items course.changes course.replies.items c.in-Read.mark c.in-Read.field-1 read) _ c.clone.result c.clone.ensures.cases
+    when_copied (λ mark. slice_get there (length progress.marks.items) ≡ Some mark) c.in-Read.mark
+    (next_read c.args.batch.now (base_of c.args.begun.now) progress.marks.items progress.changes progress.replies.items c.in-Read.mark c.in-Read.field-1 read) _ c.clone.result c.clone.ensures.cases

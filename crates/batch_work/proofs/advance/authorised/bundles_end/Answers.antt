@@ -1,13 +1,13 @@
 use Rattle.std.proofs.Common.{◌≡◌, true, List, [], ◌∷◌, refl, sym, ap, ◌∙◌}
 use Rattle.entry_book.specs.Rows.{Bytes}
-use Rattle.batch_work.specs.declared.phase.WalkFor.TheVariants as asked
+use Rattle.batch_work.specs.declared.phase.WalkFor.TheVariants as walk_for
 use Rattle.batch_work.specs.Reads.{domains_of}
 use Rattle.batch_work.specs.Steps.{identity_next, next_trusted, trusted_next}
 use Rattle.batch_work.specs.WalkStates.{WalkState, is_empty, walked}
 use Rattle.batch_work.proofs.advance.authorised.bundles_end.Goals as goal
 
 -- a walk without a pending identity is over
-over : (is : List Bytes) (w : WalkState) → is_empty is ≡ true → identity_next is asked.Bundles w ≡ trusted_next (domains_of w.found) 0 []
+over : (is : List Bytes) (w : WalkState) → is_empty is ≡ true → identity_next is walk_for.Bundles w ≡ trusted_next (domains_of w.found) 0 []
 over [] w h = refl
 over (i ∷ is) w h = cc
 
@@ -20,4 +20,4 @@ returns c =
     c.trusted_next.ensures
     ∙ (ap (λ next. next_trusted next c.of-domains.result 0 c.empty.result) c.in_ok-next.ensures.domain
     ∙ (ap (trusted_next c.of-domains.result 0) c.empty.ensures
-    ∙ (ap (λ ds. trusted_next ds 0 []) domains ∙ sym (over w.waiting w c.requires.over))))
+    ∙ (ap (λ ds. trusted_next ds 0 []) domains ∙ sym (over w.pending w c.requires.over))))

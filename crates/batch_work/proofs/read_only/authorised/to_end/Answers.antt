@@ -28,7 +28,7 @@ loop-preserved c =
     let i = c.in-Some.identity in
     let taken = c.in-Some.ensures.some in
     subst (Walking s c.args.agent.now b (c.loop.counter + 1)) (sym (c.in_ok-read_children-in-Some.ensures ∙ (ap (λ j. walked (children_of j b) c.take_least.new.self) c.get.ensures ∙ ap (walked (children_of i b)) taken.1)))
-    (walk_extends s c.args.agent.now b c.number.ensures.lawful.ascending c.loop.counter c.loop.walk i c.take_least.new.self.waiting c.loop.invariant taken.0)
+    (walk_extends s c.args.agent.now b c.number.ensures.lawful.ascending c.loop.counter c.loop.walk i c.take_least.new.self.pending c.loop.invariant taken.0)
 
 pub returns : goal.returns
 returns c =

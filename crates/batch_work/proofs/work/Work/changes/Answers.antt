@@ -7,5 +7,5 @@ use Rattle.batch_work.proofs.work.Work.changes.Goals as goal
 pub returns : goal.returns
 returns c = λ e.
     let i = c.self.inside in
-    subst (λ w. HasWrites w i.course.changes) c.self.view_is
-    (ready_writes i.begun i.stage i.batch i.course.marks.items i.course.changes i.course.replies.items c.self.invariant (subst (λ w. status_of w ≡ status.Ready) (sym c.self.view_is) e))
+    subst (λ w. HasWrites w i.progress.changes) c.self.view_is
+    (ready_writes i.begun i.stage i.batch i.progress.marks.items i.progress.changes i.progress.replies.items c.self.invariant (subst (λ w. status_of w ≡ status.Ready) (sym c.self.view_is) e))

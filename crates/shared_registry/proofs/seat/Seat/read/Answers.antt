@@ -6,7 +6,7 @@ use Rattle.shared_registry.specs.ShownPrivate.{whole_head}
 use Rattle.shared_registry.specs.Works.{IsAtEnd, IsRead}
 use Rattle.shared_registry.proofs.Calls.{calls_same}
 use Rattle.shared_registry.proofs.Results.{ok_any, ok_of}
-use Rattle.shared_registry.proofs.seat.Seat.read.Goals.{in-Ok-ran, in-Err-ran}
+use Rattle.shared_registry.proofs.seat.Seat.read.Goals.{in-Ok-run_work, in-Err-run_work}
 use Rattle.shared_registry.proofs.seat.Seat.read.Goals as goal
 
 pub invariant_of-self-2 : goal.invariant_of-self-2
@@ -27,16 +27,16 @@ pub returns-clause-seen_learnt : goal.returns-clause-seen_learnt
 returns-clause-seen_learnt g c =
     let learnt : IsPrefix c.self.inside.learnt c.in-Ok.prefix = ok_of _ _ _ c.in-Ok.is c.find-found.ensures.learnt in
     let seen_learnt : IsPrefix c.args.self.now.learnt c.in-Ok.prefix = subst (λ l. IsPrefix l c.in-Ok.prefix) (ap (λ s. s.learnt) c.self.view_is) learnt in
-    ok_any _ c.match-ran.result seen_learnt
+    ok_any _ c.match-run_work.result seen_learnt
 
 pub returns-clause-read : goal.returns-clause-read
-returns-clause-read g c = elim c.match-ran.branch [
-  | in-Ok-ran w ↦ subst (λ r. IfOk r (IsRead g.J.RegistryId.domain c.in-Ok.prefix c.args.batch)) (sym w.result-is) (record {
+returns-clause-read g c = elim c.match-run_work.branch [
+  | in-Ok-run_work w ↦ subst (λ r. IfOk r (IsRead g.J.RegistryId.domain c.in-Ok.prefix c.args.batch)) (sym w.result-is) (record {
     snapshot = c.find-found.new.snapshot;
     made = subst (λ d. IsMadeFor d c.args.batch) c.requires.domain c.ops-made.ensures.made;
     domain_is = c.find-found.ensures.snapshot.domain_is;
     is_journal_of = subst (λ l. IsJournal l (whole_head c.find-found.new.snapshot.window l)) (sym (ok_of _ _ _ c.in-Ok.is c.find-found.ensures.found)) c.window-window.ensures.journal;
-    at_end = subst (λ b. IsAtEnd b c.find-found.new.snapshot w.in-Ok-ran.work) c.in-Ok-begun.ensures.begun.batch_is w.in-Ok-ran.ensures;
+    at_end = subst (λ b. IsAtEnd b c.find-found.new.snapshot w.in-Ok-run_work.work) c.in-Ok-begin_work.ensures.batch_is w.in-Ok-run_work.ensures;
   })
-  | in-Err-ran w ↦ subst (λ r. IfOk r (IsRead g.J.RegistryId.domain c.in-Ok.prefix c.args.batch)) (sym w.result-is) tt
+  | in-Err-run_work w ↦ subst (λ r. IfOk r (IsRead g.J.RegistryId.domain c.in-Ok.prefix c.args.batch)) (sym w.result-is) tt
 ]
