@@ -4,8 +4,6 @@ use Rattle.std.proofs.lemmas.List.{append-nil, take-append-drop, take-append-le,
 use Rattle.entry_book.specs.Rows.{Bytes}
 use Rattle.entry_book.specs.Batches.{Batch}
 use Rattle.entry_book.specs.History.{books_of}
-use Rattle.version_book.specs.History.{version_with}
-use Rattle.batch_work.specs.Windows.{pushed}
 use Rattle.batch_work.specs.Working.{Base, base_in}
 use Rattle.batch_work.proofs.Windows.{window_represents}
 use Rattle.commit_head.specs.declared.item.Item.{Item}
@@ -58,13 +56,6 @@ pub began_on : (h : Head) (batch : Batch) (base : Base) → HasWholeJournal h �
 began_on h batch base w b =
     let n = base.newest.number in
     (began_inside (take n h.kept) (drop n h.kept) base h (subst (λ l. IsJournal l h) (sym (take-append-drop n h.kept)) w) b.leads).began
-
--- what was appended to a head that only got more room was appended to the old head
-pub appended_from : (old between new : Head) (item : Item) → IsUnchangedHead old between → IsAppended between item new → IsAppended old item new
-appended_from old between new item s a = record {
-  window = a.window ∙ ap (λ v. pushed (version_with item.batch v.newest) v) s.window;
-  kept = a.kept ∙ ap (λ l. l ++ item ∷ []) s.kept;
-}
 
 -- the journal after one more item
 pub went_on : (old new : Head) (item : Item) → HasWholeJournal old → Joins item (newest_of old) → IsAppended old item new → ExtendsJournal old new

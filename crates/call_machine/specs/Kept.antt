@@ -2,7 +2,7 @@
 use Rattle.std.specs.Prelude.{◌≡◌, ℕ, ◌+◌, ◌≤◌, ◌^◌, Bool, true, false, ◌&&◌, ◌||◌, ⊤, ◌⊎◌, List, ◌∷◌, ◌++◌, [], map, length, take, slice_get, nat_lt, Option, Some, None, Result, Ok, Err, is_none, is_some, if◌then◌else◌, ◌<◌}
 use Rattle.std.specs.List.{AllByRecursion}
 use Rattle.entry_book.specs.declared.limit.Limit.{Limit}
-use Rattle.entry_book.specs.declared.reply.ReplyOutcome.TheVariants.{Committed, Refused}
+use Rattle.entry_book.specs.declared.reply.ReplyOutcome.TheVariants.{Refused}
 use Rattle.entry_book.specs.declared.reply.Refusal.TheVariants.{Full}
 use Rattle.entry_book.specs.Rows.{Bytes}
 use Rattle.entry_book.specs.Book.{Book}
@@ -14,8 +14,10 @@ use Rattle.batch_work.specs.declared.status.Status.{Status}
 use Rattle.batch_work.specs.declared.status.Status.TheVariants.{Settled}
 use Rattle.batch_work.specs.Reads.{footprint_of, awaits_commit}
 use Rattle.batch_work.specs.Working.{Base, Work, footprint_there, awaits_there, reply_there, status_of}
+use Rattle.commit_head.specs.declared.commit.Commit.{Commit}
+use Rattle.commit_head.specs.declared.commit.Commit.TheVariants as commit_is
 use Rattle.commit_head.specs.declared.item.Item.{Item}
-use Rattle.commit_head.specs.Heads.{Head, IsAppended, IsJournal, head_place}
+use Rattle.commit_head.specs.Heads.{Head, IsJournal}
 use Rattle.commit_head.specs.Journals.{Leads, batches_of, empty_version}
 use Rattle.entry_book.specs.declared.reply.CallAnswer.{CallAnswer}
 use Rattle.entry_book.specs.declared.reply.CallAnswer.TheVariants.{Replied, Conflict}
@@ -252,11 +254,12 @@ pub record ExtendsJournal (old new : Head) : Type 0 where
   pub kept : new.kept ≡ old.kept ++ more
   pub whole : HasWholeJournal new
 
--- A prepared commit is finished: the call has its answer, and the head its item.
-pub record Finishes (old : Head) (item : Item) (answer : CallAnswer) (place : ℕ) (new : Head) : Type 0 where
-  pub answer_is : answer ≡ Replied (record { place = head_place old + 1; outcome = Committed item.replies })
-  pub place_is : place ≡ head_place old + 1
-  pub appended : IsAppended old item new
+-- the decision of a commit, with its place; none if memory ran out
+abbrev pub decision_at : Commit → Option (Decision × ℕ)
+decision_at (commit_is.Committed n) = Some (to.Committed, n)
+decision_at (commit_is.Conflict n) = Some (to.Conflict, n)
+decision_at (commit_is.Full limit n) = Some (to.Full limit, n)
+decision_at commit_is.NoMemory = None
 
 pub record IsDecided (old : Head) (w : Work) (answer : CallAnswer) (decision : Decision) (place : ℕ) (new : Head) : Type 0 where
   pub base : ℕ

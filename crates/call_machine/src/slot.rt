@@ -3,15 +3,15 @@
 ghost use Rattle.std.specs.Prelude.{◌≡◌, ◌⊎◌, IfSome, None, false, true};
 ghost use Rattle.entry_book.specs.History.{is_committed};
 ghost use Rattle.batch_work.specs.Working.{status_of};
-ghost use Rattle.commit_head.specs.Heads.{Fits, IsUnchangedHead};
-ghost use Rattle.call_machine.specs.Kept.{AnsweredWhenSettled, Finishes, IsDecided, IsOverSlot, IsSettledSlot, HasWholeJournal, RestsOn, head_domain, stage_kept};
+ghost use Rattle.commit_head.specs.Heads.{IsUnchangedHead};
+ghost use Rattle.call_machine.specs.Kept.{AnsweredWhenSettled, IsDecided, IsOverSlot, IsSettledSlot, HasWholeJournal, RestsOn, decision_at, head_domain, stage_kept};
 ghost use Rattle.call_machine.specs.declared.slot.SlotState.TheVariants as slot;
 
 use batch_work::{Status, Work};
 use call_answers::{Decision, KnownCall};
 use call_events::EventRefusal;
-use commit_head::{Commit, Head, Prepared};
-use entry_book::{Batch, CallAnswer, Refusal, Reply, ReplyOutcome};
+use commit_head::{Commit, Head};
+use entry_book::{Batch, CallAnswer, Reply, ReplyOutcome};
 use std::alloc::{AllocError, Global};
 use std::mem::replace;
 use version_book::Mark;
@@ -253,8 +253,8 @@ fn discard(state: &mut SlotState)
         return;
     }
     // a placeholder, until the state with the reply takes its place
-    let place = SlotState::Over(CallAnswer::Conflict(0));
-    let SlotState::Open(work) = replace(state, place) else {
+    let placeholder = SlotState::Over(CallAnswer::Conflict(0));
+    let SlotState::Open(work) = replace(state, placeholder) else {
         unreachable!()
     };
     drop(replace(state, over(work)));
@@ -270,25 +270,21 @@ fn is_commit(reply: &Reply) -> bool
     }
 }
 
-/// Finishes a prepared commit. Returns the call's answer and the new book's number. `None` is a failed allocation, and no
-/// book has changed then.
-fn finish(head: &mut Head, prepared: Prepared) -> Option<(CallAnswer, u64)>
-    requires fits { Fits head.old prepared }
-    ensures none { result ≡ None → head.new ≡ head.old }
-    ensures some { IfSome result (λ done. Finishes head.old prepared.item done.0 done.1 head.new) }
+/// Returns the decision of a commit, with the number of the new book, or of the newest one if nothing was committed. `None` is a
+/// failed allocation.
+fn decision_of(commit: &Commit) -> Option<(Decision, u64)>
+    ensures { result ≡ decision_at commit.now }
 {
-    let place = prepared.version().number();
-    let Ok(replies) = prepared.item().replies.clone() else {
-        return None;
-    };
-    let outcome = ReplyOutcome::Committed(replies);
-    let answer = CallAnswer::Replied(Reply { place, outcome });
-    Some((answer, head.finish(prepared)))
+    match commit {
+        Commit::Committed(place) => Some((Decision::Committed, *place)),
+        Commit::Conflict(place) => Some((Decision::Conflict, *place)),
+        Commit::Full(limit, place) => Some((Decision::Full(*limit), *place)),
+        Commit::NoMemory => None,
+    }
 }
 
-/// Decides the commit of a ready work, under the call's number. Returns the call's answer, the decision, and the number of
-/// the new book, or of the newest one if nothing was committed. `None` is a failed allocation, and no book has changed
-/// then.
+/// Commits a ready work, under the call's number. Returns the call's answer, the decision, and the number of the new book, or of
+/// the newest one if nothing was committed. `None` is a failed allocation, and no book has changed then.
 fn decide(head: &mut Head, number: u64, work: &Work) -> Option<(CallAnswer, Decision, u64)>
     requires whole { HasWholeJournal head.old }
     requires rests { RestsOn (head_domain head.old) head.old.kept work.now }
@@ -296,20 +292,16 @@ fn decide(head: &mut Head, number: u64, work: &Work) -> Option<(CallAnswer, Deci
     ensures none { result ≡ None → IsUnchangedHead head.old head.new }
     ensures some { IfSome result (λ done. IsDecided head.old work.now done.0 done.1 done.2 head.new) }
 {
-    match head.prepare(0, number, work) {
-        Ok(prepared) => {
-            let (answer, place) = finish(head, prepared)?;
-            Some((answer, Decision::Committed, place))
-        }
-        Err(Commit::Conflict(place)) => {
-            Some((CallAnswer::Conflict(place), Decision::Conflict, place))
-        }
-        Err(Commit::Full(limit, place)) => {
-            let outcome = ReplyOutcome::Refused(Refusal::Full(limit));
-            let answer = CallAnswer::Replied(Reply { place, outcome });
-            Some((answer, Decision::Full(limit), place))
-        }
-        Err(Commit::NoMemory) => None,
-        Err(Commit::Committed(_)) => unreachable!(),
+    let Some(replies) = work.replies() else {
+        unreachable!()
+    };
+    let Ok(replies) = replies.clone() else {
+        return None;
+    };
+    let outcome = head.commit(0, number, work);
+    let (decision, place) = decision_of(&outcome)?;
+    match outcome.answer(replies) {
+        Ok(answer) => Some((answer, decision, place)),
+        Err(AllocError) => None,
     }
 }

@@ -1,3 +1,4 @@
+pub mod CommitRefusals
 pub mod Heads
 pub mod Journals
 pub mod Laws

@@ -1,6 +1,9 @@
 -- The outcome of a commit, in terms of the specification.
-use Rattle.std.specs.Prelude.{◌≡◌, ℕ, ◌+◌, ◌≤◌, true, List, [], ◌∷◌, ◌++◌, length, take, Some}
+use Rattle.std.specs.Prelude.{◌≡◌, ℕ, ◌+◌, ◌≤◌, true, List, [], ◌∷◌, ◌++◌, length, take, Option, Some, None}
 use Rattle.std.specs.List.{AllByRecursion}
+use Rattle.entry_book.specs.declared.reply.CallAnswer.{CallAnswer}
+use Rattle.entry_book.specs.declared.reply.CallAnswer.TheVariants as gave
+use Rattle.entry_book.specs.declared.reply.OpReply.{OpReply}
 use Rattle.entry_book.specs.declared.reply.ReplyOutcome.TheVariants.{Committed as WasCommitted, Refused as WasRefused}
 use Rattle.entry_book.specs.declared.reply.Refusal.TheVariants.{Full as TooMuch}
 use Rattle.entry_book.specs.Rows.{Bytes}
@@ -65,6 +68,13 @@ AnswersOnBooks items seat call w base (Committed n) new = CommitsOnBooks items s
 AnswersOnBooks items seat call w base (Full limit n) new = (n ≡ length items) × (reply_to w.batch (books_of (batches_of items)) ≡ record { place = n; outcome = WasRefused (TooMuch limit) }) × IsJournal items new
 AnswersOnBooks items seat call w base (Conflict n) new = (n ≡ length items) × IsHitSince (batches_of items) base.newest.number (footprint_there w.batch base) × IsJournal items new
 AnswersOnBooks items seat call w base NoMemory new = IsJournal items new
+
+-- the answer to a call whose commit had this outcome, given the replies to its operations; none if memory ran out
+abbrev pub answer_to : List OpReply → Commit → Option CallAnswer
+answer_to replies (Committed n) = Some (gave.Replied (record { place = n; outcome = WasCommitted replies }))
+answer_to replies (Full limit n) = Some (gave.Replied (record { place = n; outcome = WasRefused (TooMuch limit) }))
+answer_to replies (Conflict n) = Some (gave.Conflict n)
+answer_to replies NoMemory = None
 
 -- the outcome of committing a ready work, and the head after it
 abbrev pub CommitOnBooks : Type 0

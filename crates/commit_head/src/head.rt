@@ -5,7 +5,7 @@ ghost use Rattle.commit_head.specs.Heads.{last_items};
 
 use crate::commit::Commit;
 use crate::item::Item;
-use crate::prepare::prepared;
+use crate::prepare::prepare_commit;
 use crate::prepared::Prepared;
 use batch_work::{Status, Versioned, Window, Work};
 use spiffe_name::TrustDomain;
@@ -13,16 +13,6 @@ use std::alloc::{AllocError, Global};
 use std::marker::Model;
 use std::mem::swap;
 use version_book::Version;
-
-/// Appends an item, for which there is room.
-fn push_reserved(items: &mut Vec<Item>, item: Item)
-    requires room { vec_len items.old < vec_capacity items.old }
-    ensures { items.new.items ≡ items.old.items ++ item ∷ [] }
-{
-    let Ok(()) = items.push(item) else {
-        unreachable!()
-    };
-}
 
 /// Drops all items but the last 64, and returns the number of dropped items. The capacity is unchanged.
 fn drop_older(items: &mut Vec<Item>) -> usize
@@ -169,7 +159,12 @@ impl Head {
         ensures of_work { IfOk result (λ prepared. IsItemOf seat call work.now prepared.item) }
         ensures refused { IfErr result (IsRefused self.old work.now) }
     {
-        let prepared = self.prepared(seat, call, work)?;
+        let newest = self.window().newest();
+        let place = newest.number();
+        let prepared = match prepare_commit(seat, call, newest, self.kept.as_slice(), work) {
+            Ok(prepared) => prepared,
+            Err(refusal) => return Err(refusal.at(place)),
+        };
         match self.kept.reserve(1) {
             Ok(()) => Ok(prepared),
             Err(AllocError) => Err(Commit::NoMemory),
@@ -185,7 +180,7 @@ impl Head {
         let Prepared { item, version } = prepared;
         let number = version.number();
         self.window.push(version);
-        push_reserved(&mut self.kept, item);
+        self.kept.push_reserved(item);
         number
     }
 
@@ -226,19 +221,5 @@ impl Head {
         ensures room { 64 ≤ vec_capacity older.new }
     {
         move_older(&mut self.kept, older);
-    }
-
-    /// Makes the prepared commit of a ready work on the newest version, or returns why it can't be committed.
-    fn prepared(&self, seat: u32, call: u64, work: &Work) -> Result<Prepared, Commit>
-        requires ready { status_of work.now ≡ Status.Ready }
-        requires domain { work.now.batch.domain ≡ self.now.window.newest.domain }
-        requires began { BeganOn work.now.base self.now }
-        ensures validated { IfOk result (λ prepared. ReadsAreUnchanged work.now.base work.now.batch (book_of self.now.window.newest.rows)) }
-        ensures goes { IfOk result (IsPreparedFor self.now.window.newest) }
-        ensures of_work { IfOk result (λ prepared. IsItemOf seat call work.now prepared.item) }
-        ensures refused { IfErr result (IsRefused self.now work.now) }
-    {
-        let newest = self.window().newest();
-        prepared(seat, call, newest, self.kept.as_slice(), work)
     }
 }

@@ -5,10 +5,11 @@ ghost use Rattle.entry_book.specs.Laws.{IsWithinLimits};
 ghost use Rattle.entry_book.specs.Limits.{limit_passed};
 ghost use Rattle.version_book.specs.CommittedRows.{book_of};
 ghost use Rattle.batch_work.specs.Working.{status_of};
+ghost use Rattle.commit_head.specs.CommitRefusals.{outcome_at};
 ghost use Rattle.commit_head.specs.Heads.{BeganBefore, IsPreparedFor, IsItemOf, IsRefusal, ReadsAreUnchanged};
 
 use crate::check::is_conflict;
-use crate::commit::Commit;
+use crate::commit::CommitRefusal;
 use crate::item::Item;
 use crate::prepared::Prepared;
 use batch_work::{Status, Work};
@@ -57,13 +58,13 @@ fn item_of(
 
 /// Makes the prepared commit of a ready work on the newest version, or returns why it can't be committed. `kept` are the
 /// retained items of the journal.
-pub(crate) fn prepared(
+pub(crate) fn prepare_commit(
     seat: u32,
     call: u64,
     newest: &Version,
     kept: &[Item],
     work: &Work,
-) -> Result<Prepared, Commit>
+) -> Result<Prepared, CommitRefusal>
     requires ready { status_of work.now ≡ Status.Ready }
     requires domain { work.now.batch.domain ≡ newest.now.domain }
     requires began { BeganBefore work.now.base newest.now kept.now }
@@ -72,7 +73,7 @@ pub(crate) fn prepared(
     ensures validated { IfOk result (λ prepared. ReadsAreUnchanged work.now.base work.now.batch (book_of newest.now.rows)) }
     ensures goes { IfOk result (IsPreparedFor newest.now) }
     ensures of_work { IfOk result (λ prepared. IsItemOf seat call work.now prepared.item) }
-    ensures refused { IfErr result (IsRefusal newest.now kept.now work.now) }
+    ensures refused { IfErr result (λ refusal. IsRefusal newest.now kept.now work.now (outcome_at newest.now.number refusal)) }
 {
     // its contract says that the batch was made for its trust domain
     let _ = work.batch().ops();
@@ -83,20 +84,16 @@ pub(crate) fn prepared(
     // its contract says that the version's book is lawful
     let _ = base.number();
     if is_conflict(kept, newest, base, work.marks()) {
-        return Err(Commit::Conflict(place));
+        return Err(CommitRefusal::Conflict);
     }
     let changes = work.changes();
-    let Ok(version) = newest.apply(changes, place + 1) else {
-        return Err(Commit::NoMemory);
-    };
+    let version = newest.apply(changes, place + 1)?;
     if let Some(limit) = limit_of(place, &version) {
-        return Err(Commit::Full(limit, place));
+        return Err(CommitRefusal::Full(limit));
     }
     let Some(replies) = work.replies() else {
         unreachable!()
     };
-    let Ok(item) = item_of(seat, call, work.batch(), replies, changes) else {
-        return Err(Commit::NoMemory);
-    };
+    let item = item_of(seat, call, work.batch(), replies, changes)?;
     Ok(Prepared { item, version })
 }

@@ -9,4 +9,4 @@ invariant_of-self c =
     let old : Head = record { window = c.self.inside.window; kept = c.self.inside.kept.items; room = vec_capacity c.self.inside.kept - vec_len c.self.inside.kept } in
     let p : Prepared = record { item = c.prepared.inside.item; version = c.prepared.inside.version } in
     let goes = subst (IsPreparedFor (newest_of old)) (sym c.prepared.view_is) (subst (λ h. IsPreparedFor (newest_of h) c.args.prepared) (sym c.self.view_is) c.requires.fits.goes) in
-    finished old p _ _ _ c.self.invariant goes c.push.ensures c.push_reserved.ensures
+    finished old p _ _ _ c.self.invariant goes c.push.ensures c.push_reserved.ensures.items
