@@ -11,8 +11,8 @@ ghost use Rattle.reg_programs.specs.Sessions.{AnswersCall, Grew, RunsSession, Se
 ghost use Rattle.reg_programs.specs.SessionsPrivate.{HasText, IsPrinted, IsToAnswer, TakesRequestLine, found_json};
 
 use commit_head::laws::journals;
-use entry_book::{Batch, CallAnswer};
 use entry_book::laws::histories;
+use entry_book::{Batch, CallAnswer};
 use line_devices::{Input, Output, Sink, Source};
 use line_engines::{LineHandler, RunFault, run_lines};
 use line_reading::{Ids, LineRefusal, Request, read_request};
@@ -283,13 +283,9 @@ fn not_answered(line: u64, why: NoAnswer) -> Taken
 fn outcome_of(call: u64, line: u64, outcome: Outcome) -> Taken
     ensures { HasText result (submit_json call line outcome) }
 {
-    match outcome {
-        Outcome::Committed(reply) | Outcome::Repeated(reply) | Outcome::Refused(reply) => {
-            Taken::Answered(call, CallAnswer::Replied(reply))
-        }
-        Outcome::Conflict(place) => Taken::Answered(call, CallAnswer::Conflict(place)),
-        Outcome::NoMemory => not_answered(line, NoAnswer::NoMemory),
-        Outcome::NoEntry => not_answered(line, NoAnswer::NoEntry),
+    match outcome.answer() {
+        Ok(answer) => Taken::Answered(call, answer),
+        Err(why) => not_answered(line, why),
     }
 }
 

@@ -1,6 +1,8 @@
 -- The outcome of a batch of changes, in terms of its seat's lists and of the plain book.
-use Rattle.std.specs.Prelude.{◌≡◌, ⊤, ℕ, ◌+◌, ◌≤◌, List, [], ◌∷◌, ◌++◌, length, take, IsSome}
+use Rattle.std.specs.Prelude.{◌≡◌, ⊤, ℕ, ◌+◌, ◌≤◌, List, [], ◌∷◌, ◌++◌, length, take, IsSome, Result, Ok, Err}
 use mathlib.Core.List.{IsPrefix}
+use Rattle.entry_book.specs.declared.reply.CallAnswer.{CallAnswer}
+use Rattle.entry_book.specs.declared.reply.CallAnswer.TheVariants as gave
 use Rattle.entry_book.specs.declared.reply.ReplyOutcome.TheVariants as became
 use Rattle.entry_book.specs.declared.reply.Refusal.{Refusal}
 use Rattle.entry_book.specs.declared.reply.Reply.{Reply}
@@ -13,7 +15,18 @@ use Rattle.commit_head.specs.Journals.{batches_of}
 use Rattle.commit_head.specs.Outcomes.{IsHitSince}
 use Rattle.shared_registry.specs.declared.outcome.Outcome.{Outcome}
 use Rattle.shared_registry.specs.declared.outcome.Outcome.TheVariants.{Committed, Repeated, Refused, Conflict, NoMemory, NoEntry}
+use Rattle.shared_registry.specs.declared.seat.NoAnswer.{NoAnswer}
+use Rattle.shared_registry.specs.declared.seat.NoAnswer.TheVariants as no
 use Rattle.shared_registry.specs.Seated.{AfterCall, MaySeeFound, Seated}
+
+-- the answer to the call of a batch of changes with this outcome, or why it has none
+abbrev pub answer_given : Outcome → Result CallAnswer NoAnswer
+answer_given (Committed reply) = Ok (gave.Replied reply)
+answer_given (Repeated reply) = Ok (gave.Replied reply)
+answer_given (Refused reply) = Ok (gave.Replied reply)
+answer_given (Conflict n) = Ok (gave.Conflict n)
+answer_given NoMemory = Err no.NoMemory
+answer_given NoEntry = Err no.NoEntry
 
 -- ---- tries with a conflict
 

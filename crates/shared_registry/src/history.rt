@@ -128,7 +128,7 @@ impl RegistryId for Brand {
 }
 
 /// Makes a pen. If the word was 0, it is the right to append the first entry.
-fn made(pens: &HistoryWord, seen: &SeenEntries) -> (u64, Pen)
+fn make_pen(pens: &HistoryWord, seen: &SeenEntries) -> (u64, Pen)
     requires { pens.now ≡ word_of 1 seen.now.book }
     ensures book { result.1.book ≡ seen.now.book }
     ensures right { result.1.nib.right ≡ may_write }
@@ -160,7 +160,7 @@ impl NewHistory {
         let (seen, mut first, mut second) = Seen::open(Start::alone(), 0, 0);
         let count = Word::tracked(0, &mut first);
         let pens = Word::tracked(0, &mut second);
-        let (found, pen) = made(&pens, &seen);
+        let (found, pen) = make_pen(&pens, &seen);
         NewHistory {
             count,
             pens,
@@ -172,7 +172,7 @@ impl NewHistory {
 
     /// Returns the history as that of the registry `J`, with the right to append to it. It is `None` if that right was taken
     /// before. At run time nobody can have taken it, but the contracts of `logbook` don't exclude it.
-    pub(crate) fn named<J: RegistryId>(self) -> Option<History<J>>
+    pub(crate) fn into_history<J: RegistryId>(self) -> Option<History<J>>
         requires { self.seen.book ≡ J.history }
         ensures { IfSome result (λ h. h ≡ []) }
     {
@@ -258,7 +258,7 @@ impl<J: RegistryId> History<J> {
         requires lawful { IsLawfulJournal J.domain (self.old ++ item.now ∷ []) }
         ensures { self.new ≡ self.old ++ item.now ∷ [] }
     {
-        let (_found, next) = made(&self.pens, &self.seen);
+        let (_found, next) = make_pen(&self.pens, &self.seen);
         let mut offer: HistoryOffer = self
             .seen
             .plain::<NoGain, NextEntry<'_>, AppendEntry>(&NextEntry { item, next: &next });

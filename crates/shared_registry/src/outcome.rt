@@ -1,6 +1,7 @@
 //! What is the outcome of a batch of changes?
 
-use entry_book::Reply;
+use crate::seat::NoAnswer;
+use entry_book::{CallAnswer, Reply};
 
 /// The outcome of a batch of changes. Unless it is `Committed`, no item that the seat has seen, or sees later, has the
 /// seat's number and the number of this call. No clause says that no other call commits the same batch.
@@ -20,4 +21,23 @@ pub enum Outcome {
     /// The seat couldn't enter the registry, or the published state doesn't extend what the seat has seen and learnt, or the
     /// history has calls under the seat's number that are not the seat's own.
     NoEntry,
+}
+
+impl Outcome {
+    ghost use Rattle.std.specs.Prelude.{◌≡◌};
+    ghost use Rattle.shared_registry.specs.Outcomes.{answer_given};
+
+    /// Returns the answer to the call, or why it has none.
+    pub fn answer(self) -> Result<CallAnswer, NoAnswer>
+        ensures { result ≡ answer_given self }
+    {
+        match self {
+            Outcome::Committed(reply) | Outcome::Repeated(reply) | Outcome::Refused(reply) => {
+                Ok(CallAnswer::Replied(reply))
+            }
+            Outcome::Conflict(place) => Ok(CallAnswer::Conflict(place)),
+            Outcome::NoMemory => Err(NoAnswer::NoMemory),
+            Outcome::NoEntry => Err(NoAnswer::NoEntry),
+        }
+    }
 }

@@ -106,18 +106,7 @@ impl PublishedValue {
         counts
     }
 
-    /// Returns a copy, which increments one reference count. The error is that this can't grow.
-    pub(crate) fn again(&self) -> Result<PublishedValue, AllocError>
-        ensures { IfOk result (λ p. p ≡ self.now) }
-    {
-        Ok(PublishedValue {
-            items: self.items,
-            seen: self.seen.again(),
-            published_state: self.published_state.clone()?,
-        })
-    }
-
-    /// Returns a copy, if it has another number of items than the older one. The error is that a reference count can't
+    /// Returns a clone, if it has another number of items than the older one. The error is that a reference count can't
     /// grow.
     pub(crate) fn newer(&self, older: &PublishedValue) -> Result<Option<PublishedValue>, AllocError>
         ensures { IfOk result (λ o. IfSome o (λ p. p ≡ self.now)) }
@@ -125,7 +114,20 @@ impl PublishedValue {
         if self.items == older.items {
             return Ok(None);
         }
-        Ok(Some(self.again()?))
+        Ok(Some(self.clone()?))
+    }
+}
+
+/// A clone increments one reference count. The error is that this can't grow.
+impl Clone for PublishedValue {
+    ghost is_clone = { λ original copy. copy ≡ original };
+
+    fn clone(&self) -> Result<PublishedValue, AllocError> {
+        Ok(PublishedValue {
+            items: self.items,
+            seen: self.seen.again(),
+            published_state: self.published_state.clone()?,
+        })
     }
 }
 
@@ -163,7 +165,7 @@ impl Absorb<PublishedValue> for PublishedValue {
         next: &PublishedValue,
         _other: &PublishedValue,
     ) -> Result<(), AllocError> {
-        *self = next.again()?;
+        *self = next.clone()?;
         Ok(())
     }
 

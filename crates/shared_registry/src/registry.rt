@@ -41,7 +41,7 @@ fn is_repeat(reply: &Reply) -> bool
 }
 
 /// Returns the outcome of a batch of changes with nothing to commit: it is refused, or was committed before.
-fn settled<J: RegistryId>(seat: &Seat<J>, work: Work) -> Outcome
+fn settle<J: RegistryId>(seat: &Seat<J>, work: Work) -> Outcome
     requires read { IsRead J.domain seat.now.seen work.batch work }
     requires changes { is_query work.batch.ops ≡ false }
     requires unready { status_of work ≡ Status.Ready → ⊥ }
@@ -99,7 +99,7 @@ impl<J: RegistryId> Registry<J> {
         requires domain { domain ≡ J.domain }
         requires seats { 0 < seats }
     {
-        let Some(history) = new_history.named::<J>() else {
+        let Some(history) = new_history.into_history::<J>() else {
             return Err(AllocError);
         };
         let name = history.name();
@@ -193,7 +193,7 @@ impl<J: RegistryId> Registry<J> {
             Err(NoAnswer::NoEntry) => return Ok(Outcome::NoEntry),
         };
         let Some(replies) = work.replies() else {
-            return Ok(settled(seat, work));
+            return Ok(settle(seat, work));
         };
         let Ok(replies) = replies.clone() else {
             discard(work);

@@ -78,7 +78,7 @@ impl<J: RegistryId> WriterState<J> {
         let head = Head::new(alloc, domain)?;
         let start = history.prefix();
         let first = opening(alloc, &start, &head)?;
-        let second = first.again()?;
+        let second = first.clone()?;
         let recent = Recent::none(alloc)?;
         let older = Vec::with_capacity(alloc, 64)?;
         let writer = PublishedWriter::<J>::new(alloc, first, second, most)?;
@@ -107,7 +107,7 @@ impl<J: RegistryId> WriterState<J> {
         if number >= self.most {
             return Err(NoSeat);
         }
-        let Ok(snapshot) = writer.published().again() else {
+        let Ok(snapshot) = writer.published().clone() else {
             return Err(NoSeat);
         };
         let Ok(reader) = writer.factory().reader() else {

@@ -2,7 +2,7 @@ use Rattle.std.proofs.Common.{◌≡◌, Option, Some, None, refl, sym, ◌∙�
 use Rattle.std.specs.Prelude.{IsSome}
 use Rattle.entry_book.specs.declared.reply.Reply.{Reply}
 use Rattle.shared_registry.proofs.Settled.{refused_is, repeated_is, settled_is}
-use Rattle.shared_registry.proofs.registry.settled.Goals as goal
+use Rattle.shared_registry.proofs.registry.settle.Goals as goal
 
 none_here : (o : Option Reply) → IsSome o → o ≡ None → ⊥
 none_here None s e = cc

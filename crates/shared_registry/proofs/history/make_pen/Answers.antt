@@ -1,6 +1,6 @@
 use Rattle.std.proofs.Common.{ap, sym, ◌∙◌}
 use Rattle.shared_registry.proofs.Appending.{makes_moves}
-use Rattle.shared_registry.proofs.history.made.Goals as goal
+use Rattle.shared_registry.proofs.history.make_pen.Goals as goal
 
 pub compare_exchange-found-requires : goal.compare_exchange-found-requires
 compare_exchange-found-requires c =
