@@ -11,7 +11,7 @@ mod authorised;
 mod bundles;
 mod entries;
 
-use crate::advance::agents::{asked_next, drop_agent_next, set_agent_next};
+use crate::advance::agents::{walk_agent_next, drop_agent_next, set_agent_next};
 use crate::advance::authorised::{held_next, identity_next, own_next, trusted_turn};
 use crate::advance::bundles::{drop_next, set_bundle_next, users_next};
 use crate::advance::entries::{
@@ -96,8 +96,8 @@ fn first_next(alloc: Global, op: &Op, reading: RowsRead) -> Result<Next, AllocEr
             Ok(answered(alloc, OpReply::Entries(children)))
         }
         Op::Page(query) => page_next(alloc, query.get(), &reading),
-        Op::Authorised(_) => asked_next(WalkFor::Entries, reading.agents()),
-        Op::Trust(_) => asked_next(WalkFor::Bundles, reading.agents()),
+        Op::Authorised(_) => walk_agent_next(WalkFor::Entries, reading.agents()),
+        Op::Trust(_) => walk_agent_next(WalkFor::Bundles, reading.agents()),
         Op::Prune(_) => prune_next(alloc, reading.entries()),
         Op::SetAgent(agent) => set_agent_next(alloc, agent, reading.into_agents()),
         Op::DropAgent(_) => drop_agent_next(alloc, reading.agents()),

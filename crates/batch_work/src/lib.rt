@@ -13,7 +13,7 @@
 //!   [`BorrowedOpReply`] for each operation, which has its [`BorrowedRows`].
 //! - [`Window`]: the newest version of one history and up to 63 before it. A batch reads the newest one, or the one of the
 //!   earlier book that its page names. [`SharedWindow`]: the same in a small value that never changes; the next one shares most
-//!   versions with it. [`Versioned`]: what works begin on, which either of them is.
+//!   versions with it. Both are [`Versioned`]: works begin on them.
 //! - [`laws`]: theorems. They state that what a batch reads decides its outcome, and what its outcome at a commit is; how many
 //!   reads it makes, and which; and how a window represents the list of all books.
 //!

@@ -1,6 +1,6 @@
 //! What do both kinds of windows have in common?
 
-ghost use Rattle.std.specs.Prelude.{◌≡◌, ◌≤◌, ◌<◌, IfSome, ℕ};
+ghost use Rattle.std.specs.Prelude.{◌≡◌, ◌≤◌, ◌<◌, IfSome};
 ghost use Rattle.std.specs.Option.{option_copied};
 ghost use Rattle.batch_work.specs.Windows.{Counted, Window, back_from, version_at, versions};
 

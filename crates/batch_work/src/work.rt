@@ -1,6 +1,6 @@
 //! What is the state of a batch in execution, and what does its next read do?
 
-ghost use Rattle.std.specs.Prelude.{◌≡◌, ◌++◌, ◌∷◌, [], ◌+◌, ◌≤◌, IfOk, IfSome, Some, None, true, false, length, vec_capacity, vec_len};
+ghost use Rattle.std.specs.Prelude.{◌≡◌, ◌+◌, ◌≤◌, IfOk, IfSome, Some, None, true, false, length, vec_capacity, vec_len};
 ghost use Rattle.version_book.specs.declared.mark.MarkKind.{MarkKind};
 ghost use Rattle.batch_work.specs.WorkInvariants.{IsStartOf, IsRunning, StageInvariant, FoundInvariant, base_of};
 
@@ -171,10 +171,9 @@ impl Work {
         if is_made { Ok(()) } else { Err(AllocError) }
     }
 
-    /// Makes all reads that are left. The error is out of memory: then those that were made are recorded, and the call can be
-    /// repeated.
+    /// Makes all reads that are left. The error is out of memory; then the call can be repeated.
     pub fn run(&mut self) -> Result<(), AllocError>
-        ensures is_over { OnOk result (status_of self.new ≡ Status.Running → ⊥) }
+        ensures not_running { OnOk result (status_of self.new ≡ Status.Running → ⊥) }
         ensures same { self.new ≡ record self.old { steps = self.new.steps } }
     {
         while self.status() == Status::Running {

@@ -52,7 +52,7 @@ impl CommitRefusal {
     ghost use Rattle.commit_head.specs.CommitRefusals.{outcome_at};
 
     /// Returns the outcome of a commit that is refused at this place.
-    pub(crate) fn at(self, place: u64) -> Commit
+    pub(crate) fn outcome_at(self, place: u64) -> Commit
         ensures { result ≡ outcome_at place self }
     {
         match self {

@@ -163,7 +163,7 @@ impl Head {
         let place = newest.number();
         let prepared = match prepare_commit(seat, call, newest, self.kept.as_slice(), work) {
             Ok(prepared) => prepared,
-            Err(refusal) => return Err(refusal.at(place)),
+            Err(refusal) => return Err(refusal.outcome_at(place)),
         };
         match self.kept.reserve(1) {
             Ok(()) => Ok(prepared),

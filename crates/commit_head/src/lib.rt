@@ -7,9 +7,9 @@
 //!
 //! - [`Head`]: the only place where the book changes: the window on which works begin, and the journal (commit log).
 //! - [`Item`]: what the journal stores of one commit: seat, call, batch, replies and writes.
-//! - [`Commit`]: the outcome of a commit, from which the answer to its call follows. [`Prepared`]: a commit that has passed its checks and needs no more memory, so that
-//!   it can be published before it is finished. [`Window`]: the newest version of a head and up to 63 before it; it is a type of
-//!   `batch_work`, re-exported here.
+//! - [`Commit`]: the outcome of a commit, from which the answer to its call follows. [`Prepared`]: a commit that has passed
+//!   its checks and needs no more memory, so that it can be published before it is finished. [`Window`]: the newest version of
+//!   a head and up to 63 before it; it is a type of `batch_work`, re-exported here.
 //! - [`laws`]: theorems. They state what a head's journal implies for its versions and the specification, and what the outcome
 //!   of a commit means; and that the version on which a work began remains one of the head's history.
 //!

@@ -1,4 +1,4 @@
-//! What does a book reply?
+//! What does a book reply, and what is the answer to a call?
 
 ghost use Rattle.std.specs.Prelude.{◌≡◌};
 ghost use Rattle.entry_book.specs.Codes.{op_code, refusal_code, refusal_op};

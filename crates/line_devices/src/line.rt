@@ -66,12 +66,12 @@ impl Line {
         ensures { self.new ≡ stored_part (self.old ++ part.now) }
     {
         let room = KEPT_BYTES - self.bytes.len();
-        let _ = self.bytes.extend_from_slice(front(part, room));
+        let _ = self.bytes.extend_from_slice(first_bytes(part, room));
     }
 }
 
 /// Returns the first `most` bytes, or all if there are fewer.
-fn front(bytes: &[u8], most: usize) -> &[u8]
+fn first_bytes(bytes: &[u8], most: usize) -> &[u8]
     ensures { result.now ≡ take most bytes.now }
 {
     bytes.split_at(most.min(bytes.len())).0

@@ -40,7 +40,7 @@ fn len_before_lf(line: &[u8]) -> usize
 
 /// Refuses a line that is too long or has no LF. This takes no memory.
 #[tactic(auto, unfolding(crate::specs::Requests::framed, crate::specs::Requests::line_limit))]
-fn framed(line: &[u8]) -> Result<(), Fault>
+fn check_frame(line: &[u8]) -> Result<(), Fault>
     ensures { result ≡ framed line.now }
 {
     if len_before_lf(line) > LINE_LIMIT {
@@ -86,7 +86,7 @@ pub(super) fn value_of_line(alloc: Global, line: &[u8]) -> Result<Value, Failure
         (λ failure. Fails failure (value_of_line line.now)) }
     ensures memory { IfErr result (λ failure. IsNoMemory failure → NeedsMemory line.now) }
 {
-    framed(line)?;
+    check_frame(line)?;
     let text = text_in(line)?;
     value_in(alloc, text)
 }

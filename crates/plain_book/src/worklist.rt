@@ -32,7 +32,7 @@ pub(crate) fn authorised_of(
 {
     let server = SpiffeId::server_of(alloc, own_domain)?;
     let aliases = entries.children(alloc, &server)?;
-    let starts = held(alloc, agent, aliases.as_slice())?;
+    let starts = held_among(alloc, agent, aliases.as_slice())?;
     let own_id = agent.id.get();
     let agent_children = entries.children(alloc, own_id)?;
     let mut found = Vec::new(alloc);
@@ -48,7 +48,7 @@ pub(crate) fn authorised_of(
 }
 
 /// Returns the aliases whose selectors the agent has.
-fn held(alloc: Global, agent: &Agent, aliases: &[Entry]) -> Result<Vec<Entry>, AllocError>
+fn held_among(alloc: Global, agent: &Agent, aliases: &[Entry]) -> Result<Vec<Entry>, AllocError>
     ensures { IfOk result (λ held. held.items
         ≡ filter (λ entry. is_within entry.selectors agent.now.selectors) aliases.now) }
 {

@@ -10,8 +10,8 @@
 //!
 //! - [`Registry`]: the state that the threads share. [`Seat`]: one caller, with what it has seen; [`NoSeat`]: all are
 //!   given.
-//! - [`Outcome`]: the outcome of a batch of changes, from which the answer to its call follows. [`Gate`]: a test hook at each [`Point`] of a try; [`OpenGate`] does
-//!   nothing.
+//! - [`Outcome`]: the outcome of a batch of changes, from which the answer to its call follows. [`Gate`]: a test hook at each
+//!   [`Point`] of a try; [`OpenGate`] does nothing.
 //! - [`Answer`]: the reply to a query. [`NoAnswer`] and [`NoEntry`]: why a query, or a request for news, has no answer.
 //! - [`Receipt`]: what a seat had seen, or all items at some time, for another seat to learn.
 //! - [`commits_law`]: after a commit a seat may answer queries without a look. [`one_list`], [`one_list_of_receipts`] and

@@ -88,8 +88,8 @@ impl Model for Changes {
     ghost view = { λ changes. map write_of changes.writes.items };
 }
 
-/// Returns a copy of the row, if there is one. The error is out of memory.
-fn copy_of<T: Clone + Drop>(row: &Option<T>) -> Result<Option<T>, AllocError>
+/// Clones the row, if there is one. The error is out of memory.
+fn clone_row<T: Clone + Drop>(row: &Option<T>) -> Result<Option<T>, AllocError>
     requires clones { ClonesEqual T.is_clone }
     ensures { IfOk result (λ copy. copy ≡ row.now) }
 {
@@ -119,15 +119,15 @@ impl Clone for RowWrite {
     fn clone(&self) -> Result<RowWrite, AllocError> {
         Ok(match self {
             RowWrite::Entry(RowChange { key, old, new }) => {
-                let (key, old, new) = (*key, copy_of(old)?, copy_of(new)?);
+                let (key, old, new) = (*key, clone_row(old)?, clone_row(new)?);
                 RowWrite::Entry(RowChange { key, old, new })
             }
             RowWrite::Agent(RowChange { key, old, new }) => {
-                let (key, old, new) = (key.clone()?, copy_of(old)?, copy_of(new)?);
+                let (key, old, new) = (key.clone()?, clone_row(old)?, clone_row(new)?);
                 RowWrite::Agent(RowChange { key, old, new })
             }
             RowWrite::Bundle(RowChange { key, old, new }) => {
-                let (key, old, new) = (key.clone()?, copy_of(old)?, copy_of(new)?);
+                let (key, old, new) = (key.clone()?, clone_row(old)?, clone_row(new)?);
                 RowWrite::Bundle(RowChange { key, old, new })
             }
             RowWrite::Token(write) => RowWrite::Token(write.clone()?),

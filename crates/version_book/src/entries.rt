@@ -400,7 +400,7 @@ fn in_order(entries: &Entries)
 }
 
 /// Clones both indexes. The error is out of memory.
-fn copies_of(
+fn clone_indexes(
     groups: &Shelf<GroupKey, CommittedRow<Entry>>,
     users: &Shelf<UserKey, CommittedRow<Entry>>,
 ) -> Result<
@@ -420,7 +420,7 @@ impl Clone for Entries {
 
     fn clone(&self) -> Result<Entries, AllocError> {
         let (rows, expiries) = both(self.rows.clone(), self.expiries.clone())?;
-        let (groups, users) = copies_of(&self.groups, &self.users)?;
+        let (groups, users) = clone_indexes(&self.groups, &self.users)?;
         Ok(Entries {
             rows,
             groups,

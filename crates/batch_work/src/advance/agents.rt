@@ -13,7 +13,7 @@ use version_book::Changes;
 
 /// The next read is that of the server's children. The operation is refused if there is no agent. The error is a reference
 /// count at its maximum.
-pub(crate) fn asked_next(walk_for: WalkFor, agents: &[Agent]) -> Result<Next, AllocError>
+pub(crate) fn walk_agent_next(walk_for: WalkFor, agents: &[Agent]) -> Result<Next, AllocError>
     ensures { IfOk result (λ next. next ≡ for_agent_next (first agents.now) (λ a. Next.Continues (Phase.Server walk_for a))) }
 {
     match agents {
