@@ -1,6 +1,6 @@
 //! Which versions are published, and what does the next window share with the one before it?
 
-ghost use Rattle.std.specs.Prelude.{◌≡◌, ◌≤◌, ◌<◌, ◌+◌, ◌++◌, ◌∷◌, [], IfOk, OnOk, Some, length, map, slice_get};
+ghost use Rattle.std.specs.Prelude.{◌≡◌, ◌≤◌, ◌<◌, ◌+◌, ◌++◌, ◌∷◌, [], IfOk, OnOk, Some, length, map};
 ghost use Rattle.std.specs.Option.{option_copied};
 ghost use Rattle.batch_work.specs.SharedWindows.{last_of_both};
 ghost use Rattle.batch_work.specs.WindowSlots.{held};

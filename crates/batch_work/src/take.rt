@@ -1,6 +1,6 @@
 //! What follows from a read that a work has made?
 
-ghost use Rattle.std.specs.Prelude.{◌≡◌, ◌<◌, ◌≤◌, ◌+◌, ◌++◌, ◌∷◌, [], IfOk, IfErr, OnOk, OnErr, true, false, length};
+ghost use Rattle.std.specs.Prelude.{◌≡◌, ◌<◌, ◌+◌, ◌++◌, ◌∷◌, [], IfOk, IfErr, OnOk, OnErr};
 ghost use Rattle.entry_book.specs.Batches.{is_query};
 ghost use Rattle.entry_book.specs.History.{reply_with, token_writes, verdict_again};
 ghost use Rattle.entry_book.specs.SameOps.{ops_eq};

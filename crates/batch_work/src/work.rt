@@ -1,7 +1,6 @@
 //! What is the state of a batch in execution, and what does its next read do?
 
 ghost use Rattle.std.specs.Prelude.{◌≡◌, ◌+◌, ◌≤◌, IfOk, IfSome, Some, None, true, false, length, vec_capacity, vec_len};
-ghost use Rattle.version_book.specs.declared.mark.MarkKind.{MarkKind};
 ghost use Rattle.batch_work.specs.WorkInvariants.{IsStartOf, IsRunning, StageInvariant, FoundInvariant, base_of};
 
 use crate::begin::{begin_on, first_stage};

@@ -1,6 +1,6 @@
 //! Works, run to their end with their marks as text, and the commit of those that are ready.
 
-ghost use Rattle.std.specs.Prelude.{◌≡◌, ◌≤◌, ◌^◌, true};
+ghost use Rattle.std.specs.Prelude.{◌≡◌, true};
 ghost use Rattle.batch_work.specs.Windows.{IsNextVersion};
 
 use batch_work::{Status, Versioned, Window, Work, answer};

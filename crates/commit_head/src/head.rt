@@ -1,6 +1,6 @@
 //! What does a head store, and which work may commit?
 
-ghost use Rattle.std.specs.Prelude.{◌≡◌, ◌+◌, ◌-◌, ◌≤◌, ◌<◌, ◌++◌, ◌∷◌, [], length, vec_capacity, vec_len};
+ghost use Rattle.std.specs.Prelude.{◌≡◌, ◌+◌, ◌-◌, ◌≤◌, ◌<◌, ◌++◌, [], length, vec_capacity, vec_len};
 ghost use Rattle.commit_head.specs.Heads.{last_items};
 
 use crate::commit::Commit;
@@ -93,11 +93,11 @@ impl Model for Head {
 }
 
 impl Head {
-    ghost use Rattle.std.specs.Prelude.{◌≡◌, ◌+◌, ◌^◌, ◌≤◌, ◌++◌, [], IfErr, IfOk, OnOk, length, vec_capacity};
+    ghost use Rattle.std.specs.Prelude.{◌≡◌, ◌+◌, ◌^◌, ◌≤◌, ◌++◌, [], IfErr, IfOk, length, vec_capacity};
     ghost use Rattle.std.specs.Option.{option_copied};
     ghost use Rattle.version_book.specs.CommittedRows.{book_of};
     ghost use Rattle.batch_work.specs.Working.{status_of};
-    ghost use Rattle.commit_head.specs.Heads.{BeganOn, Fits, IsPreparedFor, HasJournal, IsAppended, IsCommit, IsItemOf, IsRefused, IsUnchangedHead, ReadsAreUnchanged, item_at, head_place};
+    ghost use Rattle.commit_head.specs.Heads.{BeganOn, Fits, HasJournal, IsAppended, IsCommit, IsItemOf, IsRefused, IsUnchangedHead, ReadsAreUnchanged, item_at, head_place};
     ghost use Rattle.commit_head.specs.Journals.{empty_version};
 
     /// Makes a head with book 0 and no item. The error is out of memory.

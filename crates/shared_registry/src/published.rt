@@ -1,7 +1,6 @@
 //! Which state is published to all readers?
 
 ghost use Rattle.std.specs.Prelude.{◌≡◌, ◌+◌, ◌≤◌, ◌<◌, ◌^◌, ◌++◌, ◌∷◌, [], length, IfOk, IfSome};
-ghost use Rattle.batch_work.specs.Windows.{Window};
 ghost use Rattle.commit_head.specs.Heads.{IsJournal};
 ghost use Rattle.shared_registry.specs.SeatCalls.{calls_of};
 ghost use Rattle.shared_registry.specs.ShownPrivate.{IsCounted, IsOf, ShowsJournal};
@@ -152,7 +151,6 @@ pub(crate) fn opening<J: RegistryId>(
 
 /// An operation of the writer replaces the whole value.
 impl Absorb<PublishedValue> for PublishedValue {
-    ghost use Rattle.shared_registry.specs.Shown.{Shown};
 
     type State = PublishedValue;
 

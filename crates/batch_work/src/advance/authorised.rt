@@ -1,6 +1,6 @@
 //! What comes after a read for an agent's authorised entries, and for their bundles?
 
-ghost use Rattle.std.specs.Prelude.{◌≡◌, ◌<◌, ◌+◌, ◌^◌, ◌++◌, [], true, false, filter, slice_get, IfErr, IfOk, IfSome};
+ghost use Rattle.std.specs.Prelude.{◌≡◌, ◌<◌, ◌+◌, ◌^◌, ◌++◌, true, false, filter, slice_get, IfErr, IfOk, IfSome};
 ghost use Rattle.entry_book.specs.Authorised.{holds};
 ghost use Rattle.batch_work.specs.Steps.{next_trusted, trusted_next, walk_next};
 ghost use Rattle.batch_work.specs.WalkStates.{first_walk, is_walk_over, walked};
