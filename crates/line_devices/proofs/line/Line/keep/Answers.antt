@@ -9,5 +9,5 @@ returns c =
     let most = kept_bytes-is in
     let full : IsOk c.extend_from_slice.result = c.extend_from_slice.ensures.succeeds (grind (arith, common_steps)) in
     let len : c.len-room.result ≡ length c.self.inside.bytes.items = grind (arith, common_steps) in
-    let filled : c.extend_from_slice.new.self.items ≡ c.self.inside.bytes.items ++ c.front.result.now = rw full at c.extend_from_slice.ensures.items in
-    kept-filled 1048577 _ _ _ _ _ _ most len (grind (arith)) c.self.view_is c.front.ensures filled
+    let filled : c.extend_from_slice.new.self.items ≡ c.self.inside.bytes.items ++ c.first_bytes.result.now = rw full at c.extend_from_slice.ensures.items in
+    kept-filled 1048577 _ _ _ _ _ _ most len (grind (arith)) c.self.view_is c.first_bytes.ensures filled
