@@ -11,7 +11,7 @@ mod authorised;
 mod bundles;
 mod entries;
 
-use crate::advance::agents::{walk_agent_next, drop_agent_next, set_agent_next};
+use crate::advance::agents::{drop_agent_next, set_agent_next, walk_agent_next};
 use crate::advance::authorised::{held_next, identity_next, own_next, trusted_turn};
 use crate::advance::bundles::{drop_next, set_bundle_next, users_next};
 use crate::advance::entries::{

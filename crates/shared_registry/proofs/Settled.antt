@@ -29,7 +29,8 @@ use Rattle.batch_work.proofs.Batches.{others_dont_commit}
 use Rattle.batch_work.proofs.Windows.{window_represents}
 use Rattle.commit_head.specs.declared.item.Item.{Item}
 use Rattle.commit_head.specs.Journals.{IsLawfulJournal, batches_of, committed_after}
-use Rattle.shared_registry.specs.Outcomes.{IsRefusedThere, RepeatsItem}
+use Rattle.shared_registry.specs.Outcomes.{IsRefusedThere, IsSubmitted, RepeatsItem}
+use Rattle.shared_registry.specs.OutcomesPrivate.{IsNotConflict, outcome_by, outcome_with}
 use Rattle.shared_registry.specs.Seated.{Seated}
 use Rattle.shared_registry.specs.Works.{IsRead}
 use Rattle.commit_head.proofs.OnBooks.{count_of_batches, led_to}
@@ -246,3 +247,22 @@ repeated_by domain t batch w reply rs r l q a o =
 
 pub repeated_is : (domain : Bytes) (t : Seated) (batch : Batch) (w : Work) (reply : Reply) → IsRead domain t.seen batch w → IsLawfulJournal domain t.seen → is_query batch.ops ≡ false → IsAnswer w reply → is_repeated reply.outcome ≡ true → RepeatsItem t batch reply
 repeated_is domain t batch w reply r l q a o = let rs = repeats_of reply.outcome o in repeated_by domain t batch w reply rs.0 r l q a rs.1
+
+-- ---- the outcome with this reply
+
+settled_by : (t : Seated) (batch : Batch) (reply : Reply) (o : ReplyOutcome) → is_committed o ≡ false → (is_repeated o ≡ true → RepeatsItem t batch reply) → (is_repeated o ≡ false → IsRefusedThere t batch reply) → IsSubmitted t t batch 0 (outcome_by o reply)
+settled_by t batch reply (Committed rs) c repeated refused = cc
+settled_by t batch reply (Repeated rs) c repeated refused = (repeated refl, refl)
+settled_by t batch reply (Refused why) c repeated refused = (refused refl, refl)
+settled_by t batch reply (Answered rs) c repeated refused = (refused refl, refl)
+
+pub settled_submitted : (domain : Bytes) (t : Seated) (batch : Batch) (w : Work) (reply : Reply) → IsRead domain t.seen batch w → (status_of w ≡ Ready → ⊥) → IsLawfulJournal domain t.seen → is_query batch.ops ≡ false → IsAnswer w reply → IsSubmitted t t batch 0 (outcome_with reply)
+settled_submitted domain t batch w reply r unready l q a =
+    let uncommitted = ap (λ (x : Reply). is_committed x.outcome) (reply_is domain t.seen batch w reply r a) ∙ uncommitted domain t.seen batch w r unready in
+    settled_by t batch reply reply.outcome uncommitted (repeated_is domain t batch w reply r l q a) (refused_is domain t batch w reply r unready q a)
+
+pub settled_no_conflict : (o : ReplyOutcome) (reply : Reply) → IsNotConflict (outcome_by o reply)
+settled_no_conflict (Committed rs) reply n e = cc
+settled_no_conflict (Repeated rs) reply n e = cc
+settled_no_conflict (Refused why) reply n e = cc
+settled_no_conflict (Answered rs) reply n e = cc

@@ -1,7 +1,9 @@
 -- The outcome of a try whose commit was decided under the lock.
-use Rattle.std.proofs.Common.{◌≡◌, ℕ, List, [], ◌∷◌, ◌++◌, length, Result, Ok, Err, sym, ap, subst, ◌∙◌, arith}
+use Rattle.std.proofs.Common.{◌≡◌, ℕ, List, [], ◌∷◌, ◌++◌, length, Option, Some, None, Result, Ok, Err, refl, sym, ap, subst, ◌∙◌, arith}
 use mathlib.Core.List.{IsPrefix}
 use Rattle.entry_book.specs.declared.limit.Limit.{Limit}
+use Rattle.entry_book.specs.declared.reply.CallAnswer.{CallAnswer}
+use Rattle.entry_book.specs.declared.reply.CallAnswer.TheVariants as gave
 use Rattle.entry_book.specs.declared.reply.OpReply.{OpReply}
 use Rattle.entry_book.specs.declared.reply.ReplyOutcome.TheVariants as became
 use Rattle.entry_book.specs.declared.reply.Refusal.TheVariants.{Full}
@@ -15,10 +17,12 @@ use Rattle.commit_head.specs.declared.commit.Commit.{Commit}
 use Rattle.commit_head.specs.declared.commit.Commit.TheVariants as is
 use Rattle.commit_head.specs.declared.item.Item.{Item}
 use Rattle.commit_head.specs.Journals.{IsLawfulJournal, batches_of}
+use Rattle.commit_head.specs.Outcomes.{answer_to}
+use Rattle.shared_registry.specs.declared.outcome.Outcome.{Outcome}
 use Rattle.shared_registry.specs.declared.outcome.Outcome.TheVariants.{Refused}
 use Rattle.shared_registry.specs.declared.seat.NoEntry.{NoEntry as NotAdmitted}
 use Rattle.shared_registry.specs.Outcomes.{IsAdded, IsOvertaken, IsSubmitted}
-use Rattle.shared_registry.specs.OutcomesPrivate.{HasAdded, HasLooked, IsCommitOutcome, WasDecided, IsOvertakenOnce}
+use Rattle.shared_registry.specs.OutcomesPrivate.{HasAdded, HasLooked, IsCommitOutcome, WasDecided, IsOvertakenOnce, IsTry, outcome_with}
 use Rattle.shared_registry.specs.Seated.{AfterCall, DuringCall, MaySeeFound, Seated}
 use Rattle.shared_registry.specs.SeatCalls.{calls_of}
 use Rattle.shared_registry.proofs.Prefixes.{prefix_length, prefix_self, prefix_trans}
@@ -92,3 +96,25 @@ decided_no_memory s t w d = d.outcome.own
 
 pub decided_no_entry : (s t : Seated) (w : Work) (e : NotAdmitted) → WasDecided s t w (Err e) → t.own ≡ s.own
 decided_no_entry s t w e d = d.outcome.2
+
+-- ---- the answer to the call gives what the try returns
+
+some_one : {X : Type 0} (x y : X) → Some x ≡ Some y → y ≡ x
+some_one x y e = cc
+
+-- the outcome of the answer, or the batch, handed back
+abbrev pub try_of : CallAnswer → Batch → Result Outcome (ℕ × Batch)
+try_of (gave.Replied reply) batch = Ok (outcome_with reply)
+try_of (gave.Conflict n) batch = Err (n, batch)
+
+pub commit_tried : (s t : Seated) (w : Work) (replies : List OpReply) (commit : Commit) (a : CallAnswer) → WasDecided s t w (Ok commit) → DuringCall s t → HasReplies w replies → IsPrefix s.learnt s.seen → answer_to replies commit ≡ Some a → IsTry s t w.batch (try_of a w.batch)
+commit_tried s t w replies (is.Committed n) a d during_call h learnt e =
+    rw (some_one _ _ e) ((λ n e. cc), prefix_trans s.learnt s.seen t.seen learnt during_call.seen, decided_added s t w replies n d during_call h)
+commit_tried s t w replies (is.Conflict n) a d during_call h learnt e =
+    rw (some_one _ _ e) (refl, decided_overtaken s t w n d during_call learnt)
+commit_tried s t w replies (is.Full limit n) a d during_call h learnt e =
+    rw (some_one _ _ e) ((λ n e. cc), prefix_trans s.learnt s.seen t.seen learnt during_call.seen, decided_full s t w limit n d)
+commit_tried s t w replies is.NoMemory a d during_call h learnt e = absurd (none_some e)
+  where
+    none_some : {X : Type 0} {x : X} → None ≡ Some x → ⊥
+    none_some e = cc

@@ -1,6 +1,8 @@
 -- One try of a batch of changes, and what its commit does under the lock. For this crate's own contracts.
 use Rattle.std.specs.Prelude.{◌≡◌, ◌≢◌, ℕ, ◌≤◌, List, [], ◌∷◌, ◌++◌, length, Option, IsSome, Result, Ok, Err}
 use mathlib.Core.List.{IsPrefix}
+use Rattle.entry_book.specs.declared.reply.Reply.{Reply}
+use Rattle.entry_book.specs.declared.reply.ReplyOutcome.{ReplyOutcome}
 use Rattle.entry_book.specs.declared.reply.ReplyOutcome.TheVariants as became
 use Rattle.entry_book.specs.declared.reply.Refusal.TheVariants.{Full}
 use Rattle.entry_book.specs.Batches.{Batch}
@@ -11,11 +13,21 @@ use Rattle.commit_head.specs.declared.commit.Commit.TheVariants as is
 use Rattle.commit_head.specs.declared.item.Item.{Item}
 use Rattle.commit_head.specs.Journals.{batches_of}
 use Rattle.shared_registry.specs.declared.outcome.Outcome.{Outcome}
-use Rattle.shared_registry.specs.declared.outcome.Outcome.TheVariants.{Conflict}
+use Rattle.shared_registry.specs.declared.outcome.Outcome.TheVariants.{Committed, Repeated, Refused, Conflict}
 use Rattle.shared_registry.specs.declared.seat.NoEntry.{NoEntry as NotAdmitted}
 use Rattle.shared_registry.specs.Seated.{Seated}
 use Rattle.shared_registry.specs.SeatCalls.{calls_of}
 use Rattle.shared_registry.specs.Outcomes.{IsOvertaken, IsSubmitted, HasSeenLearnt}
+
+-- the outcome of a batch of changes with this reply; such a batch never has the reply of a query
+abbrev pub outcome_by : ReplyOutcome → Reply → Outcome
+outcome_by (became.Committed replies) reply = Committed reply
+outcome_by (became.Repeated replies) reply = Repeated reply
+outcome_by (became.Refused why) reply = Refused reply
+outcome_by (became.Answered replies) reply = Refused reply
+
+abbrev pub outcome_with : Reply → Outcome
+outcome_with reply = outcome_by reply.outcome reply
 
 -- the outcome is not a conflict
 abbrev pub IsNotConflict : Outcome → Type 0

@@ -1,7 +1,7 @@
 //! What is the outcome of a batch of changes?
 
 use crate::seat::NoAnswer;
-use entry_book::{CallAnswer, Reply};
+use entry_book::{CallAnswer, Reply, ReplyOutcome};
 
 /// The outcome of a batch of changes. Unless it is `Committed`, no item that the seat has seen, or sees later, has the
 /// seat's number and the number of this call. No clause says that no other call commits the same batch.
@@ -26,6 +26,18 @@ pub enum Outcome {
 impl Outcome {
     ghost use Rattle.std.specs.Prelude.{◌≡◌};
     ghost use Rattle.shared_registry.specs.Outcomes.{answer_given};
+    ghost use Rattle.shared_registry.specs.OutcomesPrivate.{outcome_with};
+
+    /// Returns the outcome of a batch of changes that has this reply. No batch of changes has the reply of a query.
+    pub(crate) fn of(reply: Reply) -> Outcome
+        ensures { result ≡ outcome_with reply }
+    {
+        match &reply.outcome {
+            ReplyOutcome::Committed(_) => Outcome::Committed(reply),
+            ReplyOutcome::Repeated(_) => Outcome::Repeated(reply),
+            ReplyOutcome::Refused(_) | ReplyOutcome::Answered(_) => Outcome::Refused(reply),
+        }
+    }
 
     /// Returns the answer to the call, or why it has none.
     pub fn answer(self) -> Result<CallAnswer, NoAnswer>

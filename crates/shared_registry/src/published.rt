@@ -151,7 +151,6 @@ pub(crate) fn opening<J: RegistryId>(
 
 /// An operation of the writer replaces the whole value.
 impl Absorb<PublishedValue> for PublishedValue {
-
     type State = PublishedValue;
 
     ghost state = { λ p. p };

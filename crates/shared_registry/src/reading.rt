@@ -80,36 +80,52 @@ fn continues<J: RegistryId>(
     published.count(number) == count && seen.begins(&prefix) && learnt.begins(&prefix)
 }
 
-/// Looks, and returns the published journal. The error is `NoEntry` if that doesn't begin with what the seat has seen and
-/// learnt of, or has another number of its calls.
-pub(crate) fn find<J: RegistryId>(
-    reader: &mut Option<SeatReader<J>>,
-    snapshot: &mut PublishedValue,
-    seen: &HistoryPrefix<J>,
-    learnt: &HistoryPrefix<J>,
-    number: usize,
-    count: u64,
-) -> Result<HistoryPrefix<J>, NoAnswer>
-    requires reader { IsSome reader.old }
-    requires number { number < 32 }
-    requires snapshot { IsOf J.history J.domain snapshot.old }
-    ensures reader { IsSome reader.new }
-    ensures snapshot { IsOf J.history J.domain snapshot.new }
-    ensures found { IfOk result (λ prefix. prefix ≡ snapshot.new.journal) }
-    ensures seen { IfOk result (λ prefix. IsPrefix seen.now prefix) }
-    ensures learnt { IfOk result (λ prefix. IsPrefix learnt.now prefix) }
-    ensures count { IfOk result (λ prefix. length (calls_of number prefix) ≡ count) }
-{
-    let Some(entering) = reader.take() else {
-        unreachable!()
-    };
-    let (left, found) = look(entering, snapshot);
-    *reader = Some(left);
-    replace_snapshot::<J>(snapshot, found)?;
-    if continues(snapshot, seen, learnt, number, count) {
-        Ok(snapshot.prefix())
-    } else {
-        Err(NoAnswer::NoEntry)
+/// What a seat looks with: its reader, which is there between two looks, its number, what it has seen, with the number of its own
+/// calls among that, what it has learnt of, and the snapshot that it last found.
+#[derive(Drop)]
+pub(crate) struct SeatView<J: RegistryId> {
+    pub(crate) reader: Option<SeatReader<J>>,
+    pub(crate) number: usize,
+    pub(crate) seen: HistoryPrefix<J>,
+    pub(crate) count: u64,
+    pub(crate) learnt: HistoryPrefix<J>,
+    pub(crate) snapshot: PublishedValue,
+}
+
+impl<J: RegistryId> SeatView<J> {
+    ghost use Rattle.std.specs.Prelude.{◌≡◌, ◌<◌, length, IfOk, IsSome};
+
+    /// Looks, and returns the published journal. The error is `NoEntry` if that doesn't begin with what the seat has seen and
+    /// learnt of, or has another number of its calls.
+    pub(crate) fn find(&mut self) -> Result<HistoryPrefix<J>, NoAnswer>
+        requires reader { IsSome self.old.reader }
+        requires number { self.old.number < 32 }
+        requires snapshot { IsOf J.history J.domain self.old.snapshot }
+        ensures reader { IsSome self.new.reader }
+        ensures snapshot { IsOf J.history J.domain self.new.snapshot }
+        ensures same { self.new ≡ record self.old { reader = self.new.reader; snapshot = self.new.snapshot } }
+        ensures found { IfOk result (λ prefix. prefix ≡ self.new.snapshot.journal) }
+        ensures seen { IfOk result (λ prefix. IsPrefix self.old.seen prefix) }
+        ensures learnt { IfOk result (λ prefix. IsPrefix self.old.learnt prefix) }
+        ensures count { IfOk result (λ prefix. length (calls_of self.old.number prefix) ≡ self.old.count) }
+    {
+        let Some(entering) = self.reader.take() else {
+            unreachable!()
+        };
+        let (left, found) = look(entering, &self.snapshot);
+        self.reader = Some(left);
+        replace_snapshot::<J>(&mut self.snapshot, found)?;
+        if continues(
+            &self.snapshot,
+            &self.seen,
+            &self.learnt,
+            self.number,
+            self.count,
+        ) {
+            Ok(self.snapshot.prefix())
+        } else {
+            Err(NoAnswer::NoEntry)
+        }
     }
 }
 

@@ -3,7 +3,7 @@
 ghost use Rattle.std.specs.Prelude.{◌≡◌, ◌<◌, ◌≤◌, ◌^◌, [], length, IfOk, MatchResult, true, false};
 ghost use mathlib.Core.List.{IsPrefix};
 ghost use Rattle.entry_book.specs.Batches.{is_query};
-ghost use Rattle.entry_book.specs.History.{books_of, is_repeated, reply_to};
+ghost use Rattle.entry_book.specs.History.{books_of, reply_to};
 ghost use Rattle.commit_head.specs.Journals.{IsLawfulJournal, batches_of};
 ghost use Rattle.batch_work.specs.Working.{HasReplies, status_of};
 ghost use Rattle.shared_registry.specs.Outcomes.{HasSeenLearnt, IsSubmitted, TookCommits};
@@ -22,7 +22,7 @@ use crate::seat::{Answer, NoAnswer, NoEntry, Receipt, Seat};
 use crate::writer_state::{NoSeat, WriterState};
 use batch_work::{Status, Work};
 use commit_head::Commit;
-use entry_book::{Batch, OpReply, Refusal, Reply, ReplyOutcome as BatchOutcome, Sequence, Shared};
+use entry_book::{Batch, CallAnswer, OpReply, Sequence, Shared};
 use spiffe_name::TrustDomain;
 use std::alloc::{AllocError, Global};
 use std::sync::{Mutex, MutexGuard, Wait};
@@ -30,18 +30,8 @@ use std::sync::{Mutex, MutexGuard, Wait};
 // A registry has at most this number of seats.
 const MOST_SEATS: usize = 32;
 
-/// Returns true if the batch of this reply was committed before.
-fn is_repeat(reply: &Reply) -> bool
-    ensures { result ≡ is_repeated reply.now.outcome }
-{
-    match &reply.outcome {
-        BatchOutcome::Repeated(_) => true,
-        BatchOutcome::Committed(_) | BatchOutcome::Answered(_) | BatchOutcome::Refused(_) => false,
-    }
-}
-
 /// Returns the outcome of a batch of changes with nothing to commit: it is refused, or was committed before.
-fn settle<J: RegistryId>(seat: &Seat<J>, work: Work) -> Outcome
+fn outcome_of_settled<J: RegistryId>(seat: &Seat<J>, work: Work) -> Outcome
     requires read { IsRead J.domain seat.now.seen work.batch work }
     requires changes { is_query work.batch.ops ≡ false }
     requires unready { status_of work ≡ Status.Ready → ⊥ }
@@ -53,11 +43,7 @@ fn settle<J: RegistryId>(seat: &Seat<J>, work: Work) -> Outcome
     let Some(reply) = work.into_reply() else {
         unreachable!()
     };
-    if is_repeat(&reply) {
-        Outcome::Repeated(reply)
-    } else {
-        Outcome::Refused(reply)
-    }
+    Outcome::of(reply)
 }
 
 /// One registration book for many threads, shared by `&self`. Each caller has a seat, and all answers agree with one list
@@ -193,7 +179,7 @@ impl<J: RegistryId> Registry<J> {
             Err(NoAnswer::NoEntry) => return Ok(Outcome::NoEntry),
         };
         let Some(replies) = work.replies() else {
-            return Ok(settle(seat, work));
+            return Ok(outcome_of_settled(seat, work));
         };
         let Ok(replies) = replies.clone() else {
             discard(work);
@@ -224,18 +210,14 @@ impl<J: RegistryId> Registry<J> {
         drop(replaced);
         gate.pass(Point::AfterCommit, number, call);
         let batch = work.into_batch();
-        match decided {
-            Ok(Commit::Committed(place)) => {
-                let outcome = BatchOutcome::Committed(replies);
-                Ok(Outcome::Committed(Reply { place, outcome }))
-            }
-            Ok(Commit::Conflict(place)) => Err((place, batch)),
-            Ok(Commit::Full(limit, place)) => {
-                let outcome = BatchOutcome::Refused(Refusal::Full(limit));
-                Ok(Outcome::Refused(Reply { place, outcome }))
-            }
-            Ok(Commit::NoMemory) => Ok(Outcome::NoMemory),
-            Err(NoEntry) => Ok(Outcome::NoEntry),
+        let commit = match decided {
+            Ok(commit) => commit,
+            Err(NoEntry) => return Ok(Outcome::NoEntry),
+        };
+        match commit.answer(replies) {
+            Ok(CallAnswer::Replied(reply)) => Ok(Outcome::of(reply)),
+            Ok(CallAnswer::Conflict(place)) => Err((place, batch)),
+            Err(AllocError) => Ok(Outcome::NoMemory),
         }
     }
 

@@ -1,6 +1,6 @@
 //! What is the result of a batch of changes on the published state?
 
-ghost use Rattle.std.specs.Prelude.{◌≡◌, IfOk, Ok, OnOk};
+ghost use Rattle.std.specs.Prelude.{◌≡◌, IfOk, Ok};
 ghost use Rattle.shared_registry.specs.Works.{IsAtEnd, IsBegun};
 
 use crate::published::PublishedValue;
@@ -30,22 +30,14 @@ pub(crate) fn begin_work(
     if_done(done, work)
 }
 
-/// Makes all reads of a work that has begun on the published state. The error is out of memory.
-fn run_to_end(snapshot: &PublishedValue, work: &mut Work) -> Result<(), AllocError>
-    requires began { IsBegun work.old.batch snapshot.now work.old }
-    ensures { OnOk result (IsAtEnd work.old.batch snapshot.now work.new) }
-{
-    // the snapshot occurs in the contract alone
-    let _ = snapshot;
-    work.run()
-}
-
 /// Returns a work that has begun on the published state, after all its reads. The error is out of memory.
 pub(crate) fn run_work(snapshot: &PublishedValue, mut work: Work) -> Result<Work, AllocError>
     requires began { IsBegun work.batch snapshot.now work }
     ensures { IfOk result (IsAtEnd work.batch snapshot.now) }
 {
-    let done = run_to_end(snapshot, &mut work);
+    // the snapshot occurs in the contract alone
+    let _ = snapshot;
+    let done = work.run();
     if_done(done, work)
 }
 

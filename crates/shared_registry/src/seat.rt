@@ -12,7 +12,7 @@ ghost use Rattle.shared_registry.specs.ShownPrivate.{IsOf};
 use crate::gate::{Gate, Point};
 use crate::history::{HistoryPrefix, RegistryId};
 use crate::published::PublishedValue;
-use crate::reading::{SeatReader, borrowed_answer, find};
+use crate::reading::{SeatReader, SeatView, borrowed_answer};
 use crate::run::{begin_work, run_work};
 use batch_work::{BorrowedReply, Work};
 use commit_head::Item;
@@ -87,13 +87,8 @@ impl<J: RegistryId> Receipt<J> {
 #[derive(Drop)]
 pub struct Seat<J: RegistryId> {
     alloc: Global,
-    reader: Option<SeatReader<J>>,
-    number: usize,
     calls: u64,
-    count: u64,
-    seen: HistoryPrefix<J>,
-    learnt: HistoryPrefix<J>,
-    snapshot: PublishedValue,
+    view: SeatView<J>,
 }
 
 impl<J: RegistryId> Model for Seat<J> {
@@ -104,9 +99,9 @@ impl<J: RegistryId> Model for Seat<J> {
 
     ghost Value = { Seated };
 
-    ghost view = { λ s. record { number = s.number; calls = s.calls; seen = s.seen; learnt = s.learnt; own = calls_of s.number s.seen; found = s.snapshot.journal } };
+    ghost view = { λ s. record { number = s.view.number; calls = s.calls; seen = s.view.seen; learnt = s.view.learnt; own = calls_of s.view.number s.view.seen; found = s.view.snapshot.journal } };
 
-    ghost invariant = { λ s. (s.number < 32) × (s.count ≡ length (calls_of s.number s.seen)) × AllBelow (s.calls + 1) (calls_of s.number s.seen) × IsSome s.reader × IsOf J.history J.domain s.snapshot };
+    ghost invariant = { λ s. (s.view.number < 32) × (s.view.count ≡ length (calls_of s.view.number s.view.seen)) × AllBelow (s.calls + 1) (calls_of s.view.number s.view.seen) × IsSome s.view.reader × IsOf J.history J.domain s.view.snapshot };
 }
 
 impl<J: RegistryId> Seat<J> {
@@ -120,29 +115,29 @@ impl<J: RegistryId> Seat<J> {
         ensures own { calls_of self.now.number self.now.seen ≡ self.now.own }
         ensures below { AllBelow (self.now.calls + 1) self.now.own }
     {
-        let _number = self.number;
-        self.seen.len()
+        let _number = self.view.number;
+        self.view.seen.len()
     }
 
     /// Returns the prefix that it has seen.
     pub(crate) fn prefix(&self) -> &HistoryPrefix<J>
         ensures { result.now ≡ self.now.seen }
     {
-        &self.seen
+        &self.view.seen
     }
 
     /// Returns the longest prefix that it has learnt of.
     pub(crate) fn learnt(&self) -> &HistoryPrefix<J>
         ensures { result.now ≡ self.now.learnt }
     {
-        &self.learnt
+        &self.view.learnt
     }
 
     /// Returns its number, below 32.
     pub fn number(&self) -> u32
         ensures { (result ≡ self.now.number) × (result < 32) }
     {
-        self.number as u32
+        self.view.number as u32
     }
 
     /// Returns the number of its calls so far, which is the number of the last one.
@@ -174,13 +169,15 @@ impl<J: RegistryId> Seat<J> {
     {
         Seat {
             alloc,
-            reader: Some(reader),
-            number,
             calls: 0,
-            count: 0,
-            seen: start.again(),
-            learnt: start.again(),
-            snapshot,
+            view: SeatView {
+                reader: Some(reader),
+                number,
+                seen: start.again(),
+                count: 0,
+                learnt: start.again(),
+                snapshot,
+            },
         }
     }
 
@@ -189,7 +186,7 @@ impl<J: RegistryId> Seat<J> {
         ensures { result ≡ self.now.seen }
     {
         Receipt {
-            seen: self.seen.again(),
+            seen: self.view.seen.again(),
         }
     }
 
@@ -199,7 +196,7 @@ impl<J: RegistryId> Seat<J> {
         requires seen { IsPrefix self.now.seen published.now.journal }
         ensures { MatchBool result (calls_of self.now.number published.now.journal ≡ self.now.own) (calls_of self.now.number published.now.journal ≢ self.now.own) }
     {
-        published.count(self.number) == self.count
+        published.count(self.view.number) == self.view.count
     }
 
     /// Advances the seat to a longer journal that contains no further commits of this seat.
@@ -210,7 +207,7 @@ impl<J: RegistryId> Seat<J> {
         ensures own { self.new.own ≡ self.old.own }
         ensures seen { self.new.seen ≡ prefix }
     {
-        self.seen = prefix;
+        self.view.seen = prefix;
     }
 
     /// Advances the seat to a journal with one more item, which is the seat's own.
@@ -224,8 +221,8 @@ impl<J: RegistryId> Seat<J> {
     {
         let _call = item.call;
         let _items = prefix.len();
-        self.seen = prefix;
-        self.count += 1;
+        self.view.seen = prefix;
+        self.view.count += 1;
     }
 
     /// Replaces the snapshot, and returns the one before.
@@ -233,7 +230,7 @@ impl<J: RegistryId> Seat<J> {
         requires snapshot { IsOf J.history J.domain snapshot }
         ensures { self.new ≡ record self.old { found = snapshot.journal } }
     {
-        replace(&mut self.snapshot, snapshot)
+        replace(&mut self.view.snapshot, snapshot)
     }
 
     /// Takes the number of one more call.
@@ -254,14 +251,7 @@ impl<J: RegistryId> Seat<J> {
         ensures seen_learnt { IfOk result (λ _. IsPrefix self.old.learnt self.new.seen) }
         ensures read { IfOk result (IsRead J.domain self.new.seen batch) }
     {
-        let found = find(
-            &mut self.reader,
-            &mut self.snapshot,
-            &self.seen,
-            &self.learnt,
-            self.number,
-            self.count,
-        );
+        let found = self.view.find();
         let prefix = match found {
             Ok(prefix) => prefix,
             Err(why) => {
@@ -271,13 +261,13 @@ impl<J: RegistryId> Seat<J> {
         };
         let _made = batch.ops();
         let _place = prefix.len();
-        let _window = self.snapshot.window();
-        let Ok(work) = begin_work(self.alloc, &self.snapshot, batch) else {
+        let _window = self.view.snapshot.window();
+        let Ok(work) = begin_work(self.alloc, &self.view.snapshot, batch) else {
             return Err(NoAnswer::NoMemory);
         };
-        self.seen = prefix;
-        gate.pass(Point::AfterBegin, self.number as u32, self.calls);
-        match run_work(&self.snapshot, work) {
+        self.view.seen = prefix;
+        gate.pass(Point::AfterBegin, self.view.number as u32, self.calls);
+        match run_work(&self.view.snapshot, work) {
             Ok(work) => Ok(work),
             Err(AllocError) => Err(NoAnswer::NoMemory),
         }
@@ -291,16 +281,9 @@ impl<J: RegistryId> Seat<J> {
         ensures is_unchanged { SawNothingNew J.domain self.old self.new }
         ensures own { self.new.own ≡ self.old.own }
     {
-        let _before = self.seen.len();
+        let _before = self.view.seen.len();
         self.calls += 1;
-        let found = find(
-            &mut self.reader,
-            &mut self.snapshot,
-            &self.seen,
-            &self.learnt,
-            self.number,
-            self.count,
-        );
+        let found = self.view.find();
         match found {
             Ok(prefix) => {
                 let _after = prefix.len();
@@ -320,7 +303,7 @@ impl<J: RegistryId> Seat<J> {
         ensures answer { IfOk result (λ reply. reply ≡ reply_to batch.now (books_of (batches_of self.now.found))) }
         ensures place { IfOk result (λ reply. reply.place ≡ length self.now.found) }
     {
-        borrowed_answer(self.alloc, &self.snapshot, batch)
+        borrowed_answer(self.alloc, &self.view.snapshot, batch)
     }
 
     /// Lets the seat see what it has found. Takes no memory.
@@ -328,7 +311,7 @@ impl<J: RegistryId> Seat<J> {
         requires found { MaySeeFound J.domain self.old }
         ensures { self.new ≡ record self.old { seen = self.old.found } }
     {
-        self.seen = self.snapshot.prefix();
+        self.view.seen = self.view.snapshot.prefix();
     }
 
     /// Returns the answer to a query, on the books of what is then seen. The answer owns its rows. It waits for no other
@@ -343,7 +326,7 @@ impl<J: RegistryId> Seat<J> {
         ensures own { self.new.own ≡ self.old.own }
     {
         self.look()?;
-        match self.kept_answer(batch) {
+        match self.owned_answer(batch) {
             Ok(reply) => {
                 self.see_found();
                 Ok(reply)
@@ -354,7 +337,7 @@ impl<J: RegistryId> Seat<J> {
 
     /// Returns the answer to a query, on the books of what the seat has found. The answer owns its rows. The only error is
     /// a failed allocation.
-    fn kept_answer(&self, batch: &Batch) -> Result<Answer, AllocError>
+    fn owned_answer(&self, batch: &Batch) -> Result<Answer, AllocError>
         requires found { MaySeeFound J.domain self.now }
         requires query { is_query batch.now.ops ≡ true }
         requires domain { batch.now.domain ≡ J.domain }
@@ -373,6 +356,6 @@ impl<J: RegistryId> Seat<J> {
         ensures learnt { IsPrefix receipt.now self.new.learnt × IsPrefix self.old.learnt self.new.learnt }
         ensures seen { (self.new.seen ≡ self.old.seen) × (self.new.own ≡ self.old.own) × (self.new.number ≡ self.old.number) × (self.new.calls ≡ self.old.calls) × (self.new.found ≡ self.old.found) }
     {
-        self.learnt = self.learnt.longer(&receipt.seen);
+        self.view.learnt = self.view.learnt.longer(&receipt.seen);
     }
 }

@@ -7,5 +7,5 @@ use Rattle.shared_registry.proofs.seat.Seat.has_own.Goals as goal
 pub returns : goal.returns
 returns g c =
     let journal = c.args.published.now.journal in
-    let seen : IsPrefix c.self.inside.seen journal = subst (λ (s : Seated). IsPrefix s.seen journal) (sym c.self.view_is) c.requires.seen in
-    rw (← c.self.view_is) (same_by_count c.self.inside.number _ _ c.self.inside.seen journal seen c.count.ensures c.self.invariant.1 _ refl)
+    let seen : IsPrefix c.self.inside.view.seen journal = subst (λ (s : Seated). IsPrefix s.seen journal) (sym c.self.view_is) c.requires.seen in
+    rw (← c.self.view_is) (same_by_count c.self.inside.view.number _ _ c.self.inside.view.seen journal seen c.count.ensures c.self.invariant.1 _ refl)

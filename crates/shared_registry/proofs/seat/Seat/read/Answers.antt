@@ -13,30 +13,30 @@ pub invariant_of-self-2 : goal.invariant_of-self-2
 invariant_of-self-2 g c =
     let i = c.self.invariant in
     let count = ok_of _ _ _ c.in-Ok.is c.find-found.ensures.count in
-    let more : IsPrefix c.self.inside.seen c.in-Ok.prefix = ok_of _ _ _ c.in-Ok.is c.find-found.ensures.seen in
-    let same = calls_same c.self.inside.number _ _ more (sym (count ∙ i.1)) in
-    (i.0, sym count, rw same i.2, c.find-found.ensures.reader, c.find-found.ensures.snapshot)
+    let more : IsPrefix c.self.inside.view.seen c.in-Ok.prefix = ok_of _ _ _ c.in-Ok.is c.find-found.ensures.seen in
+    let same = calls_same c.self.inside.view.number _ _ more (sym (count ∙ i.1)) in
+    rw (c.find-found.ensures.same) (i.0, sym count, rw same i.2, c.find-found.ensures.reader, c.find-found.ensures.snapshot)
 
 pub returns-clause-own : goal.returns-clause-own
 returns-clause-own g c =
     let count = ok_of _ _ _ c.in-Ok.is c.find-found.ensures.count in
-    let more : IsPrefix c.self.inside.seen c.in-Ok.prefix = ok_of _ _ _ c.in-Ok.is c.find-found.ensures.seen in
-    calls_same c.self.inside.number _ _ more (sym (count ∙ c.self.invariant.1)) ∙ ap (λ s. s.own) c.self.view_is
+    let more : IsPrefix c.self.inside.view.seen c.in-Ok.prefix = ok_of _ _ _ c.in-Ok.is c.find-found.ensures.seen in
+    rw (c.find-found.ensures.same) (calls_same c.self.inside.view.number _ _ more (sym (count ∙ c.self.invariant.1)) ∙ ap (λ s. s.own) c.self.view_is)
 
 pub returns-clause-seen_learnt : goal.returns-clause-seen_learnt
 returns-clause-seen_learnt g c =
-    let learnt : IsPrefix c.self.inside.learnt c.in-Ok.prefix = ok_of _ _ _ c.in-Ok.is c.find-found.ensures.learnt in
+    let learnt : IsPrefix c.self.inside.view.learnt c.in-Ok.prefix = ok_of _ _ _ c.in-Ok.is c.find-found.ensures.learnt in
     let seen_learnt : IsPrefix c.args.self.now.learnt c.in-Ok.prefix = subst (λ l. IsPrefix l c.in-Ok.prefix) (ap (λ s. s.learnt) c.self.view_is) learnt in
     ok_any _ c.match-run_work.result seen_learnt
 
 pub returns-clause-read : goal.returns-clause-read
 returns-clause-read g c = elim c.match-run_work.branch [
   | in-Ok-run_work w ↦ subst (λ r. IfOk r (IsRead g.J.RegistryId.domain c.in-Ok.prefix c.args.batch)) (sym w.result-is) (record {
-    snapshot = c.find-found.new.snapshot;
+    snapshot = c.find-found.new.self.snapshot;
     made = subst (λ d. IsMadeFor d c.args.batch) c.requires.domain c.ops-made.ensures.made;
     domain_is = c.find-found.ensures.snapshot.domain_is;
-    is_journal_of = subst (λ l. IsJournal l (whole_head c.find-found.new.snapshot.window l)) (sym (ok_of _ _ _ c.in-Ok.is c.find-found.ensures.found)) c.window-window.ensures.journal;
-    at_end = subst (λ b. IsAtEnd b c.find-found.new.snapshot w.in-Ok-run_work.work) c.in-Ok-begin_work.ensures.batch_is w.in-Ok-run_work.ensures;
+    is_journal_of = subst (λ l. IsJournal l (whole_head c.find-found.new.self.snapshot.window l)) (sym (ok_of _ _ _ c.in-Ok.is c.find-found.ensures.found)) c.window-window.ensures.journal;
+    at_end = subst (λ b. IsAtEnd b c.find-found.new.self.snapshot w.in-Ok-run_work.work) c.in-Ok-begin_work.ensures.batch_is w.in-Ok-run_work.ensures;
   })
   | in-Err-run_work w ↦ subst (λ r. IfOk r (IsRead g.J.RegistryId.domain c.in-Ok.prefix c.args.batch)) (sym w.result-is) tt
 ]
