@@ -65,8 +65,9 @@ impl CommitRefusal {
 
 impl From<AllocError> for CommitRefusal {
     ghost use Rattle.std.specs.Prelude.{◌≡◌};
+    ghost use Rattle.commit_head.specs.declared.commit.CommitRefusal.TheVariants.{NoMemory};
 
-    ghost from_gives = { λ _ refusal. refusal ≡ CommitRefusal.NoMemory };
+    ghost from_gives = { λ _ refusal. refusal ≡ NoMemory };
 
     fn from(_: AllocError) -> CommitRefusal {
         CommitRefusal::NoMemory

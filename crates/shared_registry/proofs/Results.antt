@@ -10,6 +10,6 @@ pub ok_any : {X E : Type 0} (Q : Type 0) (r : Result X E) → Q → IfOk r (λ _
 ok_any Q (Ok x) q = q
 ok_any Q (Err e) q = tt
 
-pub on_ok : {X E P Q : Type 0} (r : Result X E) → (P → Q) → OnOk r P → OnOk r Q
-on_ok (Ok x) f p = f p
-on_ok (Err e) f p = tt
+pub by_ok : {X E P : Type 0} {x : X} (r : Result X E) → r ≡ Ok x → OnOk r P → P
+by_ok (Ok x) e p = p
+by_ok (Err k) e p = cc
