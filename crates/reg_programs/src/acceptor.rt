@@ -33,7 +33,7 @@ pub(crate) fn accept_all<R: Wait + Clock, L: OpenListener<Stream = TcpStream> + 
 {
     for number in 0..connections {
         let stream = next_stream(rt, &listener, number > 0, counts)?;
-        counts.accepted(rt);
+        counts.count_accepted(rt);
         let queue = &queues[worker_of(number, queues.len())];
         let _ = queue.put(rt, Connection { number, stream });
     }
@@ -62,7 +62,7 @@ fn next_stream<R: Wait + Clock, L: OpenListener<Stream = TcpStream>>(
             Ok((stream, _)) => return Ok(stream),
             Err(error) => error,
         };
-        counts.failed(rt);
+        counts.count_failed(rt);
         shortages = shortages_after(AcceptFault::of(&error), shortages, has_accepted)?;
         thread::sleep(rt, Duration::from_millis(10));
     }

@@ -361,10 +361,10 @@ fn work<J: RegistryId, R: Wait>(
         let Some(connection) = queue.take(context.rt) else {
             break
         };
-        context.counts.begun(context.rt);
+        context.counts.count_begun(context.rt);
         seat = attend(context, seat, &connection);
         drop(connection);
-        context.counts.ended(context.rt);
+        context.counts.count_ended(context.rt);
     }
     seat
 }

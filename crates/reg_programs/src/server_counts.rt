@@ -67,26 +67,26 @@ impl ServerCounts {
     }
 
     /// Counts a connection that was accepted.
-    pub(crate) fn accepted<R: Wait>(&self, rt: &R) {
+    pub(crate) fn count_accepted<R: Wait>(&self, rt: &R) {
         let mut tally = self.tally.lock(rt);
         tally.counts.accepted = tally.counts.accepted.saturating_add(1);
         tally.counts.failures = 0;
     }
 
     /// Counts a connection that a worker begins to serve.
-    pub(crate) fn begun<R: Wait>(&self, rt: &R) {
+    pub(crate) fn count_begun<R: Wait>(&self, rt: &R) {
         let mut tally = self.tally.lock(rt);
         tally.counts.begun = tally.counts.begun.saturating_add(1);
     }
 
     /// Counts a connection that has ended.
-    pub(crate) fn ended<R: Wait>(&self, rt: &R) {
+    pub(crate) fn count_ended<R: Wait>(&self, rt: &R) {
         let mut tally = self.tally.lock(rt);
         tally.counts.ended = tally.counts.ended.saturating_add(1);
     }
 
     /// Counts a failed call of `accept`. If a line on it is due, wakes the thread that writes it.
-    pub(crate) fn failed<R: Wait>(&self, rt: &R) {
+    pub(crate) fn count_failed<R: Wait>(&self, rt: &R) {
         let mut tally = self.tally.lock(rt);
         let failures = tally.counts.failures.saturating_add(1);
         tally.counts.failures = failures;
