@@ -8,6 +8,6 @@ commit-outcome-requires-clause-began c = may_prepare c.args.head.now c.args.work
 
 pub returns-in-Ok-answer-clause-some : goal.returns-in-Ok-answer-clause-some
 returns-in-Ok-answer-clause-some c =
-    let replies = subst (HasReplies c.args.work.now) (sym c.in-Ok.ensures) c.in-Some.ensures.replies in
+    let replies = subst (HasReplies c.args.work.now) (sym c.in-Ok.ensures.cases) c.in-Some.ensures.replies in
     decided c.args.head.now c.commit-outcome.new.self c.args.work.now 0 c.args.number c.commit-outcome.result c.in-Ok.replies c.in-Ok-answer.answer c.in_ok-decision.decision c.in_ok-decision.place
     c.requires.whole c.requires.rests c.requires.ready replies c.commit-outcome.ensures c.in-Ok-answer.ensures.answer (sym c.in_ok-decision.ensures)
