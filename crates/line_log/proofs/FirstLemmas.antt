@@ -1,0 +1,114 @@
+-- What bytes begin with, and their lines.
+use Rattle.std.proofs.Common.{◌≡◌, ℕ, zero, suc, ◌+◌, ◌<◌, ◌≤◌, List, [], ◌∷◌, ◌++◌, length, take, drop, refl, sym, ◌∙◌, ap, subst, arith, append_assoc, length-append}
+use Rattle.std.proofs.lemmas.List.{append-nil, take_more, length-take-le}
+use Rattle.std.specs.Prelude.{◌≢◌, slice_index}
+use Rattle.std.specs.List.{AllByRecursion}
+use Rattle.line_log.specs.Lines.{lines_from, lines_in, text_of, IsLogLine}
+use Rattle.line_log.specs.ReadingPrivate.{IsBegun, IsBreak}
+use Rattle.line_log.proofs.LineLemmas.{IsInside, opens, shut, inside, ends, breaks, lines_of_text, text_append, all_append}
+
+through : (x : ℕ) (line r rest : List ℕ) → AllByRecursion IsInside r → lines_from (x ∷ line) (r ++ rest) ≡ lines_from (x ∷ line ++ r) rest
+through x line [] rest all = ap (λ (l : List ℕ). lines_from (x ∷ l) rest) (sym (append-nil line))
+through x line (b ∷ r) rest all =
+    inside x line b (r ++ rest) all.0 ∙ through x (line ++ b ∷ []) r rest all.1 ∙ ap (λ (l : List ℕ). lines_from (x ∷ l) rest) (append_assoc line (b ∷ []) r)
+
+begun_then : (p rest : List ℕ) → IsBegun p → lines_in (p ++ rest) ≡ lines_from p rest
+begun_then [] rest begun = refl
+begun_then (b ∷ p) rest begun = opens b (p ++ rest) begun.0 ∙ through b [] p rest begun.1
+
+-- nothing but the beginning of a line
+pub begun_none : (p : List ℕ) → IsBegun p → lines_in p ≡ []
+begun_none [] begun = refl
+begun_none (b ∷ p) begun = ap lines_in (sym (append-nil (b ∷ p))) ∙ begun_then (b ∷ p) [] begun
+
+-- a line that is broken
+pub broken_none : (p : List ℕ) (b : ℕ) (rest : List ℕ) → IsBegun p → IsBreak p b → lines_in (p ++ b ∷ rest) ≡ []
+broken_none [] b rest begun other = shut b rest other
+broken_none (x ∷ p) b rest begun other = begun_then (x ∷ p) (b ∷ rest) begun ∙ breaks x p b rest other.0 other.1
+
+-- a whole line
+pub whole_then : (p rest : List ℕ) → IsLogLine p → lines_in (p ++ 10 ∷ rest) ≡ p ∷ lines_in rest
+whole_then [] rest line = absurd line
+whole_then (x ∷ p) rest line = begun_then (x ∷ p) (10 ∷ rest) line ∙ ends x p 10 rest refl
+
+pub split_at : (bytes : List ℕ) (n : ℕ) → n < length bytes → bytes ≡ take n bytes ++ slice_index bytes n ∷ drop (suc n) bytes
+split_at [] n low = absurd (omega arith)
+split_at (b ∷ bytes) zero low = refl
+split_at (b ∷ bytes) (suc n) low = ap (λ (l : List ℕ). b ∷ l) (split_at bytes n (omega arith))
+
+pub past : (bytes : List ℕ) (n : ℕ) → n < length bytes → bytes ≡ take n bytes ++ slice_index bytes n ∷ drop (n + 1) bytes
+past bytes n low =
+    let next : suc n ≡ n + 1 = omega arith in
+    split_at bytes n low ∙ ap (λ (k : ℕ). take n bytes ++ slice_index bytes n ∷ drop k bytes) next
+
+-- bytes and what follows them, where they begin with a whole line
+pub whole_first : (bytes more : List ℕ) (n : ℕ) → n < length bytes → IsLogLine (take n bytes) → slice_index bytes n ≡ 10 → lines_in (bytes ++ more) ≡ take n bytes ∷ lines_in (drop (n + 1) bytes ++ more)
+whole_first bytes more n low line lf =
+    let whole : bytes ≡ take n bytes ++ 10 ∷ drop (n + 1) bytes = past bytes n low ∙ ap (λ (k : ℕ). take n bytes ++ k ∷ drop (n + 1) bytes) lf in
+    ap (λ (l : List ℕ). lines_in (l ++ more)) whole ∙ ap lines_in (append_assoc (take n bytes) (10 ∷ drop (n + 1) bytes) more) ∙ whole_then (take n bytes) (drop (n + 1) bytes ++ more) line
+
+pub broken_first : (bytes more : List ℕ) (n : ℕ) → n < length bytes → IsBegun (take n bytes) → IsBreak (take n bytes) (slice_index bytes n) → lines_in (bytes ++ more) ≡ []
+broken_first bytes more n low begun other =
+    ap (λ (l : List ℕ). lines_in (l ++ more)) (past bytes n low) ∙ ap lines_in (append_assoc (take n bytes) (slice_index bytes n ∷ drop (n + 1) bytes) more)
+    ∙ broken_none (take n bytes) (slice_index bytes n) (drop (n + 1) bytes ++ more) begun other
+
+-- one more byte of a line
+inside_more : (r : List ℕ) (b : ℕ) → AllByRecursion IsInside r → 32 ≤ b → AllByRecursion IsInside (r ++ b ∷ [])
+inside_more [] b all high = (high, tt)
+inside_more (y ∷ r) b all high = (all.0, inside_more r b all.1 high)
+
+begun_more : (p : List ℕ) (b : ℕ) → IsLogLine p → 32 ≤ b → IsLogLine (p ++ b ∷ [])
+begun_more [] b line high = absurd line
+begun_more (x ∷ p) b line high = (line.0, inside_more p b line.1 high)
+
+-- ---- a line that is read byte by byte
+
+pub begun_line : (p : List ℕ) → IsBegun p → 0 < length p → IsLogLine p
+begun_line [] begun some = absurd (omega arith)
+begun_line (x ∷ p) begun some = begun
+
+pub breaks_at : (p : List ℕ) (b : ℕ) → 0 < length p → b ≢ 10 → b < 32 → IsBreak p b
+breaks_at [] b some other low = absurd (omega arith)
+breaks_at (x ∷ p) b some other low = (other, low)
+
+begun_next : (p : List ℕ) (b : ℕ) → IsBegun p → (length p ≡ 0 → b ≡ 123) → (0 < length p → 32 ≤ b) → IsBegun (p ++ b ∷ [])
+begun_next [] b begun first later = (first refl, tt)
+begun_next (x ∷ p) b begun first later = begun_more (x ∷ p) b begun (later (omega arith))
+
+pub begun_step : (bytes : List ℕ) (i : ℕ) → i < length bytes → IsBegun (take i bytes) → (i ≡ 0 → slice_index bytes i ≡ 123) → (0 < i → 32 ≤ slice_index bytes i) → IsBegun (take (i + 1) bytes)
+begun_step bytes i low begun first later =
+    let size : length (take i bytes) ≡ i = length-take-le i bytes (omega arith) in
+    subst IsBegun (sym (take_more bytes i 0 low)) (begun_next (take i bytes) (slice_index bytes i) begun (λ e. first (sym size ∙ e)) (λ some. later (omega (arith, size))))
+
+pub line_at : (bytes : List ℕ) (i : ℕ) → i < length bytes → 0 < i → IsBegun (take i bytes) → IsLogLine (take i bytes)
+line_at bytes i low some begun = begun_line (take i bytes) begun (omega (arith, length-take-le i bytes (omega arith)))
+
+pub break_at : (bytes : List ℕ) (i b : ℕ) → i < length bytes → 0 < i → b ≢ 10 → b < 32 → IsBreak (take i bytes) b
+break_at bytes i b low some other below = breaks_at (take i bytes) b (omega (arith, length-take-le i bytes (omega arith))) other below
+
+pub broken_bytes : (bytes : List ℕ) (n : ℕ) → n < length bytes → IsBegun (take n bytes) → IsBreak (take n bytes) (slice_index bytes n) → lines_in bytes ≡ []
+broken_bytes bytes n low begun other = ap lines_in (sym (append-nil bytes)) ∙ broken_first bytes [] n low begun other
+
+-- ---- a text that is read line by line
+
+module _ (text rest : List ℕ) (ls : List (List ℕ)) (is : text ≡ text_of ls ++ rest) (all : AllByRecursion IsLogLine ls) where
+  pub text_ended : lines_in rest ≡ [] → lines_in text ≡ ls
+  text_ended none = ap lines_in is ∙ lines_of_text ls rest all ∙ ap (λ (l : List (List ℕ)). ls ++ l) none ∙ append-nil ls
+
+  pub text_step : (n : ℕ) → n < length rest → slice_index rest n ≡ 10 → text ≡ text_of (ls ++ take n rest ∷ []) ++ drop (n + 1) rest
+  text_step n low lf =
+      let l = take n rest in
+      let d = drop (n + 1) rest in
+      let joined : text_of (ls ++ l ∷ []) ++ d ≡ text_of ls ++ l ++ 10 ∷ d =
+          ap (λ (t : List ℕ). t ++ d) (text_append ls (l ∷ [])) ∙ append_assoc (text_of ls) (l ++ 10 ∷ []) d ∙ ap (λ (t : List ℕ). text_of ls ++ t) (append_assoc l (10 ∷ []) d) in
+      is ∙ ap (λ (r : List ℕ). text_of ls ++ r) (past rest n low ∙ ap (λ (k : ℕ). l ++ k ∷ d) lf) ∙ sym joined
+
+  pub text_all : (n : ℕ) → IsLogLine (take n rest) → AllByRecursion IsLogLine (ls ++ take n rest ∷ [])
+  text_all n line = all_append ls (take n rest ∷ []) all (line, tt)
+
+  -- the text is whole lines just if nothing is left
+  pub text_whole : lines_in rest ≡ [] → rest ≡ [] → text_of (lines_in text) ≡ text
+  text_whole none empty = ap text_of (text_ended none) ∙ sym (is ∙ ap (λ (r : List ℕ). text_of ls ++ r) empty ∙ append-nil (text_of ls))
+
+  pub none_left : lines_in rest ≡ [] → text_of (lines_in text) ≡ text → length rest ≡ 0
+  none_left none whole = omega (arith, ap length is, length-append (text_of ls) rest, ap length whole, ap (λ (l : List (List ℕ)). length (text_of l)) (text_ended none))

@@ -1,0 +1,51 @@
+use Rattle.std.proofs.Common.{rules, ◌≡◌, ◌<◌, ◌+◌, ℕ, List, length, arith, sym, ◌∙◌, ap, subst}
+use Rattle.std.specs.Prelude.{slice_index}
+use Rattle.std.proofs.lemmas.List.{get_or-replicate, length-replicate}
+use Rattle.sqlite_disk.specs.Disk.{Torn, Holds}
+use Rattle.line_log.proofs.StepLemmas.{torn_behind, rest_with_room}
+use Rattle.line_log.proofs.file.LineFile.make_room.Goals as goal
+
+pub returns-in_err-write_at-clause-any_moment : goal.returns-in_err-write_at-clause-any_moment
+returns-in_err-write_at-clause-any_moment g c clean left may =
+    let s = c.requires.settled clean in
+    let f = g.D.Disk.seen c.args.self.now.disk in
+    let (before, was, torn) = c.write_at.ensures.crash left may in
+    torn_behind f c.args.self.now.end s.rest c.args.self.now.len _ left c.args.self.now.room (omega (arith, c.args.self.now.room, s.len)) (rw (s.durable before was) at torn)
+
+pub returns-in_err-sync-clause-any_moment : goal.returns-in_err-sync-clause-any_moment
+returns-in_err-sync-clause-any_moment g c clean left may =
+    let s = c.requires.settled clean in
+    let f = g.D.Disk.seen c.args.self.now.disk in
+    let (before, was, torn) = c.write_at.ensures.crash left (c.sync.ensures.crash left may) in
+    torn_behind f c.args.self.now.end s.rest c.args.self.now.len _ left c.args.self.now.room (omega (arith, c.args.self.now.room, s.len)) (rw (s.durable before was) at torn)
+
+pub returns-clause-any_moment : goal.returns-clause-any_moment
+returns-clause-any_moment g c clean left may =
+    let s = c.requires.settled clean in
+    let f = g.D.Disk.seen c.args.self.now.disk in
+    let (before, was, torn) = c.write_at.ensures.crash left (c.sync.ensures.crash left may) in
+    torn_behind f c.args.self.now.end s.rest c.args.self.now.len _ left c.args.self.now.room (omega (arith, c.args.self.now.room, s.len)) (rw (s.durable before was) at torn)
+
+pub returns-clause-same : goal.returns-clause-same
+returns-clause-same g c clean =
+    let s = c.requires.settled clean in
+    let f = g.D.Disk.seen c.args.self.now.disk in
+    rw c.sync.ensures.seen (torn_behind f c.args.self.now.end s.rest c.args.self.now.len _ (g.D.Disk.seen c.write_at.new.self) c.args.self.now.room (omega (arith, c.args.self.now.room, s.len)) c.write_at.ensures.others)
+
+pub returns-clause-settled : goal.returns-clause-settled
+returns-clause-settled g c clean =
+    let s = c.requires.settled clean in
+    let f = g.D.Disk.seen c.args.self.now.disk in
+    let n = g.D.Disk.seen c.write_at.new.self in
+    let b = c.deref.result.now in
+    let b_is = c.deref.ensures.value ∙ c.in_ok-blanks.ensures in
+    let long : length b ≡ c.args.count + 262144 = ap length b_is ∙ length-replicate {A = ℕ} (c.args.count + 262144) 13 in
+    let torn = subst (λ (k : ℕ). Torn k (length b) f n) s.len c.write_at.ensures.others in
+    let holds = subst (λ (k : ℕ). Holds n k b) s.len (c.in_ok-write_at.ensures.written (omega (arith, long))) in
+    let done = rest_with_room f c.args.self.now.end s.rest b n (omega (arith, c.args.self.now.room, s.len)) torn holds
+        (λ i low. ap (λ (l : List ℕ). slice_index l i) b_is ∙ get_or-replicate (c.args.count + 262144) i 13 0 (omega (arith, low, long))) in
+    record {
+      rest = rw c.sync.ensures.seen (done.0);
+      len = rw c.sync.ensures.seen (omega (arith, s.len, done.1, c.len.ensures, ap length c.deref.ensures.value));
+      durable = rw c.sync.ensures.seen (c.in_ok-sync.ensures.durable);
+    }

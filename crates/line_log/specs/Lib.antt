@@ -1,0 +1,5 @@
+pub mod Lines
+pub mod Hashes
+pub mod Log
+pub mod Reading
+pub mod ReadingPrivate

@@ -1,0 +1,38 @@
+-- When a log is at rest.
+use Rattle.std.specs.Prelude.{◌≡◌, ◌≢◌, ℕ, ◌<◌, ◌≤◌, List, length, slice_index}
+use Rattle.sqlite_disk.specs.Disk.{Only}
+use Rattle.line_log.specs.Lines.{lines_in, text_of}
+use Rattle.sqlite_disk.specs.declared.Disk.{Ghosts}
+
+use Rattle.line_log.specs.declared.file.LineFile.{LineFile}
+use Rattle.line_log.specs.declared.log.LineLog.{LineLog}
+use Rattle.line_log.specs.Hashes.{hashed}
+use Rattle.sha2.specs.Hashers.{Holds256}
+
+-- the file begins with the text of these lines, which is so long
+pub record BeginsWith (file : List ℕ) (lines : List (List ℕ)) (end : ℕ) : Type 0 where
+  pub end_is : end ≡ length (text_of lines)
+  pub within : end ≤ length file
+  pub text : (i : ℕ) → i < end → slice_index file i ≡ slice_index (text_of lines) i
+
+-- no line begins behind the lines
+abbrev pub IsShutAt : List ℕ → ℕ → Type 0
+IsShutAt file end = end < length file → slice_index file end ≢ 123
+
+-- the file has the text of its lines, which is so long, and then blanks (CRs, 13)
+pub record IsAtRest (file : List ℕ) (end : ℕ) : Type 0 where
+  pub end_is : end ≡ length (text_of (lines_in file))
+  pub text : (i : ℕ) → i < end → slice_index file i ≡ slice_index (text_of (lines_in file)) i
+  pub blank : (i : ℕ) → end ≤ i → i < length file → slice_index file i ≡ 13
+
+-- the file is at rest, and all of it is on the disk
+pub record IsSettled {D : Type 0} {d : Ghosts D} (seen : D → List ℕ) (may_leave : D → List ℕ → Type 0) (log : LineFile D d) : Type 0 where
+  pub rest : IsAtRest (seen log.disk) log.end
+  pub len : log.len ≡ length (seen log.disk)
+  pub durable : Only (seen log.disk) (may_leave log.disk)
+
+-- the log has these lines: its file is at rest and has them with their hashes, and its hasher holds their text
+pub record HasLines {D : Type 0} {d : Ghosts D} (seen : D → List ℕ) (may_leave : D → List ℕ → Type 0) (log : LineLog D d) (lines : List (List ℕ)) : Type 0 where
+  pub settled : IsSettled seen may_leave log.file
+  pub same : lines_in (seen log.file.disk) ≡ hashed lines
+  pub text : Holds256 log.hasher (text_of lines)

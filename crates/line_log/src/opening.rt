@@ -1,0 +1,61 @@
+//! How is a log opened and read whole?
+
+ghost use Rattle.std.specs.Prelude.{◌≡◌, ℕ, List, [], IsTrue, IfOk, IfErr};
+ghost use Rattle.sqlite_disk.specs.Disk.{Only};
+ghost use Rattle.line_log.specs.Lines.{lines_in, text_of};
+ghost use Rattle.line_log.specs.Hashes.{hashed};
+ghost use Rattle.line_log.specs.Log.{HasLines, IsSettled};
+ghost use Rattle.line_log.specs.Reading.{HasRead};
+
+use crate::error::LogError;
+use crate::log::LineLog;
+use crate::reader::LogReader;
+use sqlite_disk::Disk;
+use std::alloc::Global;
+
+/// Reads the lines that are left, and returns the text of all.
+fn read_text<D: Disk>(alloc: Global, reader: &mut LogReader<D>) -> Result<Vec<u8>, LogError>
+    requires usable { IsTrue (D.Disk.is_usable reader.old.disk) }
+    ensures usable { IsTrue (D.Disk.is_usable reader.new.disk) }
+    ensures clean { IsTrue (D.Disk.is_clean reader.new.disk) → IsTrue (D.Disk.is_clean reader.old.disk) }
+    ensures seen { D.Disk.seen reader.new.disk ≡ D.Disk.seen reader.old.disk }
+    ensures crash { (c : List ℕ) → D.Disk.may_leave reader.new.disk c → D.Disk.may_leave reader.old.disk c }
+    ensures text { IfOk result (λ text. IsTrue (D.Disk.is_clean reader.new.disk) → HasRead (D.Disk.seen reader.old.disk) reader.old [] → (lines : List (List ℕ)) × HasRead (D.Disk.seen reader.old.disk) reader.new lines × (text.items ≡ text_of lines)) }
+{
+    let mut text = Vec::new(alloc);
+    let mut line = Vec::new(alloc);
+    'lines: for _ in 0..u64::MAX {
+        if !reader.next_line(alloc, &mut line)? {
+            break;
+        }
+        text.extend_from_slice(&line)?;
+        text.extend_from_slice(b"\n")?;
+    }
+    Ok(text)
+}
+
+/// Opens a log that a crash may have left, and returns it with the text of its lines, without hashes: for tests, and where that
+/// fits into memory. An error hands the file back.
+pub fn open_log<D: Disk>(alloc: Global, disk: D) -> Result<(LineLog<D>, Vec<u8>), (LogError, D)>
+    requires usable { IsTrue (D.Disk.is_usable disk) }
+    // After a restart, what is read is what is on the disk.
+    requires durable { Only (D.Disk.seen disk) (D.Disk.may_leave disk) }
+    ensures usable { IfOk result (λ r. IsTrue (D.Disk.is_usable r.0.file.disk)) }
+    ensures clean { IfOk result (λ r. IsTrue (D.Disk.is_clean r.0.file.disk) → IsTrue (D.Disk.is_clean disk)) }
+    ensures settled { IfOk result (λ r. IsTrue (D.Disk.is_clean r.0.file.disk) → IsSettled D.Disk.seen D.Disk.may_leave r.0.file) }
+    ensures opened { IfOk result (λ r. IsTrue (D.Disk.is_clean r.0.file.disk) → (lines : List (List ℕ)) × HasLines D.Disk.seen D.Disk.may_leave r.0 lines × (lines_in (D.Disk.seen disk) ≡ hashed lines) × (r.1.items ≡ text_of lines)) }
+    ensures any_moment { IfOk result (λ r. IsTrue (D.Disk.is_clean r.0.file.disk) → (c : List ℕ) → D.Disk.may_leave r.0.file.disk c → lines_in c ≡ lines_in (D.Disk.seen disk)) }
+    ensures any_moment_err { IfErr result (λ e. IsTrue (D.Disk.is_clean e.1) → (c : List ℕ) → D.Disk.may_leave e.1 c → lines_in c ≡ lines_in (D.Disk.seen disk)) }
+{
+    let mut reader = LogReader::new(alloc, disk)?;
+    match read_text(alloc, &mut reader) {
+        Ok(text) => {
+            let log = reader.finish(alloc)?;
+            Ok((log, text))
+        }
+        Err(error) => {
+            let LogReader { disk, .. } = reader;
+            Err((error, disk))
+        }
+    }
+}

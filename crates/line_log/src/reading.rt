@@ -1,0 +1,268 @@
+//! How is the file of a log read, line by line, and opened at its end?
+
+ghost use Rattle.std.specs.Prelude.{◌≡◌, ◌+◌, ◌<◌, ◌≤◌, ◌++◌, ◌∷◌, [], ℕ, Bool, false, List, drop, length, slice_index, IsTrue, IfOk, IfErr, IfSome, OnOk};
+ghost use Rattle.sqlite_disk.specs.Disk.{Only};
+ghost use Rattle.line_log.specs.Lines.{lines_in};
+ghost use Rattle.line_log.specs.Hashes.{hashed};
+ghost use Rattle.line_log.specs.Log.{HasLines, IsAtRest};
+ghost use Rattle.line_log.specs.Reading.{HasRead, IsPartOf, held_by};
+ghost use Rattle.line_log.specs.ReadingPrivate.{BeginsAs, Tells};
+ghost use Rattle.line_log.specs.declared.first_line.FirstLine.TheVariants.{Whole};
+
+use crate::error::LogError;
+use crate::file::{LineFile, MOST};
+use crate::first_line::{FirstLine, first_line};
+use crate::hashing::take_line;
+use crate::log::LineLog;
+use crate::reader::LogReader;
+use crate::tail::{cut_tail, shut_tail};
+use sha2::{Digest, Sha256};
+use sqlite_disk::Disk;
+use std::alloc::Global;
+
+/// How many bytes of a file are read at once.
+const BLOCK: usize = 1 << 18;
+
+/// The maximum length of a line of a file, with its hash and LF. No line that `regd` prints is as long.
+const LONGEST: usize = 1 << 23;
+
+/// Reads a part of a file.
+fn read_block<D: Disk>(
+    alloc: Global,
+    disk: &mut D,
+    at: usize,
+    size: usize,
+) -> Result<Vec<u8>, LogError>
+    requires usable { IsTrue (D.Disk.is_usable disk.old) }
+    ensures usable { IsTrue (D.Disk.is_usable disk.new) }
+    ensures clean { IsTrue (D.Disk.is_clean disk.new) → IsTrue (D.Disk.is_clean disk.old) }
+    ensures seen { D.Disk.seen disk.new ≡ D.Disk.seen disk.old }
+    ensures crash { (c : List ℕ) → D.Disk.may_leave disk.new c → D.Disk.may_leave disk.old c }
+    ensures size { IfOk result (λ block. length block.items ≡ size) }
+    ensures bytes { IfOk result (λ block. IsTrue (D.Disk.is_clean disk.new) → (i : ℕ) → i < size → slice_index (D.Disk.seen disk.old) (at + i) ≡ slice_index block.items i) }
+{
+    let mut block = vec![in alloc; 0; size]?;
+    disk.read_at(at, &mut block)?;
+    Ok(block)
+}
+
+impl<D: Disk> LogReader<D> {
+    /// Begins to read the file of a log. An error hands the file back.
+    pub fn new(alloc: Global, mut disk: D) -> Result<LogReader<D>, (LogError, D)>
+        requires usable { IsTrue (D.Disk.is_usable disk) }
+        ensures usable { IfOk result (λ r. IsTrue (D.Disk.is_usable r.disk)) }
+        ensures clean { IfOk result (λ r. IsTrue (D.Disk.is_clean r.disk) → IsTrue (D.Disk.is_clean disk)) }
+        ensures seen { IfOk result (λ r. D.Disk.seen r.disk ≡ D.Disk.seen disk) }
+        ensures crash { IfOk result (λ r. (c : List ℕ) → D.Disk.may_leave r.disk c → D.Disk.may_leave disk c) }
+        ensures crash_err { IfErr result (λ e. (c : List ℕ) → D.Disk.may_leave e.1 c → D.Disk.may_leave disk c) }
+        ensures read { IfOk result (λ r. IsTrue (D.Disk.is_clean r.disk) → HasRead (D.Disk.seen r.disk) r []) }
+    {
+        match disk.len() {
+            Ok(len) => Ok(LogReader {
+                disk,
+                len,
+                at: 0,
+                block: Vec::new(alloc),
+                from: 0,
+                hasher: Sha256::new(),
+            }),
+            Err(error) => Err((LogError::Disk(error), disk)),
+        }
+    }
+
+    /// Reads the next line, without its hash, and returns true; or false if no whole line follows. Nothing is written. At `Err`
+    /// begin again: the file is damaged if its next line has another hash, and if the byte that ends its lines is no blank.
+    pub fn next_line(&mut self, alloc: Global, line: &mut Vec<u8>) -> Result<bool, LogError>
+        requires usable { IsTrue (D.Disk.is_usable self.old.disk) }
+        ensures usable { IsTrue (D.Disk.is_usable self.new.disk) }
+        ensures clean { IsTrue (D.Disk.is_clean self.new.disk) → IsTrue (D.Disk.is_clean self.old.disk) }
+        ensures seen { D.Disk.seen self.new.disk ≡ D.Disk.seen self.old.disk }
+        ensures crash { (c : List ℕ) → D.Disk.may_leave self.new.disk c → D.Disk.may_leave self.old.disk c }
+        ensures next { IfOk result (λ any. IsTrue any → IsTrue (D.Disk.is_clean self.new.disk) → (lines : List (List ℕ)) → HasRead (D.Disk.seen self.old.disk) self.old lines
+            → HasRead (D.Disk.seen self.old.disk) self.new (lines ++ line.new.items ∷ [])) }
+        ensures last { IfOk result (λ any. any ≡ false → IsTrue (D.Disk.is_clean self.new.disk) → (lines : List (List ℕ)) → HasRead (D.Disk.seen self.old.disk) self.old lines
+            → lines_in (D.Disk.seen self.old.disk) ≡ hashed lines) }
+        ensures kept { IfOk result (λ any. any ≡ false → IsTrue (D.Disk.is_clean self.new.disk) → (lines : List (List ℕ)) → HasRead (D.Disk.seen self.old.disk) self.old lines
+            → HasRead (D.Disk.seen self.old.disk) self.new lines) }
+    {
+        match self.look(alloc)? {
+            FirstLine::Whole(len) => {
+                self.take(len, line)?;
+                Ok(true)
+            }
+            FirstLine::Part => Ok(false),
+            FirstLine::Broken(len) => {
+                if !self.is_torn(len) {
+                    return Err(LogError::Damaged);
+                }
+                Ok(false)
+            }
+        }
+    }
+
+    /// Opens the log whose lines were all read: cuts off what isn't a whole line, and leaves a blank behind the lines. It may
+    /// crash too, and then the file has the same lines. An error hands the file back.
+    pub fn finish(mut self, alloc: Global) -> Result<LineLog<D>, (LogError, D)>
+        requires usable { IsTrue (D.Disk.is_usable self.disk) }
+        // After a restart, what is read is what is on the disk.
+        requires durable { Only (D.Disk.seen self.disk) (D.Disk.may_leave self.disk) }
+        requires read { IsTrue (D.Disk.is_clean self.disk) → (lines : List (List ℕ)) × HasRead (D.Disk.seen self.disk) self lines }
+        ensures usable { IfOk result (λ log. IsTrue (D.Disk.is_usable log.file.disk)) }
+        ensures clean { IfOk result (λ log. IsTrue (D.Disk.is_clean log.file.disk) → IsTrue (D.Disk.is_clean self.disk)) }
+        ensures clean_err { IfErr result (λ e. IsTrue (D.Disk.is_clean e.1) → IsTrue (D.Disk.is_clean self.disk)) }
+        ensures opened { IfOk result (λ log. IsTrue (D.Disk.is_clean log.file.disk) → (lines : List (List ℕ)) → HasRead (D.Disk.seen self.disk) self lines
+            → HasLines D.Disk.seen D.Disk.may_leave log lines) }
+        ensures any_moment { IfOk result (λ log. IsTrue (D.Disk.is_clean log.file.disk) → (c : List ℕ) → D.Disk.may_leave log.file.disk c → lines_in c ≡ lines_in (D.Disk.seen self.disk)) }
+        ensures any_moment_err { IfErr result (λ e. IsTrue (D.Disk.is_clean e.1) → (c : List ℕ) → D.Disk.may_leave e.1 c → lines_in c ≡ lines_in (D.Disk.seen self.disk)) }
+    {
+        let settled = self.settle(alloc);
+        let LogReader {
+            disk, at, hasher, ..
+        } = self;
+        match settled {
+            Ok(()) => {
+                let file = LineFile {
+                    disk,
+                    end: at,
+                    len: at + 1,
+                };
+                Ok(LineLog { file, hasher })
+            }
+            Err(error) => Err((error, disk)),
+        }
+    }
+
+    /// Cuts off what isn't a whole line, and leaves a blank behind the lines, all of which were read.
+    fn settle(&mut self, alloc: Global) -> Result<(), LogError>
+        requires usable { IsTrue (D.Disk.is_usable self.old.disk) }
+        requires durable { Only (D.Disk.seen self.old.disk) (D.Disk.may_leave self.old.disk) }
+        requires read { IsTrue (D.Disk.is_clean self.old.disk) → (lines : List (List ℕ)) × HasRead (D.Disk.seen self.old.disk) self.old lines }
+        ensures usable { OnOk result (IsTrue (D.Disk.is_usable self.new.disk)) }
+        ensures clean { IsTrue (D.Disk.is_clean self.new.disk) → IsTrue (D.Disk.is_clean self.old.disk) }
+        ensures short { OnOk result (self.new.at ≤ 2 ^ 60) }
+        ensures at { self.new.at ≡ self.old.at }
+        ensures hasher { self.new.hasher ≡ self.old.hasher }
+        ensures durable { OnOk result (Only (D.Disk.seen self.new.disk) (D.Disk.may_leave self.new.disk)) }
+        ensures rest { OnOk result (IsTrue (D.Disk.is_clean self.new.disk) → IsAtRest (D.Disk.seen self.new.disk) self.old.at) }
+        ensures len { OnOk result (length (D.Disk.seen self.new.disk) ≡ self.old.at + 1) }
+        ensures same { OnOk result (IsTrue (D.Disk.is_clean self.new.disk) → lines_in (D.Disk.seen self.new.disk) ≡ lines_in (D.Disk.seen self.old.disk)) }
+        ensures all { OnOk result (IsTrue (D.Disk.is_clean self.new.disk) → lines_in (drop self.old.at (D.Disk.seen self.old.disk)) ≡ []) }
+        ensures any_moment { IsTrue (D.Disk.is_clean self.new.disk) → (c : List ℕ) → D.Disk.may_leave self.new.disk c → lines_in c ≡ lines_in (D.Disk.seen self.old.disk) }
+    {
+        self.look_past(alloc)?;
+        let end = self.at;
+        if end > MOST {
+            return Err(LogError::TooLong);
+        }
+        let is_open = self.begins_line();
+        shut_tail(&mut self.disk, end, is_open)?;
+        cut_tail(&mut self.disk, end)
+    }
+
+    /// Looks whether a line is left to read, which is an error.
+    fn look_past(&mut self, alloc: Global) -> Result<(), LogError>
+        requires usable { IsTrue (D.Disk.is_usable self.old.disk) }
+        ensures usable { IsTrue (D.Disk.is_usable self.new.disk) }
+        ensures clean { IsTrue (D.Disk.is_clean self.new.disk) → IsTrue (D.Disk.is_clean self.old.disk) }
+        ensures seen { D.Disk.seen self.new.disk ≡ D.Disk.seen self.old.disk }
+        ensures crash { (c : List ℕ) → D.Disk.may_leave self.new.disk c → D.Disk.may_leave self.old.disk c }
+        ensures at { self.new.at ≡ self.old.at }
+        ensures hasher { self.new.hasher ≡ self.old.hasher }
+        ensures part { IsTrue (D.Disk.is_clean self.new.disk) → IsPartOf (D.Disk.seen self.old.disk) self.old → IsPartOf (D.Disk.seen self.old.disk) self.new }
+        ensures none { OnOk result (IsTrue (D.Disk.is_clean self.new.disk) → IsPartOf (D.Disk.seen self.old.disk) self.old → lines_in (drop self.old.at (D.Disk.seen self.old.disk)) ≡ []) }
+        ensures held { OnOk result (IsTrue (D.Disk.is_clean self.new.disk) → IsPartOf (D.Disk.seen self.old.disk) self.old → self.new.at < length (D.Disk.seen self.old.disk) → 0 < length (held_by self.new)) }
+    {
+        match self.look(alloc)? {
+            FirstLine::Whole(_) => Err(LogError::Unread),
+            FirstLine::Part => Ok(()),
+            FirstLine::Broken(_) => Ok(()),
+        }
+    }
+
+    /// Takes a whole line of this length from the bytes in memory, if it has the right hash.
+    fn take(&mut self, len: usize, line: &mut Vec<u8>) -> Result<(), LogError>
+        requires len { len < length (held_by self.old) }
+        requires line { BeginsAs (held_by self.old) (Whole len) }
+        ensures disk { self.new.disk ≡ self.old.disk }
+        ensures taken { OnOk result ((lines : List (List ℕ)) → (file : List ℕ) → HasRead file self.old lines → HasRead file self.new (lines ++ line.new.items ∷ [])) }
+    {
+        let (_, held) = self.block.split_at(self.from);
+        let (found, _) = held.split_at(len);
+        take_line(&mut self.hasher, found, line)?;
+        self.from += len + 1;
+        self.at += len + 1;
+        Ok(())
+    }
+
+    /// Returns whether a crash may have left the byte that follows a beginning of this length: a blank, and where a torn write
+    /// may leave any byte, any at the gate. The same holds for a last byte, with which a file was made longer.
+    fn is_torn(&self, len: usize) -> bool
+        requires { len < length (held_by self.now) }
+    {
+        let byte = self.block[self.from + len];
+        byte == b'\r' || len == 0 && (!self.disk.mixes() || self.at + 1 == self.len)
+    }
+
+    /// Returns whether the next byte begins a line.
+    fn begins_line(&self) -> bool
+        ensures { result ≡ (slice_index (held_by self.now) 0 == 123) }
+    {
+        self.from < self.block.len() && self.block[self.from] == b'{'
+    }
+
+    /// Returns what the unread bytes begin with. Reads more of them if those in memory don't tell.
+    fn look(&mut self, alloc: Global) -> Result<FirstLine, LogError>
+        requires usable { IsTrue (D.Disk.is_usable self.old.disk) }
+        ensures usable { IsTrue (D.Disk.is_usable self.new.disk) }
+        ensures clean { IsTrue (D.Disk.is_clean self.new.disk) → IsTrue (D.Disk.is_clean self.old.disk) }
+        ensures seen { D.Disk.seen self.new.disk ≡ D.Disk.seen self.old.disk }
+        ensures crash { (c : List ℕ) → D.Disk.may_leave self.new.disk c → D.Disk.may_leave self.old.disk c }
+        ensures at { self.new.at ≡ self.old.at }
+        ensures hasher { self.new.hasher ≡ self.old.hasher }
+        ensures part { IsTrue (D.Disk.is_clean self.new.disk) → IsPartOf (D.Disk.seen self.old.disk) self.old → IsPartOf (D.Disk.seen self.old.disk) self.new }
+        ensures tells { IfOk result (λ found. Tells self.new found) }
+    {
+        if let Some(found) = self.tell() {
+            return Ok(found);
+        }
+        self.fill(alloc, BLOCK)?;
+        if let Some(found) = self.tell() {
+            return Ok(found);
+        }
+        self.fill(alloc, LONGEST)?;
+        match self.tell() {
+            Some(found) => Ok(found),
+            None => Err(LogError::TooLong),
+        }
+    }
+
+    /// Returns what the unread bytes begin with, if those in memory tell.
+    fn tell(&self) -> Option<FirstLine>
+        ensures { IfSome result (λ found. Tells self.now found) }
+    {
+        let (_, held) = self.block.split_at(self.from);
+        let found = first_line(held);
+        match found {
+            FirstLine::Part if self.at + held.len() < self.len => None,
+            _ => Some(found),
+        }
+    }
+
+    /// Reads a block of this size into memory, or up to the end of the file.
+    fn fill(&mut self, alloc: Global, size: usize) -> Result<(), LogError>
+        requires usable { IsTrue (D.Disk.is_usable self.old.disk) }
+        ensures usable { IsTrue (D.Disk.is_usable self.new.disk) }
+        ensures clean { IsTrue (D.Disk.is_clean self.new.disk) → IsTrue (D.Disk.is_clean self.old.disk) }
+        ensures seen { D.Disk.seen self.new.disk ≡ D.Disk.seen self.old.disk }
+        ensures crash { (c : List ℕ) → D.Disk.may_leave self.new.disk c → D.Disk.may_leave self.old.disk c }
+        ensures at { self.new.at ≡ self.old.at }
+        ensures hasher { self.new.hasher ≡ self.old.hasher }
+        ensures part { IsTrue (D.Disk.is_clean self.new.disk) → IsPartOf (D.Disk.seen self.old.disk) self.old → IsPartOf (D.Disk.seen self.old.disk) self.new }
+    {
+        let size = size.min(self.len - self.at);
+        let block = read_block(alloc, &mut self.disk, self.at, size)?;
+        self.from = 0;
+        self.block = block;
+        Ok(())
+    }
+}

@@ -1,0 +1,129 @@
+//! How are lines added to a log file, so that a crash leaves whole lines?
+
+ghost use Rattle.std.specs.Prelude.{◌≡◌, ◌+◌, ◌<◌, ◌≤◌, ◌^◌, ◌++◌, ℕ, List, length, replicate, IsTrue, IfOk, OnOk};
+ghost use Rattle.line_log.specs.Lines.{IsBetween, IsText, lines_in};
+ghost use Rattle.line_log.specs.Log.{IsSettled};
+
+use crate::error::LogError;
+use crate::file::{LineFile, MOST};
+use sqlite_disk::Disk;
+use std::alloc::{AllocError, Global};
+
+/// How many blanks are written at once.
+const CHUNK: usize = 1 << 18;
+
+/// Returns this many blanks. The error is out of memory.
+fn blanks(alloc: Global, count: usize) -> Result<Vec<u8>, AllocError>
+    ensures { IfOk result (λ v. v.items ≡ replicate count 13) }
+{
+    vec![in alloc; b'\r'; count]
+}
+
+impl<D: Disk> LineFile<D> {
+    /// Adds whole lines, and syncs. At `Ok` each crash from then on leaves a file with them. A crash at any moment of the call
+    /// leaves the lines from before it and some of the new ones, in order. At `Err` open the file again.
+    pub(crate) fn append(&mut self, alloc: Global, text: &[u8]) -> Result<(), LogError>
+        requires usable { IsTrue (D.Disk.is_usable self.old.disk) }
+        requires settled { IsTrue (D.Disk.is_clean self.old.disk) → IsSettled D.Disk.seen D.Disk.may_leave self.old }
+        requires text { IsText text.now }
+        ensures clean { D.Disk.is_clean self.new.disk ≡ D.Disk.is_clean self.old.disk }
+        ensures usable { OnOk result (IsTrue (D.Disk.is_usable self.new.disk)) }
+        ensures settled { OnOk result (IsTrue (D.Disk.is_clean self.old.disk) → IsSettled D.Disk.seen D.Disk.may_leave self.new) }
+        ensures added { OnOk result (IsTrue (D.Disk.is_clean self.old.disk) → lines_in (D.Disk.seen self.new.disk) ≡ lines_in (D.Disk.seen self.old.disk) ++ lines_in text.now) }
+        ensures any_moment { IsTrue (D.Disk.is_clean self.old.disk) → (c : List ℕ) → D.Disk.may_leave self.new.disk c
+            → IsBetween (lines_in (D.Disk.seen self.old.disk)) (lines_in (D.Disk.seen self.old.disk) ++ lines_in text.now) (lines_in c) }
+    {
+        self.make_room(alloc, text.len())?;
+        self.write(text)
+    }
+
+    /// Makes room for this many bytes, and a blank behind them.
+    fn make_room(&mut self, alloc: Global, count: usize) -> Result<(), LogError>
+        requires usable { IsTrue (D.Disk.is_usable self.old.disk) }
+        requires settled { IsTrue (D.Disk.is_clean self.old.disk) → IsSettled D.Disk.seen D.Disk.may_leave self.old }
+        ensures clean { D.Disk.is_clean self.new.disk ≡ D.Disk.is_clean self.old.disk }
+        ensures usable { OnOk result (IsTrue (D.Disk.is_usable self.new.disk)) }
+        ensures room { OnOk result (self.new.end + count < self.new.len) }
+        ensures settled { OnOk result (IsTrue (D.Disk.is_clean self.old.disk) → IsSettled D.Disk.seen D.Disk.may_leave self.new) }
+        ensures same { OnOk result (IsTrue (D.Disk.is_clean self.old.disk) → lines_in (D.Disk.seen self.new.disk) ≡ lines_in (D.Disk.seen self.old.disk)) }
+        ensures any_moment { IsTrue (D.Disk.is_clean self.old.disk) → (c : List ℕ) → D.Disk.may_leave self.new.disk c → lines_in c ≡ lines_in (D.Disk.seen self.old.disk) }
+    {
+        if count < self.len - self.end {
+            return Ok(());
+        }
+        if count > MOST || self.len > MOST {
+            return Err(LogError::TooLong);
+        }
+        let blanks = blanks(alloc, count + CHUNK)?;
+        self.disk.write_at(self.len, &blanks)?;
+        self.disk.sync()?;
+        self.len += blanks.len();
+        Ok(())
+    }
+
+    /// Writes lines over blanks, and syncs.
+    fn write(&mut self, text: &[u8]) -> Result<(), LogError>
+        requires usable { IsTrue (D.Disk.is_usable self.old.disk) }
+        requires settled { IsTrue (D.Disk.is_clean self.old.disk) → IsSettled D.Disk.seen D.Disk.may_leave self.old }
+        requires text { IsText text.now }
+        requires room { self.old.end + length text.now < self.old.len }
+        ensures clean { D.Disk.is_clean self.new.disk ≡ D.Disk.is_clean self.old.disk }
+        ensures usable { OnOk result (IsTrue (D.Disk.is_usable self.new.disk)) }
+        ensures settled { OnOk result (IsTrue (D.Disk.is_clean self.old.disk) → IsSettled D.Disk.seen D.Disk.may_leave self.new) }
+        ensures added { OnOk result (IsTrue (D.Disk.is_clean self.old.disk) → lines_in (D.Disk.seen self.new.disk) ≡ lines_in (D.Disk.seen self.old.disk) ++ lines_in text.now) }
+        ensures any_moment { IsTrue (D.Disk.is_clean self.old.disk) → (c : List ℕ) → D.Disk.may_leave self.new.disk c
+            → IsBetween (lines_in (D.Disk.seen self.old.disk)) (lines_in (D.Disk.seen self.old.disk) ++ lines_in text.now) (lines_in c) }
+    {
+        if text.is_empty() {
+            return Ok(());
+        }
+        if self.disk.mixes() {
+            self.write_at_once(text)
+        } else {
+            self.write_gated(text)
+        }
+    }
+
+    /// Writes lines with one sync. A torn write must leave each byte blank or new.
+    fn write_at_once(&mut self, text: &[u8]) -> Result<(), LogError>
+        requires usable { IsTrue (D.Disk.is_usable self.old.disk) }
+        requires settled { IsTrue (D.Disk.is_clean self.old.disk) → IsSettled D.Disk.seen D.Disk.may_leave self.old }
+        requires text { IsText text.now }
+        requires some { 0 < length text.now }
+        requires room { self.old.end + length text.now < self.old.len }
+        requires mixing { IsTrue (D.Disk.is_mixing self.old.disk) }
+        ensures clean { D.Disk.is_clean self.new.disk ≡ D.Disk.is_clean self.old.disk }
+        ensures usable { OnOk result (IsTrue (D.Disk.is_usable self.new.disk)) }
+        ensures settled { OnOk result (IsTrue (D.Disk.is_clean self.old.disk) → IsSettled D.Disk.seen D.Disk.may_leave self.new) }
+        ensures added { OnOk result (IsTrue (D.Disk.is_clean self.old.disk) → lines_in (D.Disk.seen self.new.disk) ≡ lines_in (D.Disk.seen self.old.disk) ++ lines_in text.now) }
+        ensures any_moment { IsTrue (D.Disk.is_clean self.old.disk) → (c : List ℕ) → D.Disk.may_leave self.new.disk c
+            → IsBetween (lines_in (D.Disk.seen self.old.disk)) (lines_in (D.Disk.seen self.old.disk) ++ lines_in text.now) (lines_in c) }
+    {
+        self.disk.write_at(self.end, text)?;
+        self.disk.sync()?;
+        self.end += text.len();
+        Ok(())
+    }
+
+    /// Writes lines with two syncs: all but the first byte, and then that byte, without which none of them counts.
+    fn write_gated(&mut self, text: &[u8]) -> Result<(), LogError>
+        requires usable { IsTrue (D.Disk.is_usable self.old.disk) }
+        requires settled { IsTrue (D.Disk.is_clean self.old.disk) → IsSettled D.Disk.seen D.Disk.may_leave self.old }
+        requires text { IsText text.now }
+        requires some { 0 < length text.now }
+        requires room { self.old.end + length text.now < self.old.len }
+        ensures clean { D.Disk.is_clean self.new.disk ≡ D.Disk.is_clean self.old.disk }
+        ensures usable { OnOk result (IsTrue (D.Disk.is_usable self.new.disk)) }
+        ensures settled { OnOk result (IsTrue (D.Disk.is_clean self.old.disk) → IsSettled D.Disk.seen D.Disk.may_leave self.new) }
+        ensures added { OnOk result (IsTrue (D.Disk.is_clean self.old.disk) → lines_in (D.Disk.seen self.new.disk) ≡ lines_in (D.Disk.seen self.old.disk) ++ lines_in text.now) }
+        ensures any_moment { IsTrue (D.Disk.is_clean self.old.disk) → (c : List ℕ) → D.Disk.may_leave self.new.disk c
+            → IsBetween (lines_in (D.Disk.seen self.old.disk)) (lines_in (D.Disk.seen self.old.disk) ++ lines_in text.now) (lines_in c) }
+    {
+        self.disk.write_at(self.end + 1, &text[1..])?;
+        self.disk.sync()?;
+        self.disk.write_at(self.end, &text[..1])?;
+        self.disk.sync()?;
+        self.end += text.len();
+        Ok(())
+    }
+}

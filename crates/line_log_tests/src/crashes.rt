@@ -1,0 +1,94 @@
+//! Does a log keep what it acknowledged, and nothing but a beginning of the rest, over a crash at each call of the disk?
+
+use crate::random::Random;
+use crate::torn_disk::TornDisk;
+use crate::wanted::holds_at;
+use line_log::{is_text, open_log};
+use sqlite_disk::Fuse;
+use std::alloc::{AllocError, Global};
+use std::process::Abort;
+use std::test::Fail;
+
+/// What the runs add, one call for each text.
+const TEXTS: [&[u8]; 4] = [
+    b"{\"log\":\"regd 1\"}\n",
+    b"{\"n\":1}\n{\"n\":2}\n{\"n\":3}\n",
+    b"{\"n\":4}\n",
+    b"{\"n\":5,\"long\":\"---------------------------------------------------------------------\"}\n{\"n\":6}\n",
+];
+
+/// How long the texts are that one run acknowledged, and what a crash left of the file.
+#[derive(Drop)]
+struct Run {
+    acknowledged: usize,
+    left: Vec<u8>,
+}
+
+/// Opens a file on a disk that stops after this number of calls, adds the texts that it lacks, and crashes.
+fn run(
+    alloc: Global,
+    file: &[u8],
+    mixes: bool,
+    calls: u64,
+    random: &mut Random,
+) -> Result<Run, AllocError> {
+    let disk = Fuse::new(TornDisk::new(alloc, file, mixes)?, calls);
+    let mut acknowledged = 0;
+    let disk = match open_log(alloc, disk) {
+        Ok((mut log, text)) => {
+            acknowledged = text.len();
+            let mut end = 0;
+            for text in TEXTS {
+                end += text.len();
+                if end > acknowledged && is_text(text) {
+                    if log.append(alloc, text).is_err() {
+                        break;
+                    }
+                    acknowledged = end;
+                }
+            }
+            log.file.disk
+        }
+        Err((_, disk)) => disk,
+    };
+    let left = disk.inner().after_crash(alloc, random)?;
+    Ok(Run { acknowledged, left })
+}
+
+/// Returns the text of a file, if it opens.
+fn text_of_file(alloc: Global, file: &[u8], mixes: bool) -> Result<Vec<u8>, AllocError> {
+    match open_log(alloc, TornDisk::new(alloc, file, mixes)?) {
+        Ok((_, text)) => Ok(text),
+        Err(_) => Err(AllocError),
+    }
+}
+
+/// Runs to a crash after each number of calls, and once more to a second crash. Asserts what the next start finds.
+fn crash_twice(rt: &impl Abort, alloc: Global, mixes: bool, all: &[u8]) -> Result<(), AllocError> {
+    let mut random = Random::new(if mixes { 1 } else { 2 });
+    for calls in 0..40 {
+        for _ in 0..3 {
+            let first = run(alloc, b"", mixes, calls, &mut random)?;
+            let second = run(alloc, &first.left, mixes, random.below(40) as u64, &mut random)?;
+            let found = text_of_file(alloc, &first.left, mixes)?;
+            holds_at(rt, found.len() >= first.acknowledged, "what was acknowledged", calls);
+            holds_at(rt, all.starts_with(&found), "a beginning of the texts", calls);
+            let later = text_of_file(alloc, &second.left, mixes)?;
+            holds_at(rt, later.len() >= second.acknowledged, "what was acknowledged later", calls);
+            holds_at(rt, later.starts_with(&found), "what was found before", calls);
+            holds_at(rt, all.starts_with(&later), "a beginning of the texts", calls);
+        }
+    }
+    Ok(())
+}
+
+#[test]
+fn a_crash_at_any_call_loses_no_acknowledged_line(rt: HostRuntime) -> Result<(), Fail> {
+    let mut all = Vec::new(rt.alloc());
+    for text in TEXTS {
+        all.extend_from_slice(text)?;
+    }
+    crash_twice(&rt, rt.alloc(), true, &all)?;
+    crash_twice(&rt, rt.alloc(), false, &all)?;
+    Ok(())
+}
