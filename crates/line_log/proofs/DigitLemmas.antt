@@ -13,7 +13,7 @@ at_each (x ∷ t) all zero low = all.0
 at_each (x ∷ t) all (suc d) low = at_each t all.1 d (omega arith)
 
 digits_inside : AllByRecursion IsInside lower_digits
-digits_inside = (omega arith, omega arith, omega arith, omega arith, omega arith, omega arith, omega arith, omega arith, omega arith, omega arith, omega arith, omega arith, omega arith, omega arith, omega arith, omega arith, tt)
+digits_inside = (omega arith, (omega arith, (omega arith, (omega arith, (omega arith, (omega arith, (omega arith, (omega arith, (omega arith, (omega arith, (omega arith, (omega arith, (omega arith, (omega arith, (omega arith, (omega arith, tt))))))))))))))))
 
 pub encoded_inside : (xs : List ℕ) → IsBytes xs → AllByRecursion IsInside (encode_with lower_digits xs)
 unfolding encode_with
@@ -22,7 +22,7 @@ encoded_inside (b ∷ rest) bytes =
     let fits : b < 256 = bytes 0 in
     let high : b / 16 < 16 = omega arith in
     let low : b % 16 < 16 = omega arith in
-    (at_each lower_digits digits_inside (b / 16) high, at_each lower_digits digits_inside (b % 16) low, encoded_inside rest (λ k. bytes (suc k)))
+    (at_each lower_digits digits_inside (b / 16) high, (at_each lower_digits digits_inside (b % 16) low, encoded_inside rest (λ k. bytes (suc k))))
 
 -- ---- a line with its hash is a line
 

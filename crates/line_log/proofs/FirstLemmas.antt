@@ -4,7 +4,7 @@ use Rattle.std.proofs.lemmas.List.{append-nil, take_more, length-take-le}
 use Rattle.std.specs.Prelude.{◌≢◌, slice_index}
 use Rattle.std.specs.List.{AllByRecursion}
 use Rattle.line_log.specs.Lines.{lines_from, lines_in, text_of, IsLogLine}
-use Rattle.line_log.specs.ReadingPrivate.{IsBegun, IsBreak}
+use Rattle.line_log.specs.ReadingPrivate.{IsLineFront, IsBreak}
 use Rattle.line_log.proofs.LineLemmas.{IsInside, opens, shut, inside, ends, breaks, lines_of_text, text_append, all_append}
 
 through : (x : ℕ) (line r rest : List ℕ) → AllByRecursion IsInside r → lines_from (x ∷ line) (r ++ rest) ≡ lines_from (x ∷ line ++ r) rest
@@ -12,17 +12,17 @@ through x line [] rest all = ap (λ (l : List ℕ). lines_from (x ∷ l) rest) (
 through x line (b ∷ r) rest all =
     inside x line b (r ++ rest) all.0 ∙ through x (line ++ b ∷ []) r rest all.1 ∙ ap (λ (l : List ℕ). lines_from (x ∷ l) rest) (append_assoc line (b ∷ []) r)
 
-begun_then : (p rest : List ℕ) → IsBegun p → lines_in (p ++ rest) ≡ lines_from p rest
+begun_then : (p rest : List ℕ) → IsLineFront p → lines_in (p ++ rest) ≡ lines_from p rest
 begun_then [] rest begun = refl
 begun_then (b ∷ p) rest begun = opens b (p ++ rest) begun.0 ∙ through b [] p rest begun.1
 
 -- nothing but the beginning of a line
-pub begun_none : (p : List ℕ) → IsBegun p → lines_in p ≡ []
+pub begun_none : (p : List ℕ) → IsLineFront p → lines_in p ≡ []
 begun_none [] begun = refl
 begun_none (b ∷ p) begun = ap lines_in (sym (append-nil (b ∷ p))) ∙ begun_then (b ∷ p) [] begun
 
 -- a line that is broken
-pub broken_none : (p : List ℕ) (b : ℕ) (rest : List ℕ) → IsBegun p → IsBreak p b → lines_in (p ++ b ∷ rest) ≡ []
+pub broken_none : (p : List ℕ) (b : ℕ) (rest : List ℕ) → IsLineFront p → IsBreak p b → lines_in (p ++ b ∷ rest) ≡ []
 broken_none [] b rest begun other = shut b rest other
 broken_none (x ∷ p) b rest begun other = begun_then (x ∷ p) (b ∷ rest) begun ∙ breaks x p b rest other.0 other.1
 
@@ -47,7 +47,7 @@ whole_first bytes more n low line lf =
     let whole : bytes ≡ take n bytes ++ 10 ∷ drop (n + 1) bytes = past bytes n low ∙ ap (λ (k : ℕ). take n bytes ++ k ∷ drop (n + 1) bytes) lf in
     ap (λ (l : List ℕ). lines_in (l ++ more)) whole ∙ ap lines_in (append_assoc (take n bytes) (10 ∷ drop (n + 1) bytes) more) ∙ whole_then (take n bytes) (drop (n + 1) bytes ++ more) line
 
-pub broken_first : (bytes more : List ℕ) (n : ℕ) → n < length bytes → IsBegun (take n bytes) → IsBreak (take n bytes) (slice_index bytes n) → lines_in (bytes ++ more) ≡ []
+pub broken_first : (bytes more : List ℕ) (n : ℕ) → n < length bytes → IsLineFront (take n bytes) → IsBreak (take n bytes) (slice_index bytes n) → lines_in (bytes ++ more) ≡ []
 broken_first bytes more n low begun other =
     ap (λ (l : List ℕ). lines_in (l ++ more)) (past bytes n low) ∙ ap lines_in (append_assoc (take n bytes) (slice_index bytes n ∷ drop (n + 1) bytes) more)
     ∙ broken_none (take n bytes) (slice_index bytes n) (drop (n + 1) bytes ++ more) begun other
@@ -63,7 +63,7 @@ begun_more (x ∷ p) b line high = (line.0, inside_more p b line.1 high)
 
 -- ---- a line that is read byte by byte
 
-pub begun_line : (p : List ℕ) → IsBegun p → 0 < length p → IsLogLine p
+pub begun_line : (p : List ℕ) → IsLineFront p → 0 < length p → IsLogLine p
 begun_line [] begun some = absurd (omega arith)
 begun_line (x ∷ p) begun some = begun
 
@@ -71,22 +71,22 @@ pub breaks_at : (p : List ℕ) (b : ℕ) → 0 < length p → b ≢ 10 → b < 3
 breaks_at [] b some other low = absurd (omega arith)
 breaks_at (x ∷ p) b some other low = (other, low)
 
-begun_next : (p : List ℕ) (b : ℕ) → IsBegun p → (length p ≡ 0 → b ≡ 123) → (0 < length p → 32 ≤ b) → IsBegun (p ++ b ∷ [])
+begun_next : (p : List ℕ) (b : ℕ) → IsLineFront p → (length p ≡ 0 → b ≡ 123) → (0 < length p → 32 ≤ b) → IsLineFront (p ++ b ∷ [])
 begun_next [] b begun first later = (first refl, tt)
 begun_next (x ∷ p) b begun first later = begun_more (x ∷ p) b begun (later (omega arith))
 
-pub begun_step : (bytes : List ℕ) (i : ℕ) → i < length bytes → IsBegun (take i bytes) → (i ≡ 0 → slice_index bytes i ≡ 123) → (0 < i → 32 ≤ slice_index bytes i) → IsBegun (take (i + 1) bytes)
+pub begun_step : (bytes : List ℕ) (i : ℕ) → i < length bytes → IsLineFront (take i bytes) → (i ≡ 0 → slice_index bytes i ≡ 123) → (0 < i → 32 ≤ slice_index bytes i) → IsLineFront (take (i + 1) bytes)
 begun_step bytes i low begun first later =
     let size : length (take i bytes) ≡ i = length-take-le i bytes (omega arith) in
-    subst IsBegun (sym (take_more bytes i 0 low)) (begun_next (take i bytes) (slice_index bytes i) begun (λ e. first (sym size ∙ e)) (λ some. later (omega (arith, size))))
+    subst IsLineFront (sym (take_more bytes i 0 low)) (begun_next (take i bytes) (slice_index bytes i) begun (λ e. first (sym size ∙ e)) (λ some. later (omega (arith, size))))
 
-pub line_at : (bytes : List ℕ) (i : ℕ) → i < length bytes → 0 < i → IsBegun (take i bytes) → IsLogLine (take i bytes)
+pub line_at : (bytes : List ℕ) (i : ℕ) → i < length bytes → 0 < i → IsLineFront (take i bytes) → IsLogLine (take i bytes)
 line_at bytes i low some begun = begun_line (take i bytes) begun (omega (arith, length-take-le i bytes (omega arith)))
 
 pub break_at : (bytes : List ℕ) (i b : ℕ) → i < length bytes → 0 < i → b ≢ 10 → b < 32 → IsBreak (take i bytes) b
 break_at bytes i b low some other below = breaks_at (take i bytes) b (omega (arith, length-take-le i bytes (omega arith))) other below
 
-pub broken_bytes : (bytes : List ℕ) (n : ℕ) → n < length bytes → IsBegun (take n bytes) → IsBreak (take n bytes) (slice_index bytes n) → lines_in bytes ≡ []
+pub broken_bytes : (bytes : List ℕ) (n : ℕ) → n < length bytes → IsLineFront (take n bytes) → IsBreak (take n bytes) (slice_index bytes n) → lines_in bytes ≡ []
 broken_bytes bytes n low begun other = ap lines_in (sym (append-nil bytes)) ∙ broken_first bytes [] n low begun other
 
 -- ---- a text that is read line by line

@@ -21,6 +21,7 @@ tail_of (x ∷ xs) = xs
 
 -- the front of lines with hashes is that of some of the lines
 pub hashed_front : (m : List ℕ) (gs r0 r1 : List (List ℕ)) → r0 ++ r1 ≡ hashed_after m gs → (found rest : List (List ℕ)) × (gs ≡ found ++ rest) × (r0 ≡ hashed_after m found)
+unfolding tail_of head_of
 hashed_front m gs [] r1 e = ([], gs, refl, refl)
 hashed_front m [] (x ∷ r0) r1 e = absurd (omega (arith, ap length e))
 hashed_front m (g ∷ gs) (x ∷ r0) r1 e =

@@ -44,15 +44,15 @@ lines_of_text ((b ∷ line) ∷ ls) rest all =
 
 -- ---- what is found are lines
 
-abbrev IsBegun : List ℕ → Type 0
-IsBegun [] = ⊤
-IsBegun (x ∷ line) = IsLogLine (x ∷ line)
+abbrev IsLineFront : List ℕ → Type 0
+IsLineFront [] = ⊤
+IsLineFront (x ∷ line) = IsLogLine (x ∷ line)
 
 all_snoc : (xs : List ℕ) (b : ℕ) → AllByRecursion IsInside xs → 32 ≤ b → AllByRecursion IsInside (xs ++ b ∷ [])
 all_snoc [] b all high = (high, tt)
 all_snoc (x ∷ xs) b all high = (all.0, all_snoc xs b all.1 high)
 
-are_lines : (line bytes : List ℕ) → IsBegun line → AllByRecursion IsLogLine (lines_from line bytes)
+are_lines : (line bytes : List ℕ) → IsLineFront line → AllByRecursion IsLogLine (lines_from line bytes)
 are_lines line [] begun = tt
 are_lines [] (b ∷ bytes) begun = elim (cases_eq b 123) [
   | inl is ↦ subst (AllByRecursion IsLogLine) (sym (opens b bytes is)) (are_lines (b ∷ []) bytes (is, tt))

@@ -7,8 +7,8 @@ use Rattle.line_log.specs.Hashes.{hashed_line, hashed_after, hashed}
 use Rattle.sqlite_disk.specs.declared.Disk.{Ghosts}
 use Rattle.sha2.specs.Hashers.{Holds256}
 use Rattle.sha2.specs.declared.Sha256.{Sha256}
-use Rattle.line_log.specs.Reading.{IsPartOf, HasRead, held_by}
-use Rattle.line_log.specs.ReadingPrivate.{IsBegun, IsBreak, Tells}
+use Rattle.line_log.specs.Reading.{IsPartOf, HasReadLines, held_by}
+use Rattle.line_log.specs.ReadingPrivate.{IsLineFront, IsBreak, Tells}
 use Rattle.line_log.specs.declared.reader.LogReader.{LogReader}
 use Rattle.line_log.specs.declared.first_line.FirstLine.TheVariants.{Part, Broken}
 use Rattle.line_log.proofs.LineLemmas.{text_append}
@@ -31,13 +31,13 @@ module _ (file held : List ℕ) (at : ℕ) (within : at + length held ≤ length
       let rest : drop (n + 1) held ++ more ≡ drop (at + (n + 1)) file = sym (drop-append-le (n + 1) held more (omega arith)) ∙ ap (drop (n + 1)) (sym held_first) ∙ drop-drop (n + 1) at file in
       ap lines_in held_first ∙ whole_first held more n low line lf ∙ ap (λ (l : List ℕ). take n held ∷ lines_in l) rest
 
-  pub rest_part : IsBegun held → at + length held ≡ length file → lines_in (drop at file) ≡ []
+  pub rest_part : IsLineFront held → at + length held ≡ length file → lines_in (drop at file) ≡ []
   rest_part begun all =
       let more = drop (length held) (drop at file) in
       let none : length more ≡ 0 = omega (arith, all, length-drop at file, length-drop (length held) (drop at file)) in
       ap lines_in (held_first ∙ ap (λ (l : List ℕ). held ++ l) (no_bytes more none) ∙ append-nil held) ∙ begun_none held begun
 
-  pub rest_broken : (n : ℕ) → n < length held → IsBegun (take n held) → IsBreak (take n held) (slice_index held n) → lines_in (drop at file) ≡ []
+  pub rest_broken : (n : ℕ) → n < length held → IsLineFront (take n held) → IsBreak (take n held) (slice_index held n) → lines_in (drop at file) ≡ []
   rest_broken n low begun other = ap lines_in held_first ∙ broken_first held (drop (length held) (drop at file)) n low begun other
 
 -- one more line was read
@@ -72,7 +72,7 @@ module _ {D : Type 0} {d : Ghosts D} (file : List ℕ) (r : LogReader D d) (part
   none_broken n tells = rest_broken file (held_by r) r.at part_within part.each n tells.begins.0 tells.begins.1 tells.begins.2
 
 -- a reader that has read the same, with another part in memory
-pub looked : {D : Type 0} {d : Ghosts D} (file : List ℕ) (r s : LogReader D d) (lines : List (List ℕ)) → IsPartOf file s → s.at ≡ r.at → s.hasher ≡ r.hasher → HasRead file r lines → HasRead file s lines
+pub looked : {D : Type 0} {d : Ghosts D} (file : List ℕ) (r s : LogReader D d) (lines : List (List ℕ)) → IsPartOf file s → s.at ≡ r.at → s.hasher ≡ r.hasher → HasReadLines file r lines → HasReadLines file s lines
 looked file r s lines part at hasher read = record {
     part = part;
     at = at ∙ read.at;
@@ -81,8 +81,8 @@ looked file r s lines part at hasher read = record {
   }
 
 -- all lines were read
-pub read_all : {D : Type 0} {d : Ghosts D} (file : List ℕ) (r : LogReader D d) (lines : List (List ℕ)) → HasRead file r lines → lines_in (drop r.at file) ≡ [] → lines_in file ≡ hashed lines
+pub read_all : {D : Type 0} {d : Ghosts D} (file : List ℕ) (r : LogReader D d) (lines : List (List ℕ)) → HasReadLines file r lines → lines_in (drop r.at file) ≡ [] → lines_in file ≡ hashed lines
 read_all file r lines read none = read.read ∙ ap (λ (l : List (List ℕ)). hashed lines ++ l) none ∙ append-nil (hashed lines)
 
-pub read_end : {D : Type 0} {d : Ghosts D} (file : List ℕ) (r : LogReader D d) (lines : List (List ℕ)) → HasRead file r lines → lines_in (drop r.at file) ≡ [] → r.at ≡ length (text_of (lines_in file))
+pub read_end : {D : Type 0} {d : Ghosts D} (file : List ℕ) (r : LogReader D d) (lines : List (List ℕ)) → HasReadLines file r lines → lines_in (drop r.at file) ≡ [] → r.at ≡ length (text_of (lines_in file))
 read_end file r lines read none = read.at ∙ ap (λ (l : List (List ℕ)). length (text_of l)) (sym (read_all file r lines read none))

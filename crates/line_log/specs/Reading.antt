@@ -16,7 +16,7 @@ pub record IsPartOf {D : Type 0} {d : Ghosts D} (file : List ℕ) (reader : LogR
   pub each : (i : ℕ) → i < length (held_by reader) → slice_index file (reader.at + i) ≡ slice_index (held_by reader) i
 
 -- The reader has read these lines from the front of its file, each with its hash.
-pub record HasRead {D : Type 0} {d : Ghosts D} (file : List ℕ) (reader : LogReader D d) (lines : List (List ℕ)) : Type 0 where
+pub record HasReadLines {D : Type 0} {d : Ghosts D} (file : List ℕ) (reader : LogReader D d) (lines : List (List ℕ)) : Type 0 where
   pub part : IsPartOf file reader
   pub at : reader.at ≡ length (text_of (hashed lines))
   pub read : lines_in file ≡ hashed lines ++ lines_in (drop reader.at file)

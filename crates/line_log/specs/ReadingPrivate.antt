@@ -8,9 +8,9 @@ use Rattle.line_log.specs.declared.first_line.FirstLine.{FirstLine}
 use Rattle.line_log.specs.declared.first_line.FirstLine.TheVariants.{Whole, Part, Broken}
 
 -- the beginning of a line: nothing, or a line without its LF
-abbrev pub IsBegun : List ℕ → Type 0
-IsBegun [] = ⊤
-IsBegun (b ∷ bytes) = IsLogLine (b ∷ bytes)
+abbrev pub IsLineFront : List ℕ → Type 0
+IsLineFront [] = ⊤
+IsLineFront (b ∷ bytes) = IsLogLine (b ∷ bytes)
 
 -- behind this beginning of a line, this byte neither continues it nor ends it
 abbrev pub IsBreak : List ℕ → ℕ → Type 0
@@ -20,8 +20,8 @@ IsBreak (x ∷ part) b = (b ≢ 10) × (b < 32)
 -- a whole line of this length, a beginning and no more, or a beginning of this length and a byte that breaks it
 abbrev pub BeginsAs : List ℕ → FirstLine → Type 0
 BeginsAs bytes (Whole n) = (n < length bytes) × IsLogLine (take n bytes) × (slice_index bytes n ≡ 10)
-BeginsAs bytes Part = IsBegun bytes
-BeginsAs bytes (Broken n) = (n < length bytes) × IsBegun (take n bytes) × IsBreak (take n bytes) (slice_index bytes n)
+BeginsAs bytes Part = IsLineFront bytes
+BeginsAs bytes (Broken n) = (n < length bytes) × IsLineFront (take n bytes) × IsBreak (take n bytes) (slice_index bytes n)
 
 -- The unread bytes in memory begin so, and if that is the beginning of a line and no more, nothing follows them in the file.
 pub record Tells {D : Type 0} {d : Ghosts D} (reader : LogReader D d) (found : FirstLine) : Type 0 where

@@ -1,4 +1,25 @@
 //! Which lines does a log file hold, whatever a crash made of it?
+//!
+//! A file has lines and then blanks (CRs). A line begins with `{`, has no byte below 32 and ends with an LF; the first byte that breaks this
+//! ends the lines. Each line has its hash behind it: a blank and 32 hexadecimal digits, the first half of the SHA-256 of all lines up to it,
+//! each with its LF and without its hash. The theorems on crashes rest on no hash, only on what a disk promises
+//! (`sqlite_disk::Disk`).
+//!
+//! - [`LogReader`] reads a file line by line, in memory bounded by a line, tests the hashes, and opens the log at the end.
+//! - [`LineLog`] is an open log: `append` adds whole lines, syncs, and keeps what was there before over a crash at any moment.
+//!   Its file is a [`LineFile`].
+//! - [`open_log`] does both for a log whose text fits into memory; [`is_text`] tests whether bytes are whole lines.
+//! - [`LogError`] says why a call failed.
+//!
+//! The definitions are in `specs/`: `Lines` has the lines of a file, `Hashes` their hashes and what a crash may leave, `Log` when a
+//! file is at rest and which lines an open log has, `Reading` what a reader has read. `ReadingPrivate` is for this crate's own
+//! contracts.
+//!
+//! - `log`, `file`, `reader`: the types; `error`: their error.
+//! - `appending`, `hashing`: lines get their hashes and are added; `writing`: bytes are written so that a crash leaves whole lines.
+//! - `reading`, `first_line`: a file is read line by line; `tail`: it gets its end back; `opening`: a log is opened and read whole.
+//!
+//! `docs/GLOSSARY.md` explains the terms.
 #![tactic(auto)]
 
 mod appending;

@@ -5,7 +5,7 @@ ghost use Rattle.sqlite_disk.specs.Disk.{Only};
 ghost use Rattle.line_log.specs.Lines.{lines_in, text_of};
 ghost use Rattle.line_log.specs.Hashes.{hashed};
 ghost use Rattle.line_log.specs.Log.{HasLines, IsSettled};
-ghost use Rattle.line_log.specs.Reading.{HasRead};
+ghost use Rattle.line_log.specs.Reading.{HasReadLines};
 
 use crate::error::LogError;
 use crate::log::LineLog;
@@ -20,7 +20,7 @@ fn read_text<D: Disk>(alloc: Global, reader: &mut LogReader<D>) -> Result<Vec<u8
     ensures clean { IsTrue (D.Disk.is_clean reader.new.disk) → IsTrue (D.Disk.is_clean reader.old.disk) }
     ensures seen { D.Disk.seen reader.new.disk ≡ D.Disk.seen reader.old.disk }
     ensures crash { (c : List ℕ) → D.Disk.may_leave reader.new.disk c → D.Disk.may_leave reader.old.disk c }
-    ensures text { IfOk result (λ text. IsTrue (D.Disk.is_clean reader.new.disk) → HasRead (D.Disk.seen reader.old.disk) reader.old [] → (lines : List (List ℕ)) × HasRead (D.Disk.seen reader.old.disk) reader.new lines × (text.items ≡ text_of lines)) }
+    ensures text { IfOk result (λ text. IsTrue (D.Disk.is_clean reader.new.disk) → HasReadLines (D.Disk.seen reader.old.disk) reader.old [] → (lines : List (List ℕ)) × HasReadLines (D.Disk.seen reader.old.disk) reader.new lines × (text.items ≡ text_of lines)) }
 {
     let mut text = Vec::new(alloc);
     let mut line = Vec::new(alloc);

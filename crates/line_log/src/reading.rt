@@ -1,11 +1,11 @@
 //! How is the file of a log read, line by line, and opened at its end?
 
-ghost use Rattle.std.specs.Prelude.{◌≡◌, ◌+◌, ◌<◌, ◌≤◌, ◌++◌, ◌∷◌, [], ℕ, Bool, false, List, drop, length, slice_index, IsTrue, IfOk, IfErr, IfSome, OnOk};
+ghost use Rattle.std.specs.Prelude.{◌≡◌, ◌==◌, ◌+◌, ◌^◌, ◌<◌, ◌≤◌, ◌++◌, ◌∷◌, [], ℕ, Bool, false, List, drop, length, slice_index, IsTrue, IfOk, IfErr, IfSome, OnOk};
 ghost use Rattle.sqlite_disk.specs.Disk.{Only};
 ghost use Rattle.line_log.specs.Lines.{lines_in};
 ghost use Rattle.line_log.specs.Hashes.{hashed};
 ghost use Rattle.line_log.specs.Log.{HasLines, IsAtRest};
-ghost use Rattle.line_log.specs.Reading.{HasRead, IsPartOf, held_by};
+ghost use Rattle.line_log.specs.Reading.{HasReadLines, IsPartOf, held_by};
 ghost use Rattle.line_log.specs.ReadingPrivate.{BeginsAs, Tells};
 ghost use Rattle.line_log.specs.declared.first_line.FirstLine.TheVariants.{Whole};
 
@@ -55,7 +55,7 @@ impl<D: Disk> LogReader<D> {
         ensures seen { IfOk result (λ r. D.Disk.seen r.disk ≡ D.Disk.seen disk) }
         ensures crash { IfOk result (λ r. (c : List ℕ) → D.Disk.may_leave r.disk c → D.Disk.may_leave disk c) }
         ensures crash_err { IfErr result (λ e. (c : List ℕ) → D.Disk.may_leave e.1 c → D.Disk.may_leave disk c) }
-        ensures read { IfOk result (λ r. IsTrue (D.Disk.is_clean r.disk) → HasRead (D.Disk.seen r.disk) r []) }
+        ensures read { IfOk result (λ r. IsTrue (D.Disk.is_clean r.disk) → HasReadLines (D.Disk.seen r.disk) r []) }
     {
         match disk.len() {
             Ok(len) => Ok(LogReader {
@@ -78,12 +78,12 @@ impl<D: Disk> LogReader<D> {
         ensures clean { IsTrue (D.Disk.is_clean self.new.disk) → IsTrue (D.Disk.is_clean self.old.disk) }
         ensures seen { D.Disk.seen self.new.disk ≡ D.Disk.seen self.old.disk }
         ensures crash { (c : List ℕ) → D.Disk.may_leave self.new.disk c → D.Disk.may_leave self.old.disk c }
-        ensures next { IfOk result (λ any. IsTrue any → IsTrue (D.Disk.is_clean self.new.disk) → (lines : List (List ℕ)) → HasRead (D.Disk.seen self.old.disk) self.old lines
-            → HasRead (D.Disk.seen self.old.disk) self.new (lines ++ line.new.items ∷ [])) }
-        ensures last { IfOk result (λ any. any ≡ false → IsTrue (D.Disk.is_clean self.new.disk) → (lines : List (List ℕ)) → HasRead (D.Disk.seen self.old.disk) self.old lines
+        ensures next { IfOk result (λ any. IsTrue any → IsTrue (D.Disk.is_clean self.new.disk) → (lines : List (List ℕ)) → HasReadLines (D.Disk.seen self.old.disk) self.old lines
+            → HasReadLines (D.Disk.seen self.old.disk) self.new (lines ++ line.new.items ∷ [])) }
+        ensures last { IfOk result (λ any. any ≡ false → IsTrue (D.Disk.is_clean self.new.disk) → (lines : List (List ℕ)) → HasReadLines (D.Disk.seen self.old.disk) self.old lines
             → lines_in (D.Disk.seen self.old.disk) ≡ hashed lines) }
-        ensures kept { IfOk result (λ any. any ≡ false → IsTrue (D.Disk.is_clean self.new.disk) → (lines : List (List ℕ)) → HasRead (D.Disk.seen self.old.disk) self.old lines
-            → HasRead (D.Disk.seen self.old.disk) self.new lines) }
+        ensures kept { IfOk result (λ any. any ≡ false → IsTrue (D.Disk.is_clean self.new.disk) → (lines : List (List ℕ)) → HasReadLines (D.Disk.seen self.old.disk) self.old lines
+            → HasReadLines (D.Disk.seen self.old.disk) self.new lines) }
     {
         match self.look(alloc)? {
             FirstLine::Whole(len) => {
@@ -106,11 +106,11 @@ impl<D: Disk> LogReader<D> {
         requires usable { IsTrue (D.Disk.is_usable self.disk) }
         // After a restart, what is read is what is on the disk.
         requires durable { Only (D.Disk.seen self.disk) (D.Disk.may_leave self.disk) }
-        requires read { IsTrue (D.Disk.is_clean self.disk) → (lines : List (List ℕ)) × HasRead (D.Disk.seen self.disk) self lines }
+        requires read { IsTrue (D.Disk.is_clean self.disk) → (lines : List (List ℕ)) × HasReadLines (D.Disk.seen self.disk) self lines }
         ensures usable { IfOk result (λ log. IsTrue (D.Disk.is_usable log.file.disk)) }
         ensures clean { IfOk result (λ log. IsTrue (D.Disk.is_clean log.file.disk) → IsTrue (D.Disk.is_clean self.disk)) }
         ensures clean_err { IfErr result (λ e. IsTrue (D.Disk.is_clean e.1) → IsTrue (D.Disk.is_clean self.disk)) }
-        ensures opened { IfOk result (λ log. IsTrue (D.Disk.is_clean log.file.disk) → (lines : List (List ℕ)) → HasRead (D.Disk.seen self.disk) self lines
+        ensures opened { IfOk result (λ log. IsTrue (D.Disk.is_clean log.file.disk) → (lines : List (List ℕ)) → HasReadLines (D.Disk.seen self.disk) self lines
             → HasLines D.Disk.seen D.Disk.may_leave log lines) }
         ensures any_moment { IfOk result (λ log. IsTrue (D.Disk.is_clean log.file.disk) → (c : List ℕ) → D.Disk.may_leave log.file.disk c → lines_in c ≡ lines_in (D.Disk.seen self.disk)) }
         ensures any_moment_err { IfErr result (λ e. IsTrue (D.Disk.is_clean e.1) → (c : List ℕ) → D.Disk.may_leave e.1 c → lines_in c ≡ lines_in (D.Disk.seen self.disk)) }
@@ -136,7 +136,7 @@ impl<D: Disk> LogReader<D> {
     fn settle(&mut self, alloc: Global) -> Result<(), LogError>
         requires usable { IsTrue (D.Disk.is_usable self.old.disk) }
         requires durable { Only (D.Disk.seen self.old.disk) (D.Disk.may_leave self.old.disk) }
-        requires read { IsTrue (D.Disk.is_clean self.old.disk) → (lines : List (List ℕ)) × HasRead (D.Disk.seen self.old.disk) self.old lines }
+        requires read { IsTrue (D.Disk.is_clean self.old.disk) → (lines : List (List ℕ)) × HasReadLines (D.Disk.seen self.old.disk) self.old lines }
         ensures usable { OnOk result (IsTrue (D.Disk.is_usable self.new.disk)) }
         ensures clean { IsTrue (D.Disk.is_clean self.new.disk) → IsTrue (D.Disk.is_clean self.old.disk) }
         ensures short { OnOk result (self.new.at ≤ 2 ^ 60) }
@@ -184,7 +184,7 @@ impl<D: Disk> LogReader<D> {
         requires len { len < length (held_by self.old) }
         requires line { BeginsAs (held_by self.old) (Whole len) }
         ensures disk { self.new.disk ≡ self.old.disk }
-        ensures taken { OnOk result ((lines : List (List ℕ)) → (file : List ℕ) → HasRead file self.old lines → HasRead file self.new (lines ++ line.new.items ∷ [])) }
+        ensures taken { OnOk result ((lines : List (List ℕ)) → (file : List ℕ) → HasReadLines file self.old lines → HasReadLines file self.new (lines ++ line.new.items ∷ [])) }
     {
         let (_, held) = self.block.split_at(self.from);
         let (found, _) = held.split_at(len);
@@ -200,7 +200,7 @@ impl<D: Disk> LogReader<D> {
         requires { len < length (held_by self.now) }
     {
         let byte = self.block[self.from + len];
-        byte == b'\r' || len == 0 && (!self.disk.mixes() || self.at + 1 == self.len)
+        byte == b'\r' || len == 0 && (!self.disk.mixes() || self.len - self.at == 1)
     }
 
     /// Returns whether the next byte begins a line.
@@ -243,7 +243,7 @@ impl<D: Disk> LogReader<D> {
         let (_, held) = self.block.split_at(self.from);
         let found = first_line(held);
         match found {
-            FirstLine::Part if self.at + held.len() < self.len => None,
+            FirstLine::Part if held.len() < self.len - self.at => None,
             _ => Some(found),
         }
     }

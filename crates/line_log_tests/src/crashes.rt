@@ -25,7 +25,7 @@ struct Run {
 }
 
 /// Opens a file on a disk that stops after this number of calls, adds the texts that it lacks, and crashes.
-fn run(
+fn crash_at(
     alloc: Global,
     file: &[u8],
     mixes: bool,
@@ -66,10 +66,10 @@ fn text_of_file(alloc: Global, file: &[u8], mixes: bool) -> Result<Vec<u8>, Allo
 /// Runs to a crash after each number of calls, and once more to a second crash. Asserts what the next start finds.
 fn crash_twice(rt: &impl Abort, alloc: Global, mixes: bool, all: &[u8]) -> Result<(), AllocError> {
     let mut random = Random::new(if mixes { 1 } else { 2 });
-    for calls in 0..40 {
-        for _ in 0..3 {
-            let first = run(alloc, b"", mixes, calls, &mut random)?;
-            let second = run(alloc, &first.left, mixes, random.below(40) as u64, &mut random)?;
+    for calls in 0..24 {
+        for _ in 0..2 {
+            let first = crash_at(alloc, b"", mixes, calls, &mut random)?;
+            let second = crash_at(alloc, &first.left, mixes, random.below(24) as u64, &mut random)?;
             let found = text_of_file(alloc, &first.left, mixes)?;
             holds_at(rt, found.len() >= first.acknowledged, "what was acknowledged", calls);
             holds_at(rt, all.starts_with(&found), "a beginning of the texts", calls);

@@ -1,7 +1,7 @@
 use Rattle.std.proofs.Common.{rules, ◌≡◌, ◌<◌, ◌≤◌, List, ℕ, length, take, arith, sym, ◌∙◌, ap, subst}
 use Rattle.std.proofs.lemmas.List.{take_all}
 use Rattle.std.specs.Prelude.{slice_index}
-use Rattle.line_log.specs.ReadingPrivate.{IsBegun}
+use Rattle.line_log.specs.ReadingPrivate.{IsLineFront}
 use Rattle.line_log.proofs.FirstLemmas.{begun_step, line_at, break_at}
 use Rattle.line_log.proofs.first_line.first_line.Goals as goal
 
@@ -12,7 +12,7 @@ pub returns-then-byte-lt32 : goal.returns-then-byte-lt32
 returns-then-byte-lt32 c = (omega arith, c.bytes.invariant.begun, break_at c.args.bytes.now c.bytes.i _ (omega arith) (omega arith) (search rules) (search rules))
 
 pub returns : goal.returns
-returns c = subst IsBegun (take_all c.bytes.i c.args.bytes.now (omega arith)) c.bytes.invariant.begun
+returns c = subst IsLineFront (take_all c.bytes.i c.args.bytes.now (omega arith)) c.bytes.invariant.begun
 
 pub bytes-preserved : goal.bytes-preserved
 bytes-preserved c = record { begun = begun_step c.args.bytes.now c.bytes.i (omega arith) c.bytes.invariant.begun (λ first. grind arith) (λ later. grind arith) }

@@ -1,6 +1,6 @@
 use Rattle.std.proofs.Common.{take}
-use Rattle.line_log.specs.ReadingPrivate.{IsBegun}
+use Rattle.line_log.specs.ReadingPrivate.{IsLineFront}
 use Rattle.line_log.proofs.first_line.first_line.Given as goal
 
 abbrev pub invariant-bytes : goal.invariant-bytes
-invariant-bytes l = record { begun : IsBegun (take l.i l.bytes) }
+invariant-bytes l = record { begun : IsLineFront (take l.i l.bytes) }

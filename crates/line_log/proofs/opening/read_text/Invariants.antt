@@ -1,7 +1,7 @@
 use Rattle.std.proofs.Common.{◌≡◌, [], ℕ, List}
 use Rattle.std.specs.Prelude.{IsTrue}
 use Rattle.line_log.specs.Lines.{text_of}
-use Rattle.line_log.specs.Reading.{HasRead}
+use Rattle.line_log.specs.Reading.{HasReadLines}
 use Rattle.line_log.proofs.opening.read_text.Given as goal
 
 abbrev pub invariant-lines : goal.invariant-lines
@@ -11,5 +11,5 @@ invariant-lines g l =
       clean : IsTrue (g.D.Disk.is_clean l.reader.disk) → IsTrue (g.D.Disk.is_clean l.fn.reader.disk);
       seen : g.D.Disk.seen l.reader.disk ≡ g.D.Disk.seen l.fn.reader.disk;
       crash : (c : List ℕ) → g.D.Disk.may_leave l.reader.disk c → g.D.Disk.may_leave l.fn.reader.disk c;
-      read : IsTrue (g.D.Disk.is_clean l.reader.disk) → HasRead (g.D.Disk.seen l.fn.reader.disk) l.fn.reader [] → (lines : List (List ℕ)) × HasRead (g.D.Disk.seen l.fn.reader.disk) l.reader lines × (l.text.items ≡ text_of lines);
+      read : IsTrue (g.D.Disk.is_clean l.reader.disk) → HasReadLines (g.D.Disk.seen l.fn.reader.disk) l.fn.reader [] → (lines : List (List ℕ)) × HasReadLines (g.D.Disk.seen l.fn.reader.disk) l.reader lines × (l.text.items ≡ text_of lines);
     }

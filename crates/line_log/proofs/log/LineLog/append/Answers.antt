@@ -1,4 +1,4 @@
-use Rattle.std.proofs.Common.{rules, ◌≡◌, ◌++◌, ℕ, List, arith, refl, sym, ◌∙◌, ap, subst}
+use Rattle.std.proofs.Common.{rules, ◌≡◌, ◌++◌, [], ℕ, List, arith, refl, sym, ◌∙◌, ap, subst}
 use Rattle.sha2.specs.Hashers.{Holds256}
 use Rattle.line_log.specs.Lines.{lines_in, text_of, IsBetween}
 use Rattle.line_log.specs.Hashes.{hashed, hashed_after}

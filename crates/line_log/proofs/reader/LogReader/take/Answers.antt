@@ -14,7 +14,6 @@ returns-clause-taken g c lines file read =
     let r = c.args.self.now in
     let n = c.args.len in
     let held = held_by r in
-    let new_line = c.args.line.new.items in
     let line = c.requires.line in
     let found_is : c.split_at-2.result.0.now ≡ take n held = search rules in
     let found : take n held ≡ hashed_line (text_of lines) c.take_line.new.line.items = sym found_is ∙ c.in_ok-take_line.ensures.hashed (text_of lines) read.text in
