@@ -1,5 +1,5 @@
 -- Hexadecimal digits are no control bytes.
-use Rattle.std.proofs.Common.{◌≡◌, ℕ, zero, suc, ◌+◌, ◌/◌, ◌%◌, ◌<◌, ◌≤◌, List, [], ◌∷◌, ◌++◌, length, take, drop, refl, sym, ◌∙◌, ap, subst, arith}
+use Rattle.std.proofs.Common.{◌≡◌, ℕ, zero, suc, ◌+◌, ◌/◌, ◌%◌, ◌<◌, ◌≤◌, List, [], ◌∷◌, ◌++◌, length, take, drop, refl, sym, ◌∙◌, ap, subst, arith, append_assoc}
 use Rattle.std.proofs.lemmas.List.{append-nil}
 use Rattle.std.specs.Prelude.{slice_index}
 use Rattle.std.specs.List.{AllByRecursion}
@@ -36,7 +36,7 @@ with_hash (x ∷ r) hash is all = (is.0, inside_both r (32 ∷ hash) is.1 (omega
 
 module _ (file line hash new : List ℕ) (whole : IsText file) (is_line : IsLogLine line) (printed : AllByRecursion IsInside hash) (is : new ≡ file ++ (line ++ 32 ∷ hash) ++ 10 ∷ []) where
   as_text : new ≡ text_of (lines_in file ++ (line ++ 32 ∷ hash) ∷ [])
-  as_text = is ∙ ap (λ (t : List ℕ). t ++ (line ++ 32 ∷ hash) ++ 10 ∷ []) (sym whole) ∙ sym (text_append (lines_in file) ((line ++ 32 ∷ hash) ∷ []))
+  as_text = is ∙ append_assoc file (line ++ 32 ∷ hash) (10 ∷ []) ∙ ap (λ (t : List ℕ). t ++ ((line ++ 32 ∷ hash) ++ 10 ∷ [])) (sym whole) ∙ sym (text_append (lines_in file) ((line ++ 32 ∷ hash) ∷ []))
 
   pub put_found : lines_in new ≡ lines_in file ++ (line ++ 32 ∷ hash) ∷ []
   put_found =

@@ -8,7 +8,7 @@ use Rattle.line_log.specs.Hashes.{hash_of, hashed_line, hashed_after, hashed, Is
 pub hashed_append : (m : List ℕ) (ls gs : List (List ℕ)) → hashed_after m (ls ++ gs) ≡ hashed_after m ls ++ hashed_after (m ++ text_of ls) gs
 hashed_append m [] gs = ap (λ (t : List ℕ). hashed_after t gs) (sym (append-nil m))
 hashed_append m (l ∷ ls) gs =
-    let there : (m ++ l ++ 10 ∷ []) ++ text_of ls ≡ m ++ l ++ 10 ∷ text_of ls = append_assoc m (l ++ 10 ∷ []) (text_of ls) ∙ ap (λ (t : List ℕ). m ++ t) (append_assoc l (10 ∷ []) (text_of ls)) in
+    let there : (m ++ l ++ 10 ∷ []) ++ text_of ls ≡ m ++ (l ++ 10 ∷ text_of ls) = append_assoc (m ++ l) (10 ∷ []) (text_of ls) ∙ append_assoc m l (10 ∷ text_of ls) in
     ap (λ (t : List (List ℕ)). hashed_line m l ∷ t) (hashed_append (m ++ l ++ 10 ∷ []) ls gs ∙ ap (λ (t : List ℕ). hashed_after (m ++ l ++ 10 ∷ []) ls ++ hashed_after t gs) there)
 
 head_of : List (List ℕ) → List ℕ
@@ -32,7 +32,7 @@ pub left_between : (ls gs : List (List ℕ)) (c : List ℕ) → IsBetween (hashe
 left_between ls gs c between =
     let r0 = between.no_fewer.0 in
     let r1 = between.no_more.0 in
-    let e : hashed ls ++ r0 ++ r1 ≡ hashed ls ++ hashed_after (text_of ls) gs = sym (append_assoc (hashed ls) r0 r1) ∙ ap (λ (l : List (List ℕ)). l ++ r1) between.no_fewer.1 ∙ between.no_more.1 in
+    let e : hashed ls ++ (r0 ++ r1) ≡ hashed ls ++ hashed_after (text_of ls) gs = sym (append_assoc (hashed ls) r0 r1) ∙ ap (λ (l : List (List ℕ)). l ++ r1) between.no_fewer.1 ∙ between.no_more.1 in
     let (found, rest, is, front) = hashed_front (text_of ls) gs r0 r1 (append_cancel_left (hashed ls) (r0 ++ r1) (hashed_after (text_of ls) gs) e) in
     record {
       found = found;
@@ -41,7 +41,7 @@ left_between ls gs c between =
       holds = sym between.no_fewer.1 ∙ ap (λ (l : List (List ℕ)). hashed ls ++ l) front ∙ sym (hashed_append [] ls found);
     }
 
-pub text_more : (ls : List (List ℕ)) (l : List ℕ) → text_of (ls ++ l ∷ []) ≡ text_of ls ++ l ++ 10 ∷ []
+pub text_more : (ls : List (List ℕ)) (l : List ℕ) → text_of (ls ++ l ∷ []) ≡ text_of ls ++ (l ++ 10 ∷ [])
 text_more [] l = refl
 text_more (x ∷ ls) l = ap (λ (t : List ℕ). x ++ 10 ∷ t) (text_more ls l) ∙ sym (append_assoc x (10 ∷ text_of ls) (l ++ 10 ∷ []))
 
@@ -55,7 +55,7 @@ left_none ls gs c is = record { found = []; rest = gs; others_are = refl; holds 
 -- one more line got its hash
 module _ (before : List ℕ) (ls : List (List ℕ)) (l file new : List ℕ) where
   pub more_text : (before ++ text_of ls) ++ l ++ 10 ∷ [] ≡ before ++ text_of (ls ++ l ∷ [])
-  more_text = append_assoc before (text_of ls) (l ++ 10 ∷ []) ∙ ap (λ (t : List ℕ). before ++ t) (sym (text_more ls l))
+  more_text = append_assoc (before ++ text_of ls) l (10 ∷ []) ∙ append_assoc before (text_of ls) (l ++ 10 ∷ []) ∙ ap (λ (t : List ℕ). before ++ t) (sym (text_more ls l))
 
   pub more_hashed : lines_in file ≡ hashed_after before ls → lines_in new ≡ lines_in file ++ hashed_line (before ++ text_of ls) l ∷ [] → lines_in new ≡ hashed_after before (ls ++ l ∷ [])
   more_hashed is put = put ∙ ap (λ (f : List (List ℕ)). f ++ hashed_line (before ++ text_of ls) l ∷ []) is ∙ sym (hashed_more before ls l)

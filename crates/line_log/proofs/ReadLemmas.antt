@@ -44,8 +44,8 @@ module _ (file held : List ℕ) (at : ℕ) (within : at + length held ≤ length
 module _ (file : List ℕ) (lines : List (List ℕ)) (line : List ℕ) (n at : ℕ) (found rest : List ℕ) (is : found ≡ hashed_line (text_of lines) line) (long : length found ≡ n) (at_is : at ≡ length (text_of (hashed lines))) where
   pub more_at : at + (n + 1) ≡ length (text_of (hashed (lines ++ line ∷ [])))
   more_at =
-      let both : text_of (hashed (lines ++ line ∷ [])) ≡ text_of (hashed lines) ++ found ++ 10 ∷ [] =
-          ap text_of (hashed_more [] lines line) ∙ text_append (hashed lines) (hashed_line (text_of lines) line ∷ []) ∙ ap (λ (t : List ℕ). text_of (hashed lines) ++ t ++ 10 ∷ []) (sym is) in
+      let both : text_of (hashed (lines ++ line ∷ [])) ≡ text_of (hashed lines) ++ (found ++ 10 ∷ []) =
+          ap text_of (hashed_more [] lines line) ∙ text_append (hashed lines) (hashed_line (text_of lines) line ∷ []) ∙ ap (λ (t : List ℕ). text_of (hashed lines) ++ (t ++ 10 ∷ [])) (sym is) in
       omega (arith, at_is, long, ap length both, length-append (text_of (hashed lines)) (found ++ 10 ∷ []), length-append found (10 ∷ []))
 
   pub more_read : lines_in file ≡ hashed lines ++ found ∷ lines_in rest → lines_in file ≡ hashed (lines ++ line ∷ []) ++ lines_in rest

@@ -1,4 +1,4 @@
-use Rattle.std.proofs.Common.{rules, ◌≡◌, ◌+◌, ◌<◌, ◌≤◌, ◌++◌, ◌∷◌, [], ℕ, List, length, take, drop, arith, sym, ◌∙◌, ap, subst, length-drop}
+use Rattle.std.proofs.Common.{rules, ◌≡◌, ◌+◌, ◌<◌, ◌≤◌, ◌++◌, ◌∷◌, [], ℕ, List, length, take, drop, arith, sym, ◌∙◌, ap, subst, append_assoc, length-drop}
 use Rattle.std.proofs.lemmas.List.{length-take-le}
 use Rattle.std.specs.Prelude.{slice_index}
 use Rattle.sha2.specs.Hashers.{Holds256}
@@ -23,5 +23,5 @@ returns-clause-taken g c lines file read =
       part = record { len = read.part.len; each = part_past file r.block.items r.at r.from n read.part.each };
       at = more_at file lines c.take_line.new.line.items n r.at (take n held) (drop (r.at + (n + 1)) file) found long read.at;
       read = more_read file lines c.take_line.new.line.items n r.at (take n held) (drop (r.at + (n + 1)) file) found long read.at (read.read ∙ ap (λ (l : List (List ℕ)). hashed lines ++ l) rest);
-      text = subst (Holds256 c.take_line.new.hasher) (sym (text_more lines c.take_line.new.line.items)) (c.in_ok-take_line.ensures.text (text_of lines) read.text);
+      text = subst (Holds256 c.take_line.new.hasher) (append_assoc (text_of lines) c.take_line.new.line.items (10 ∷ []) ∙ sym (text_more lines c.take_line.new.line.items)) (c.in_ok-take_line.ensures.text (text_of lines) read.text);
     }
