@@ -1,11 +1,14 @@
 -- What a crash leaves of a file of lines.
-use Rattle.std.proofs.Common.{◌≡◌, ◌⊎◌, inl, inr, ℕ, zero, suc, ◌+◌, ◌-◌, ◌<◌, ◌≤◌, List, [], ◌∷◌, ◌++◌, length, drop, refl, sym, ◌∙◌, ap, subst, arith, append_assoc, length-append, length-drop}
+use Rattle.std.proofs.Common.{◌≡◌, ◌⊎◌, inl, inr, true, false, ℕ, zero, suc, ◌+◌, ◌-◌, ◌<◌, ◌≤◌, List, [], ◌∷◌, ◌++◌, length, drop, refl, sym, ◌∙◌, ap, subst, arith, append_assoc, length-append, length-drop}
 use Rattle.std.proofs.lemmas.List.{append-nil, get_or_append_left, get_or-append_right, get_or-drop}
 use Rattle.std.proofs.lemmas.Bool.{cases_eq, cases_lt}
 use Rattle.std.specs.Prelude.{◌≢◌, slice_index}
 use Rattle.std.specs.List.{AllByRecursion}
 use mathlib.Core.List.{IsPrefix}
 use Rattle.line_log.specs.Lines.{lines_in, text_of, IsLogLine, IsBetween}
+use Rattle.line_log.specs.Tails.{tail_in, MayEnd}
+use Rattle.line_log.specs.Log.{IsCrashed}
+use Rattle.line_log.proofs.TailLemmas.{past_text, blank_first, any_first, any_disk, faded_tail, faded_text_at, IsFadedText}
 use Rattle.line_log.proofs.LineLemmas.{shut, lines_of_text, text_append, all_append, text_gate, IsFaded, faded_lines}
 
 pub split_front : (p c : List ℕ) → length p ≤ length c → ((i : ℕ) → i < length p → slice_index c i ≡ slice_index p i) → c ≡ p ++ drop (length p) c
@@ -37,6 +40,26 @@ module _ (ls : List (List ℕ)) (all : AllByRecursion IsLogLine ls) (end : ℕ) 
   after_text c within same =
       let whole : c ≡ text_of ls ++ drop (length (text_of ls)) c = split_front (text_of ls) c (omega (arith, is)) (λ i low. same i (omega (arith, is))) in
       ap lines_in whole ∙ lines_of_text ls (drop (length (text_of ls)) c) all ∙ ap (λ (n : ℕ). ls ++ lines_in (drop n c)) (sym is)
+
+  -- what follows the lines is behind the text
+  pub after_tail : (c : List ℕ) → end ≤ length c → ((i : ℕ) → i < end → slice_index c i ≡ slice_index (text_of ls) i) → tail_in c ≡ tail_in (drop end c)
+  after_tail c within same =
+      let whole : c ≡ text_of ls ++ drop (length (text_of ls)) c = split_front (text_of ls) c (omega (arith, is)) (λ i low. same i (omega (arith, is))) in
+      ap tail_in whole ∙ past_text ls (drop (length (text_of ls)) c) all ∙ ap (λ (n : ℕ). tail_in (drop n c)) (sym is)
+
+  -- a blank behind a text
+  pub blank_end : (c : List ℕ) → end ≤ length c → ((i : ℕ) → i < end → slice_index c i ≡ slice_index (text_of ls) i) → (end < length c → slice_index c end ≡ 13) → MayEnd true (tail_in c)
+  blank_end c within same blank =
+      let zero_more : end + 0 ≡ end = omega arith in
+      subst (MayEnd true) (sym (after_tail c within same))
+          (blank_first (drop end c) (λ (some : 0 < length (drop end c)). get_or-drop end c 0 0 ∙ ap (slice_index c) zero_more ∙ blank (omega (arith, some, length-drop end c))))
+
+  -- any byte but a gate behind a text
+  pub shut_end : (c : List ℕ) → end ≤ length c → ((i : ℕ) → i < end → slice_index c i ≡ slice_index (text_of ls) i) → slice_index c end ≢ 123 → MayEnd false (tail_in c)
+  shut_end c within same other =
+      let zero_more : end + 0 ≡ end = omega arith in
+      let head : slice_index (drop end c) 0 ≡ slice_index c end = get_or-drop end c 0 0 ∙ ap (slice_index c) zero_more in
+      subst (MayEnd false) (sym (after_tail c within same)) (any_first (drop end c) (λ (e : slice_index (drop end c) 0 ≡ 123). other (sym head ∙ e)))
 
   -- a gate that is shut behind a text
   pub kept : (c : List ℕ) → HasText c ls end → lines_in c ≡ ls
@@ -72,10 +95,10 @@ module _ (ls : List (List ℕ)) (all : AllByRecursion IsLogLine ls) (end : ℕ) 
     other = other;
   }
 
-  pub between_old : (c : List ℕ) → lines_in c ≡ ls → IsBetween ls (ls ++ gs) (lines_in c)
+  between_old : (c : List ℕ) → lines_in c ≡ ls → IsBetween ls (ls ++ gs) (lines_in c)
   between_old c found = record { no_fewer = ([], append-nil ls ∙ sym found); no_more = (gs, ap (λ (l : List (List ℕ)). l ++ gs) found) }
 
-  pub between_new : (c : List ℕ) → lines_in c ≡ ls ++ gs → IsBetween ls (ls ++ gs) (lines_in c)
+  between_new : (c : List ℕ) → lines_in c ≡ ls ++ gs → IsBetween ls (ls ++ gs) (lines_in c)
   between_new c found = record { no_fewer = (gs, sym found); no_more = ([], append-nil (lines_in c) ∙ found) }
 
   -- each byte of the text is there or blank
@@ -94,10 +117,20 @@ module _ (ls : List (List ℕ)) (all : AllByRecursion IsLogLine ls) (end : ℕ) 
         no_more = (found.0, ap (λ (l : List (List ℕ)). l ++ found.0) read ∙ append_assoc ls (lines_in d) found.0 ∙ ap (λ (l : List (List ℕ)). ls ++ l) found.1);
       }
 
-  -- all of the text is there but the gate, which has any byte
+  -- each byte of the text is there or blank, and a blank is behind it
+  pub faded_end : (c : List ℕ) → end + length g < length c → ((i : ℕ) → i < end → slice_index c i ≡ slice_index (text_of ls) i)
+      → ((i : ℕ) → i < length g → (slice_index c (end + i) ≡ 13) ⊎ (slice_index c (end + i) ≡ slice_index g i)) → slice_index c (end + length g) ≡ 13 → MayEnd true (tail_in c)
+  faded_end c within same each blank =
+      let d = drop end c in
+      let faded : IsFadedText g d = faded_text_at g d (omega (arith, length-drop end c))
+          (λ i low. elim (each i low) [ inl old ↦ inl (get_or-drop end c i 0 ∙ old) | inr new ↦ inr (get_or-drop end c i 0 ∙ new) ])
+          (get_or-drop end c (length g) 0 ∙ blank) in
+      subst (MayEnd true) (sym (after_tail ls all end is c (omega arith) same)) (faded_tail gs d more (subst (λ (t : List ℕ). IsFadedText t d) (sym g_is) faded))
+
+  -- all of the text is there but the gate, which has any byte, and a blank is behind it
   pub gate_after : (c : List ℕ) → 0 < length g → end + length g < length c → ((i : ℕ) → i < end → slice_index c i ≡ slice_index (text_of ls) i)
-      → ((i : ℕ) → 0 < i → i < length g → slice_index c (end + i) ≡ slice_index g i) → slice_index c (end + length g) ≢ 123 → IsBetween ls (ls ++ gs) (lines_in c)
-  gate_after c some within same each other = elim (cases_eq (slice_index c end) 123) [
+      → ((i : ℕ) → 0 < i → i < length g → slice_index c (end + i) ≡ slice_index g i) → slice_index c (end + length g) ≡ 13 → IsCrashed false ls (ls ++ gs) c
+  gate_after c some within same each blank = elim (cases_eq (slice_index c end) 123) [
     | inl open_gate ↦
         let gate : slice_index g 0 ≡ 123 = ap (λ (t : List ℕ). slice_index t 0) (sym g_is) ∙ text_gate gs more (omega (arith, ap length g_is)) in
         let added : (i : ℕ) → i < length g → slice_index c (end + i) ≡ slice_index g i = λ i low. elim (cases_eq i 0) [
@@ -106,8 +139,16 @@ module _ (ls : List (List ℕ)) (all : AllByRecursion IsLogLine ls) (end : ℕ) 
               ap (slice_index c) here ∙ open_gate ∙ sym gate ∙ ap (slice_index g) (sym first)
           | inr later ↦ each i (omega arith) low
         ] in
-        between_new c (kept (ls ++ gs) (all_append ls gs all more) (end + length g) joined_length c (has_both c within same added other))
-    | inr shut_gate ↦ between_old c (kept ls all end is c (record { within = omega arith; same = same; other = shut_gate }))
+        let no_gate : slice_index c (end + length g) ≢ 123 = λ e. omega (arith, blank, e) in
+        let both = has_both c within same added no_gate in
+        record {
+          lines = between_new c (kept (ls ++ gs) (all_append ls gs all more) (end + length g) joined_length c both);
+          end = any_disk false (tail_in c) (blank_end (ls ++ gs) (all_append ls gs all more) (end + length g) joined_length c (omega arith) both.same (λ (some : end + length g < length c). blank));
+        }
+    | inr shut_gate ↦ record {
+      lines = between_old c (kept ls all end is c (record { within = omega arith; same = same; other = shut_gate }));
+      end = shut_end ls all end is c (omega arith) same shut_gate;
+    }
   ]
 
   -- all of the text is there

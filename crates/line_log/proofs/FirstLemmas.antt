@@ -3,9 +3,13 @@ use Rattle.std.proofs.Common.{◌≡◌, ℕ, zero, suc, ◌+◌, ◌<◌, ◌�
 use Rattle.std.proofs.lemmas.List.{append-nil, take_more, length-take-le}
 use Rattle.std.specs.Prelude.{◌≢◌, slice_index}
 use Rattle.std.specs.List.{AllByRecursion}
-use Rattle.line_log.specs.Lines.{lines_from, lines_in, text_of, IsLogLine}
-use Rattle.line_log.specs.ReadingPrivate.{IsLineFront, IsBreak}
+use Rattle.line_log.specs.Lines.{lines_from, lines_in, text_of, IsLogLine, IsLineFront}
+use Rattle.line_log.specs.ReadingPrivate.{IsBreak}
 use Rattle.line_log.proofs.LineLemmas.{IsInside, opens, shut, inside, ends, breaks, lines_of_text, text_append, all_append}
+
+pub no_bytes : (l : List ℕ) → length l ≡ 0 → l ≡ []
+no_bytes [] none = refl
+no_bytes (x ∷ l) none = absurd (omega arith)
 
 through : (x : ℕ) (line r rest : List ℕ) → AllByRecursion IsInside r → lines_from (x ∷ line) (r ++ rest) ≡ lines_from (x ∷ line ++ r) rest
 through x line [] rest all = ap (λ (l : List ℕ). lines_from (x ∷ l) rest) (sym (append-nil line))

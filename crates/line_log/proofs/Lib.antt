@@ -1,9 +1,9 @@
 pub mod LineLemmas
 pub mod CrashLemmas
 pub mod StepLemmas
-pub mod SizeLemmas
 pub mod RecoverLemmas
 pub mod FirstLemmas
+pub mod TailLemmas
 pub mod HashLemmas
 pub mod ReadLemmas
 pub mod DigitLemmas

@@ -3,10 +3,10 @@ use Rattle.std.proofs.Common.{◌≡◌, ◌⊎◌, inl, inr, ℕ, zero, suc, �
 use Rattle.std.proofs.lemmas.List.{append-nil}
 use Rattle.std.proofs.lemmas.Bool.{cases_eq, cases_lt}
 use Rattle.std.proofs.lemmas.Bool.Decides.{nat_tests}
-use Rattle.std.specs.Prelude.{◌≢◌, slice_index, ⊤}
+use Rattle.std.specs.Prelude.{◌≢◌, slice_index}
 use Rattle.std.specs.List.{AllByRecursion}
 use mathlib.Core.List.{IsPrefix}
-use Rattle.line_log.specs.Lines.{lines_from, lines_in, text_of, IsText, IsLogLine, IsBetween}
+use Rattle.line_log.specs.Lines.{lines_from, lines_in, text_of, IsText, IsLogLine, IsLineFront, IsBetween}
 
 abbrev pub IsInside : ℕ → Type 0
 IsInside c = 32 ≤ c
@@ -43,10 +43,6 @@ lines_of_text ((b ∷ line) ∷ ls) rest all =
     ∙ ap (λ (l : List (List ℕ)). (b ∷ line) ∷ l) (lines_of_text ls rest all.1)
 
 -- ---- what is found are lines
-
-abbrev IsLineFront : List ℕ → Type 0
-IsLineFront [] = ⊤
-IsLineFront (x ∷ line) = IsLogLine (x ∷ line)
 
 all_snoc : (xs : List ℕ) (b : ℕ) → AllByRecursion IsInside xs → 32 ≤ b → AllByRecursion IsInside (xs ++ b ∷ [])
 all_snoc [] b all high = (high, tt)

@@ -1,44 +1,105 @@
 -- What a reader of a log has read.
-use Rattle.std.proofs.Common.{◌≡◌, ℕ, zero, suc, ◌+◌, ◌-◌, ◌<◌, ◌≤◌, List, [], ◌∷◌, ◌++◌, length, take, drop, refl, sym, ◌∙◌, ap, subst, arith, append_assoc, length-append, length-drop}
-use Rattle.std.proofs.lemmas.List.{append-nil, get_or-drop, drop-drop, drop-append-le, length-take-le}
-use Rattle.std.specs.Prelude.{slice_index}
-use Rattle.line_log.specs.Lines.{lines_in, text_of, IsLogLine}
+use Rattle.std.proofs.Common.{◌≡◌, ◌⊎◌, inl, inr, Bool, ℕ, zero, suc, ◌+◌, ◌-◌, ◌<◌, ◌≤◌, min, List, [], ◌∷◌, ◌++◌, length, take, drop, refl, sym, ◌∙◌, ap, subst, arith, append_assoc, length-append, length-drop}
+use Rattle.std.proofs.lemmas.List.{append-nil, get_or-drop, drop-drop, drop-append-le, length-take-le, take_at}
+use Rattle.std.proofs.lemmas.Bool.{cases_eq}
+use Rattle.std.specs.Prelude.{◌≢◌, slice_index}
+use Rattle.line_log.specs.Lines.{lines_in, text_of, IsLogLine, IsLineFront}
 use Rattle.line_log.specs.Hashes.{hashed_line, hashed_after, hashed}
 use Rattle.sqlite_disk.specs.declared.Disk.{Ghosts}
 use Rattle.sha2.specs.Hashers.{Holds256}
 use Rattle.sha2.specs.declared.Sha256.{Sha256}
 use Rattle.line_log.specs.Reading.{IsPartOf, HasReadLines, held_by}
-use Rattle.line_log.specs.ReadingPrivate.{IsLineFront, IsBreak, Tells}
+use Rattle.line_log.specs.ReadingPrivate.{IsBreak, IsLookFault, IsTornAt, Tells}
+use Rattle.line_log.specs.Damage.{JustifiesError, IsLongLine, IsOutside}
+use Rattle.line_log.specs.Tails.{tail_in, unbroken, broken_by, shut_by, MayEnd}
+use Rattle.line_log.specs.declared.error.LogError.{LogError}
+use Rattle.line_log.specs.declared.error.LogError.TheVariants.{NoMemory, Disk, TooLong, LineTooLong, Damaged, Unread}
 use Rattle.line_log.specs.declared.reader.LogReader.{LogReader}
 use Rattle.line_log.specs.declared.first_line.FirstLine.TheVariants.{Part, Broken}
 use Rattle.line_log.proofs.LineLemmas.{text_append}
 use Rattle.line_log.proofs.CrashLemmas.{split_front}
-use Rattle.line_log.proofs.FirstLemmas.{whole_first, begun_none, broken_first}
+use Rattle.line_log.proofs.FirstLemmas.{no_bytes, whole_first, begun_none, broken_first}
 use Rattle.line_log.proofs.HashLemmas.{hashed_more, text_more}
+use Rattle.line_log.proofs.TailLemmas.{front_only, tail_past, tail_broken, tail_shut}
 
-no_bytes : (l : List ℕ) → length l ≡ 0 → l ≡ []
-no_bytes [] none = refl
-no_bytes (x ∷ l) none = absurd (omega arith)
+some_at : (l : List ℕ) → slice_index l 0 ≡ 123 → 0 < length l
+some_at [] e = absurd (omega (arith, e))
+some_at (x ∷ l) e = omega arith
 
 module _ (file held : List ℕ) (at : ℕ) (within : at + length held ≤ length file) (each : (i : ℕ) → i < length held → slice_index file (at + i) ≡ slice_index held i) where
   -- the bytes in memory are the next ones of the file
   pub held_first : drop at file ≡ held ++ drop (length held) (drop at file)
   held_first = split_front held (drop at file) (omega (arith, length-drop at file)) (λ i low. get_or-drop at file i 0 ∙ each i low)
 
+  rest_after : (n : ℕ) → n < length held → drop (n + 1) held ++ drop (length held) (drop at file) ≡ drop (at + (n + 1)) file
+  rest_after n low = sym (drop-append-le (n + 1) held (drop (length held) (drop at file)) (omega arith)) ∙ ap (drop (n + 1)) (sym held_first) ∙ drop-drop (n + 1) at file
+
   pub rest_whole : (n : ℕ) → n < length held → IsLogLine (take n held) → slice_index held n ≡ 10 → lines_in (drop at file) ≡ take n held ∷ lines_in (drop (at + (n + 1)) file)
   rest_whole n low line lf =
-      let more = drop (length held) (drop at file) in
-      let rest : drop (n + 1) held ++ more ≡ drop (at + (n + 1)) file = sym (drop-append-le (n + 1) held more (omega arith)) ∙ ap (drop (n + 1)) (sym held_first) ∙ drop-drop (n + 1) at file in
-      ap lines_in held_first ∙ whole_first held more n low line lf ∙ ap (λ (l : List ℕ). take n held ∷ lines_in l) rest
+      ap lines_in held_first ∙ whole_first held (drop (length held) (drop at file)) n low line lf ∙ ap (λ (l : List ℕ). take n held ∷ lines_in l) (rest_after n low)
 
-  pub rest_part : IsLineFront held → at + length held ≡ length file → lines_in (drop at file) ≡ []
-  rest_part begun all =
+  pub rest_tail : (n : ℕ) → n < length held → IsLogLine (take n held) → slice_index held n ≡ 10 → tail_in (drop at file) ≡ tail_in (drop (at + (n + 1)) file)
+  rest_tail n low line lf = ap tail_in held_first ∙ tail_past held (drop (length held) (drop at file)) n low line lf ∙ ap tail_in (rest_after n low)
+
+  all_held : at + length held ≡ length file → drop at file ≡ held
+  all_held all =
       let more = drop (length held) (drop at file) in
       let none : length more ≡ 0 = omega (arith, all, length-drop at file, length-drop (length held) (drop at file)) in
-      ap lines_in (held_first ∙ ap (λ (l : List ℕ). held ++ l) (no_bytes more none) ∙ append-nil held) ∙ begun_none held begun
+      held_first ∙ ap (λ (l : List ℕ). held ++ l) (no_bytes more none) ∙ append-nil held
+
+  pub rest_part : IsLineFront held → at + length held ≡ length file → lines_in (drop at file) ≡ []
+  rest_part front all = ap lines_in (all_held all) ∙ begun_none held front
+
+  pub part_tail : IsLineFront held → at + length held ≡ length file → tail_in (drop at file) ≡ unbroken
+  part_tail front all = ap tail_in (all_held all) ∙ front_only held front
 
   pub rest_broken : (n : ℕ) → n < length held → IsLineFront (take n held) → IsBreak (take n held) (slice_index held n) → lines_in (drop at file) ≡ []
-  rest_broken n low begun other = ap lines_in held_first ∙ broken_first held (drop (length held) (drop at file)) n low begun other
+  rest_broken n low front other = ap lines_in held_first ∙ broken_first held (drop (length held) (drop at file)) n low front other
+
+  -- a byte that breaks the front of a line is torn, or no crash left it
+  module _ (n : ℕ) (low : n < length held) (front : IsLineFront (take n held)) (other : IsBreak (take n held) (slice_index held n)) (mixes : Bool) (len : ℕ) (len_is : len ≡ length file) where
+    long : length (take n held) ≡ n
+    long = length-take-le n held (omega arith)
+
+    more_long : n ≡ 0 → length (drop (n + 1) held ++ drop (length held) (drop at file)) + 1 ≡ len - at
+    more_long first =
+        omega (arith, first, low, within, len_is, length-append (drop (n + 1) held) (drop (length held) (drop at file)), length-drop (n + 1) held, length-drop (length held) (drop at file), length-drop at file)
+
+    broken : 0 < n → tail_in (drop at file) ≡ broken_by (slice_index held n)
+    broken some = ap tail_in held_first ∙ tail_broken held (drop (length held) (drop at file)) n low front other (omega (arith, some, long))
+
+    shut : n ≡ 0 → tail_in (drop at file) ≡ shut_by (slice_index held n) (drop (n + 1) held ++ drop (length held) (drop at file))
+    shut first = ap tail_in held_first ∙ tail_shut held (drop (length held) (drop at file)) n low front other (long ∙ first)
+
+    pub torn_may : IsTornAt mixes n (len - at) (slice_index held n) → MayEnd mixes (tail_in (drop at file))
+    torn_may torn = elim (cases_eq n 0) [
+      | inl first ↦
+          let shut_may : MayEnd mixes (shut_by (slice_index held n) (drop (n + 1) held ++ drop (length held) (drop at file))) = elim torn [
+            | inl blank ↦ inl blank
+            | inr gate ↦ elim (gate.1) [
+              | inl dis ↦ inr (inl dis)
+              | inr one ↦ inr (inr (no_bytes (drop (n + 1) held ++ drop (length held) (drop at file)) (omega (arith, one, more_long first))))
+            ]
+          ] in
+          subst (MayEnd mixes) (sym (shut first)) shut_may
+      | inr later ↦
+          let blank : slice_index held n ≡ 13 = elim torn [ inl is ↦ is | inr gate ↦ absurd (later gate.0) ] in
+          subst (MayEnd mixes) (sym (broken (omega arith))) blank
+    ]
+
+    pub torn_only : MayEnd mixes (tail_in (drop at file)) → IsTornAt mixes n (len - at) (slice_index held n)
+    torn_only may = elim (cases_eq n 0) [
+      | inl first ↦
+          let shut_may : MayEnd mixes (shut_by (slice_index held n) (drop (n + 1) held ++ drop (length held) (drop at file))) = subst (MayEnd mixes) (shut first) may in
+          elim shut_may [
+            | inl blank ↦ inl blank
+            | inr gate ↦ elim gate [
+              | inl dis ↦ inr (first, inl dis)
+              | inr none ↦ inr (first, inr (omega (arith, ap length none, more_long first)))
+            ]
+          ]
+      | inr later ↦ inl (subst (MayEnd mixes) (broken (omega arith)) may)
+    ]
 
 -- one more line was read
 module _ (file : List ℕ) (lines : List (List ℕ)) (line : List ℕ) (n at : ℕ) (found rest : List ℕ) (is : found ≡ hashed_line (text_of lines) line) (long : length found ≡ n) (at_is : at ≡ length (text_of (hashed lines))) where
@@ -71,12 +132,55 @@ module _ {D : Type 0} {d : Ghosts D} (file : List ℕ) (r : LogReader D d) (part
   pub none_broken : (n : ℕ) → Tells r (Broken n) → lines_in (drop r.at file) ≡ []
   none_broken n tells = rest_broken file (held_by r) r.at part_within part.each n tells.begins.0 tells.begins.1 tells.begins.2
 
+  pub end_part : (mixes : Bool) → Tells r Part → MayEnd mixes (tail_in (drop r.at file))
+  end_part mixes tells = subst (MayEnd mixes) (sym (part_tail file (held_by r) r.at part_within part.each tells.begins (tells.whole refl ∙ part.len))) tt
+
+  read_byte : (n : ℕ) → slice_index (held_by r) n ≡ slice_index r.block.items (r.from + n)
+  read_byte n = get_or-drop r.from r.block.items n 0
+
+  pub end_torn : (mixes : Bool) (n : ℕ) → Tells r (Broken n) → IsTornAt mixes n (r.len - r.at) (slice_index r.block.items (r.from + n)) → MayEnd mixes (tail_in (drop r.at file))
+  end_torn mixes n tells torn =
+      torn_may file (held_by r) r.at part_within part.each n tells.begins.0 tells.begins.1 tells.begins.2 mixes r.len part.len
+          (subst (IsTornAt mixes n (r.len - r.at)) (sym (read_byte n)) torn)
+
+  pub end_wrong : (mixes : Bool) (n : ℕ) → Tells r (Broken n) → (IsTornAt mixes n (r.len - r.at) (slice_index r.block.items (r.from + n)) → ⊥) → MayEnd mixes (tail_in (drop r.at file)) → ⊥
+  end_wrong mixes n tells other may =
+      other (subst (IsTornAt mixes n (r.len - r.at)) (read_byte n) (torn_only file (held_by r) r.at part_within part.each n tells.begins.0 tells.begins.1 tells.begins.2 mixes r.len part.len may))
+
+  -- the next byte of the file, if it is in memory
+  first_byte : 0 < length (held_by r) → slice_index file r.at ≡ slice_index (held_by r) 0
+  first_byte some =
+      let here : r.at ≡ r.at + 0 = omega arith in
+      ap (slice_index file) here ∙ part.each 0 some
+
+  pub gate_within : slice_index (held_by r) 0 ≡ 123 → r.at < length file
+  gate_within gate =
+      let some = some_at (held_by r) gate in
+      omega (arith, some, part_within)
+
+  pub open_gate : slice_index (held_by r) 0 ≡ 123 → slice_index file r.at ≡ 123
+  open_gate gate = first_byte (some_at (held_by r) gate) ∙ gate
+
+  pub shut_gate : 0 < length (held_by r) → slice_index (held_by r) 0 ≢ 123 → slice_index file r.at ≢ 123
+  shut_gate some other is = other (sym (first_byte some) ∙ is)
+
+  -- the line goes on behind a block of the maximum length
+  pub long_line : IsLineFront (held_by r) → length (held_by r) ≡ min 8388608 (r.len - r.at) → length (held_by r) < r.len - r.at → IsLongLine (drop r.at file)
+  long_line front size more =
+      let is : length (held_by r) ≡ 8388608 = omega (arith, size, more) in
+      let first = held_first file (held_by r) r.at part_within part.each in
+      let same : take 8388608 (drop r.at file) ≡ held_by r = ap (take 8388608) first ∙ take_at (held_by r) (drop (length (held_by r)) (drop r.at file)) 8388608 is in
+      (omega (arith, is, more, part.len, length-drop r.at file), subst IsLineFront (sym same) front)
+
 -- a reader that has read the same, with another part in memory
-pub looked : {D : Type 0} {d : Ghosts D} (file : List ℕ) (r s : LogReader D d) (lines : List (List ℕ)) → IsPartOf file s → s.at ≡ r.at → s.hasher ≡ r.hasher → HasReadLines file r lines → HasReadLines file s lines
-looked file r s lines part at hasher read = record {
+pub looked : {D : Type 0} {d : Ghosts D} (file : List ℕ) (r s : LogReader D d) (lines : List (List ℕ)) → IsPartOf file s → s.at ≡ r.at → s.count ≡ r.count → s.hasher ≡ r.hasher
+    → HasReadLines file r lines → HasReadLines file s lines
+looked file r s lines part at count hasher read = record {
     part = part;
+    count = count ∙ read.count;
     at = at ∙ read.at;
     read = read.read ∙ ap (λ (n : ℕ). hashed lines ++ lines_in (drop n file)) (sym at);
+    tail = read.tail ∙ ap (λ (n : ℕ). tail_in (drop n file)) (sym at);
     text = subst (λ (h : Sha256). Holds256 h (text_of lines)) (sym hasher) read.text;
   }
 
@@ -86,3 +190,22 @@ read_all file r lines read none = read.read ∙ ap (λ (l : List (List ℕ)). ha
 
 pub read_end : {D : Type 0} {d : Ghosts D} (file : List ℕ) (r : LogReader D d) (lines : List (List ℕ)) → HasReadLines file r lines → lines_in (drop r.at file) ≡ [] → r.at ≡ length (text_of (lines_in file))
 read_end file r lines read none = read.at ∙ ap (λ (l : List (List ℕ)). length (text_of l)) (sym (read_all file r lines read none))
+
+-- what is wrong with the next line, in terms of the lines that were read
+pub look_justified : {D : Type 0} {d : Ghosts D} (mixes : Bool) (file : List ℕ) (r : LogReader D d) (lines : List (List ℕ)) (e : LogError) → HasReadLines file r lines → IsLookFault file r e → JustifiesError mixes file lines e
+look_justified mixes file r lines NoMemory read fault = tt
+look_justified mixes file r lines (Disk e) read fault = tt
+look_justified mixes file r lines TooLong read fault = absurd fault
+look_justified mixes file r lines (LineTooLong n) read fault =
+    (fault.0 ∙ ap (λ (k : ℕ). k + 1) read.count, subst (λ (k : ℕ). IsLongLine (drop k file)) read.at fault.1)
+look_justified mixes file r lines (Damaged n) read fault = absurd fault
+look_justified mixes file r lines Unread read fault = absurd fault
+
+-- an error from outside is no fault of the next line
+pub outside_fault : {D : Type 0} {d : Ghosts D} (file : List ℕ) (r : LogReader D d) (e : LogError) → IsOutside e → IsLookFault file r e
+outside_fault file r NoMemory outside = tt
+outside_fault file r (Disk e) outside = tt
+outside_fault file r TooLong outside = absurd outside
+outside_fault file r (LineTooLong n) outside = absurd outside
+outside_fault file r (Damaged n) outside = absurd outside
+outside_fault file r Unread outside = absurd outside

@@ -1,5 +1,8 @@
 pub mod Lines
+pub mod Tails
 pub mod Hashes
 pub mod Log
+pub mod Damage
 pub mod Reading
 pub mod ReadingPrivate
+pub mod Laws

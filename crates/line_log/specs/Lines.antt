@@ -1,6 +1,6 @@
 -- What the bytes of a log file stand for. A line begins with '{' (123), has no byte below 32, and ends with an LF (10). The first
 -- byte that breaks this ends the log.
-use Rattle.std.specs.Prelude.{◌≡◌, ℕ, ◌≤◌, ◌==◌, nat_lt, List, [], ◌∷◌, ◌++◌, if◌then◌else◌}
+use Rattle.std.specs.Prelude.{◌≡◌, ℕ, ◌≤◌, ◌==◌, nat_lt, List, [], ◌∷◌, ◌++◌, if◌then◌else◌, ⊤}
 use Rattle.std.specs.List.{AllByRecursion}
 use mathlib.Core.List.{IsPrefix}
 
@@ -27,6 +27,11 @@ IsText bytes = text_of (lines_in bytes) ≡ bytes
 abbrev pub IsLogLine : List ℕ → Type 0
 IsLogLine [] = ⊥
 IsLogLine (b ∷ bytes) = (b ≡ 123) × AllByRecursion (λ c. 32 ≤ c) bytes
+
+-- the front of a line: nothing, or a line without its LF
+abbrev pub IsLineFront : List ℕ → Type 0
+IsLineFront [] = ⊤
+IsLineFront (b ∷ bytes) = IsLogLine (b ∷ bytes)
 
 -- the found lines begin with the old ones, and are a prefix of the new ones
 pub record IsBetween (old new found : List (List ℕ)) : Type 0 where

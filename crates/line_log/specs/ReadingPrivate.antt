@@ -1,16 +1,14 @@
 -- For this crate's own contracts: what bytes of a log begin with.
-use Rattle.std.specs.Prelude.{◌≡◌, ◌≢◌, ℕ, ◌+◌, ◌<◌, List, [], ◌∷◌, length, take, slice_index, ⊤}
+use Rattle.std.specs.Prelude.{◌≡◌, ◌≢◌, ◌⊎◌, ℕ, ◌+◌, ◌<◌, Bool, false, List, [], ◌∷◌, length, take, drop, slice_index, ⊤}
+use Rattle.line_log.specs.Damage.{IsLongLine}
+use Rattle.line_log.specs.declared.error.LogError.{LogError}
+use Rattle.line_log.specs.declared.error.LogError.TheVariants.{NoMemory, Disk, LineTooLong}
 use Rattle.sqlite_disk.specs.declared.Disk.{Ghosts}
-use Rattle.line_log.specs.Lines.{IsLogLine}
+use Rattle.line_log.specs.Lines.{IsLogLine, IsLineFront}
 use Rattle.line_log.specs.Reading.{held_by}
 use Rattle.line_log.specs.declared.reader.LogReader.{LogReader}
 use Rattle.line_log.specs.declared.first_line.FirstLine.{FirstLine}
 use Rattle.line_log.specs.declared.first_line.FirstLine.TheVariants.{Whole, Part, Broken}
-
--- the beginning of a line: nothing, or a line without its LF
-abbrev pub IsLineFront : List ℕ → Type 0
-IsLineFront [] = ⊤
-IsLineFront (b ∷ bytes) = IsLogLine (b ∷ bytes)
 
 -- behind this beginning of a line, this byte neither continues it nor ends it
 abbrev pub IsBreak : List ℕ → ℕ → Type 0
@@ -27,3 +25,15 @@ BeginsAs bytes (Broken n) = (n < length bytes) × IsLineFront (take n bytes) × 
 pub record Tells {D : Type 0} {d : Ghosts D} (reader : LogReader D d) (found : FirstLine) : Type 0 where
   pub begins : BeginsAs (held_by reader) found
   pub whole : found ≡ Part → reader.at + length (held_by reader) ≡ reader.len
+
+-- A crash may have left this byte behind the front of a line, where so many bytes of the file were not read: a blank, or in the place of
+-- the line's first byte any.
+abbrev pub IsTornAt : Bool → ℕ → ℕ → ℕ → Type 0
+IsTornAt mixes front left byte = (byte ≡ 13) ⊎ ((front ≡ 0) × ((mixes ≡ false) ⊎ (left ≡ 1)))
+
+-- the next line is too long, and the error has its number, or the error is of the disk or of memory
+abbrev pub IsLookFault : {D : Type 0} {d : Ghosts D} → List ℕ → LogReader D d → LogError → Type 0
+IsLookFault file reader (LineTooLong n) = (n ≡ reader.count + 1) × IsLongLine (drop reader.at file)
+IsLookFault file reader NoMemory = ⊤
+IsLookFault file reader (Disk e) = ⊤
+IsLookFault file reader other = ⊥

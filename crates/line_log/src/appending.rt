@@ -1,9 +1,9 @@
 //! How are lines added to a log, each with its hash?
 
-ghost use Rattle.std.specs.Prelude.{◌≡◌, ◌++◌, ℕ, List, IsTrue, OnOk};
+ghost use Rattle.std.specs.Prelude.{◌≡◌, ◌++◌, ℕ, Bool, List, IsTrue, OnOk};
 ghost use Rattle.line_log.specs.Lines.{IsText, lines_in};
 ghost use Rattle.line_log.specs.Hashes.{IsLeft};
-ghost use Rattle.line_log.specs.Log.{HasLines, IsSettled};
+ghost use Rattle.line_log.specs.Log.{HasLines, IsSynced, MixesIf};
 
 use crate::error::LogError;
 use crate::hashing::with_hashes;
@@ -16,17 +16,19 @@ impl<D: Disk> LineLog<D> {
     /// moment of the call leaves the lines from before it and some of the new ones, in order. At `Err` open the file again.
     pub fn append(&mut self, alloc: Global, text: &[u8]) -> Result<(), LogError>
         requires usable { IsTrue (D.Disk.is_usable self.old.file.disk) }
-        requires settled { IsTrue (D.Disk.is_clean self.old.file.disk) → IsSettled D.Disk.seen D.Disk.may_leave self.old.file }
+        requires synced { IsTrue (D.Disk.is_clean self.old.file.disk) → IsSynced D.Disk.seen D.Disk.may_leave self.old.file }
         requires text { IsText text.now }
         ensures clean { D.Disk.is_clean self.new.file.disk ≡ D.Disk.is_clean self.old.file.disk }
         ensures usable { OnOk result (IsTrue (D.Disk.is_usable self.new.file.disk)) }
-        ensures settled { OnOk result (IsTrue (D.Disk.is_clean self.old.file.disk) → IsSettled D.Disk.seen D.Disk.may_leave self.new.file) }
+        ensures synced { OnOk result (IsTrue (D.Disk.is_clean self.old.file.disk) → IsSynced D.Disk.seen D.Disk.may_leave self.new.file) }
         ensures added { OnOk result (IsTrue (D.Disk.is_clean self.old.file.disk) → (lines : List (List ℕ)) → HasLines D.Disk.seen D.Disk.may_leave self.old lines
             → HasLines D.Disk.seen D.Disk.may_leave self.new (lines ++ lines_in text.now)) }
-        ensures any_moment { IsTrue (D.Disk.is_clean self.old.file.disk) → (lines : List (List ℕ)) → HasLines D.Disk.seen D.Disk.may_leave self.old lines
-            → (c : List ℕ) → D.Disk.may_leave self.new.file.disk c → IsLeft lines (lines_in text.now) c }
+        ensures any_moment { IsTrue (D.Disk.is_clean self.old.file.disk) → (mixes : Bool) → MixesIf D.Disk.is_mixing mixes
+            → (lines : List (List ℕ)) → HasLines D.Disk.seen D.Disk.may_leave self.old lines
+            → (c : List ℕ) → D.Disk.may_leave self.new.file.disk c → IsLeft mixes lines (lines_in text.now) c }
     {
         let hashed = with_hashes(alloc, &mut self.hasher, text)?;
-        self.file.append(alloc, &hashed)
+        self.file.append(alloc, &hashed)?;
+        Ok(())
     }
 }

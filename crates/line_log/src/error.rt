@@ -1,5 +1,8 @@
 //! Why did a call of a log fail?
 
+ghost use Rattle.std.specs.Prelude.{◌≡◌};
+ghost use Rattle.line_log.specs.declared.error.LogError.TheVariants.{Disk, NoMemory};
+
 use std::alloc::{AllocError, AllocFailed};
 use std::io;
 
@@ -10,22 +13,28 @@ pub enum LogError {
     NoMemory,
     /// A call of the disk failed.
     Disk(io::Error),
-    /// The file would be too long, or a line of it is.
+    /// The file would be too long.
     TooLong,
-    /// What follows the lines that were read is no line with the right hash, and no torn end either.
-    Damaged,
+    /// The line of this number, from 1 on, is longer than any line of a log.
+    LineTooLong(usize),
+    /// In the place of the line of this number, from 1 on, is none with the right hash, and no torn end either.
+    Damaged(usize),
     /// The file has lines that were not read.
     Unread,
 }
 
 impl From<io::Error> for LogError {
-    fn from(error: io::Error) -> LogError {
+    fn from(error: io::Error) -> LogError
+        ensures { result ≡ Disk error }
+    {
         LogError::Disk(error)
     }
 }
 
 impl From<AllocError> for LogError {
-    fn from(_: AllocError) -> LogError {
+    fn from(_: AllocError) -> LogError
+        ensures { result ≡ NoMemory }
+    {
         LogError::NoMemory
     }
 }

@@ -1,13 +1,12 @@
 //! How do lines get their hashes, and how are they tested?
 
-ghost use Rattle.std.specs.Prelude.{◌≡◌, ◌≤◌, ◌++◌, ◌∷◌, ℕ, List, [], length, IfOk, IsTrue, OnOk};
+ghost use Rattle.std.specs.Prelude.{◌≡◌, ◌≢◌, ◌≤◌, ◌++◌, ◌∷◌, ℕ, false, List, [], length, bytes_eq, IfOk, IsTrue, OnOk};
 ghost use Rattle.std.specs.List.{AllByRecursion};
 ghost use Rattle.sha2.specs.Hashers.{Holds256};
 ghost use Rattle.hex.specs.Hex.{encode_lower};
 ghost use Rattle.line_log.specs.Lines.{IsLogLine, IsText, lines_in};
 ghost use Rattle.line_log.specs.Hashes.{hash_of, hashed_after, hashed_line};
 
-use crate::error::LogError;
 use crate::first_line::line_len;
 use sha2::{Digest, Sha256};
 use std::alloc::{AllocError, Global};
@@ -62,13 +61,13 @@ fn put_line(hasher: &mut Sha256, line: &[u8], file: &mut Vec<u8>) -> Result<(), 
     Ok(())
 }
 
-/// Returns whether this is a blank and the hash.
+/// Returns whether this is a space and the hash.
 fn is_hash(tail: &[u8], hash: &[u8]) -> bool
-    ensures { IsTrue result → tail.now ≡ 32 ∷ hash.now }
+    ensures { result ≡ bytes_eq tail.now (32 ∷ hash.now) }
 {
-    match tail {
-        [b' ', digits @ ..] => digits == hash,
-        _ => false,
+    match tail.split_first() {
+        Some((first, digits)) => *first == b' ' && digits == hash,
+        None => false,
     }
 }
 
@@ -92,24 +91,26 @@ pub(crate) fn with_hashes(
     Ok(file)
 }
 
-/// Copies a line of a file without its hash, if that is the right one, and adds the line to the text that was hashed.
+/// Returns whether a line of a file has the right hash. If so, it copies the line without that, and adds it to the text that was
+/// hashed.
 pub(crate) fn take_line(
     hasher: &mut Sha256,
     found: &[u8],
     line: &mut Vec<u8>,
-) -> Result<(), LogError>
-    ensures text { OnOk result ((before : List ℕ) → Holds256 hasher.old before → Holds256 hasher.new (before ++ line.new.items ++ 10 ∷ [])) }
-    ensures hashed { OnOk result ((before : List ℕ) → Holds256 hasher.old before → found.now ≡ hashed_line before line.new.items) }
+) -> Result<bool, AllocError>
+    ensures text { IfOk result (λ is_right. IsTrue is_right → (before : List ℕ) → Holds256 hasher.old before → Holds256 hasher.new (before ++ line.new.items ++ 10 ∷ [])) }
+    ensures hashed { IfOk result (λ is_right. IsTrue is_right → (before : List ℕ) → Holds256 hasher.old before → found.now ≡ hashed_line before line.new.items) }
+    ensures wrong { IfOk result (λ is_right. is_right ≡ false → (before : List ℕ) → Holds256 hasher.old before → (other : List ℕ) → found.now ≢ hashed_line before other) }
 {
     if found.len() <= HASH_LEN {
-        return Err(LogError::Damaged);
+        return Ok(false);
     }
     let (text, tail) = found.split_at(found.len() - HASH_LEN - 1);
     let hash = hash_line(hasher, text)?;
     if !is_hash(tail, &hash) {
-        return Err(LogError::Damaged);
+        return Ok(false);
     }
     line.clear();
     line.extend_from_slice(text)?;
-    Ok(())
+    Ok(true)
 }

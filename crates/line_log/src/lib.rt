@@ -1,7 +1,7 @@
 //! Which lines does a log file hold, whatever a crash made of it?
 //!
 //! A file has lines and then blanks (CRs). A line begins with `{`, has no byte below 32 and ends with an LF; the first byte that breaks this
-//! ends the lines. Each line has its hash behind it: a blank and 32 hexadecimal digits, the first half of the SHA-256 of all lines up to it,
+//! ends the lines. Each line has its hash behind it: a space and 32 hexadecimal digits, the first half of the SHA-256 of all lines up to it,
 //! each with its LF and without its hash. The theorems on crashes rest on no hash, only on what a disk promises
 //! (`sqlite_disk::Disk`).
 //!
@@ -27,6 +27,7 @@ mod error;
 mod file;
 mod first_line;
 mod hashing;
+mod laws;
 mod log;
 mod opening;
 mod reader;
@@ -37,6 +38,7 @@ mod writing;
 pub use error::LogError;
 pub use file::LineFile;
 pub use first_line::is_text;
+pub use laws::good_files;
 pub use log::LineLog;
 pub use opening::open_log;
 pub use reader::LogReader;

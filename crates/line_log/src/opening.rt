@@ -4,7 +4,7 @@ ghost use Rattle.std.specs.Prelude.{◌≡◌, ℕ, List, [], IsTrue, IfOk, IfEr
 ghost use Rattle.sqlite_disk.specs.Disk.{Only};
 ghost use Rattle.line_log.specs.Lines.{lines_in, text_of};
 ghost use Rattle.line_log.specs.Hashes.{hashed};
-ghost use Rattle.line_log.specs.Log.{HasLines, IsSettled};
+ghost use Rattle.line_log.specs.Log.{HasLines, KeepsLines, IsSynced};
 ghost use Rattle.line_log.specs.Reading.{HasReadLines};
 
 use crate::error::LogError;
@@ -42,10 +42,10 @@ pub fn open_log<D: Disk>(alloc: Global, disk: D) -> Result<(LineLog<D>, Vec<u8>)
     requires durable { Only (D.Disk.seen disk) (D.Disk.may_leave disk) }
     ensures usable { IfOk result (λ r. IsTrue (D.Disk.is_usable r.0.file.disk)) }
     ensures clean { IfOk result (λ r. IsTrue (D.Disk.is_clean r.0.file.disk) → IsTrue (D.Disk.is_clean disk)) }
-    ensures settled { IfOk result (λ r. IsTrue (D.Disk.is_clean r.0.file.disk) → IsSettled D.Disk.seen D.Disk.may_leave r.0.file) }
+    ensures synced { IfOk result (λ r. IsTrue (D.Disk.is_clean r.0.file.disk) → IsSynced D.Disk.seen D.Disk.may_leave r.0.file) }
     ensures opened { IfOk result (λ r. IsTrue (D.Disk.is_clean r.0.file.disk) → (lines : List (List ℕ)) × HasLines D.Disk.seen D.Disk.may_leave r.0 lines × (lines_in (D.Disk.seen disk) ≡ hashed lines) × (r.1.items ≡ text_of lines)) }
-    ensures any_moment { IfOk result (λ r. IsTrue (D.Disk.is_clean r.0.file.disk) → (c : List ℕ) → D.Disk.may_leave r.0.file.disk c → lines_in c ≡ lines_in (D.Disk.seen disk)) }
-    ensures any_moment_err { IfErr result (λ e. IsTrue (D.Disk.is_clean e.1) → (c : List ℕ) → D.Disk.may_leave e.1 c → lines_in c ≡ lines_in (D.Disk.seen disk)) }
+    ensures any_moment { IfOk result (λ r. IsTrue (D.Disk.is_clean r.0.file.disk) → (c : List ℕ) → D.Disk.may_leave r.0.file.disk c → KeepsLines D.Disk.is_mixing (D.Disk.seen disk) c) }
+    ensures any_moment_err { IfErr result (λ e. IsTrue (D.Disk.is_clean e.1) → (c : List ℕ) → D.Disk.may_leave e.1 c → KeepsLines D.Disk.is_mixing (D.Disk.seen disk) c) }
 {
     let mut reader = LogReader::new(alloc, disk)?;
     match read_text(alloc, &mut reader) {

@@ -1,12 +1,14 @@
 //! How is the file of a log read, line by line, and opened at its end?
 
-ghost use Rattle.std.specs.Prelude.{◌≡◌, ◌==◌, ◌+◌, ◌^◌, ◌<◌, ◌≤◌, ◌++◌, ◌∷◌, [], ℕ, Bool, false, List, drop, length, slice_index, IsTrue, IfOk, IfErr, IfSome, OnOk};
+ghost use Rattle.std.specs.Prelude.{◌≡◌, ◌==◌, ◌+◌, ◌-◌, ◌^◌, ◌<◌, ◌≤◌, ◌++◌, ◌∷◌, [], ℕ, Bool, false, List, drop, length, min, slice_index, IsTrue, IfNone, IfOk, IfErr, IfSome, OnOk};
 ghost use Rattle.sqlite_disk.specs.Disk.{Only};
-ghost use Rattle.line_log.specs.Lines.{lines_in};
+ghost use Rattle.line_log.specs.Damage.{JustifiesError, IsOutside};
+ghost use Rattle.line_log.specs.Lines.{lines_in, IsLineFront};
 ghost use Rattle.line_log.specs.Hashes.{hashed};
-ghost use Rattle.line_log.specs.Log.{HasLines, IsAtRest};
+ghost use Rattle.line_log.specs.Log.{HasLines, IsAtRest, KeepsLines};
 ghost use Rattle.line_log.specs.Reading.{HasReadLines, IsPartOf, held_by};
-ghost use Rattle.line_log.specs.ReadingPrivate.{BeginsAs, Tells};
+ghost use Rattle.line_log.specs.ReadingPrivate.{BeginsAs, IsLookFault, IsTornAt, Tells};
+ghost use Rattle.line_log.specs.Tails.{MayEnd, tail_in};
 ghost use Rattle.line_log.specs.declared.first_line.FirstLine.TheVariants.{Whole};
 
 use crate::error::LogError;
@@ -23,7 +25,7 @@ use std::alloc::Global;
 /// How many bytes of a file are read at once.
 const BLOCK: usize = 1 << 18;
 
-/// The maximum length of a line of a file, with its hash and LF. No line that `regd` prints is as long.
+/// The maximum length of a line of a file, with its hash. No line that `regd` prints is as long.
 const LONGEST: usize = 1 << 23;
 
 /// Reads a part of a file.
@@ -38,6 +40,7 @@ fn read_block<D: Disk>(
     ensures clean { IsTrue (D.Disk.is_clean disk.new) → IsTrue (D.Disk.is_clean disk.old) }
     ensures seen { D.Disk.seen disk.new ≡ D.Disk.seen disk.old }
     ensures crash { (c : List ℕ) → D.Disk.may_leave disk.new c → D.Disk.may_leave disk.old c }
+    ensures outside { IfErr result (λ e. IsOutside e) }
     ensures size { IfOk result (λ block. length block.items ≡ size) }
     ensures bytes { IfOk result (λ block. IsTrue (D.Disk.is_clean disk.new) → (i : ℕ) → i < size → slice_index (D.Disk.seen disk.old) (at + i) ≡ slice_index block.items i) }
 {
@@ -62,6 +65,7 @@ impl<D: Disk> LogReader<D> {
                 disk,
                 len,
                 at: 0,
+                count: 0,
                 block: Vec::new(alloc),
                 from: 0,
                 hasher: Sha256::new(),
@@ -71,7 +75,8 @@ impl<D: Disk> LogReader<D> {
     }
 
     /// Reads the next line, without its hash, and returns true; or false if no whole line follows. Nothing is written. At `Err`
-    /// begin again: the file is damaged if its next line has another hash, and if the byte that ends its lines is no blank.
+    /// begin again. `Damaged` has the number of a line whose hash is wrong, or of the one in whose place is something that no crash
+    /// leaves; `LineTooLong` that of a line which doesn't end within 8 MiB.
     pub fn next_line(&mut self, alloc: Global, line: &mut Vec<u8>) -> Result<bool, LogError>
         requires usable { IsTrue (D.Disk.is_usable self.old.disk) }
         ensures usable { IsTrue (D.Disk.is_usable self.new.disk) }
@@ -84,6 +89,10 @@ impl<D: Disk> LogReader<D> {
             → lines_in (D.Disk.seen self.old.disk) ≡ hashed lines) }
         ensures kept { IfOk result (λ any. any ≡ false → IsTrue (D.Disk.is_clean self.new.disk) → (lines : List (List ℕ)) → HasReadLines (D.Disk.seen self.old.disk) self.old lines
             → HasReadLines (D.Disk.seen self.old.disk) self.new lines) }
+        ensures end { IfOk result (λ any. any ≡ false → IsTrue (D.Disk.is_clean self.new.disk) → (lines : List (List ℕ)) → HasReadLines (D.Disk.seen self.old.disk) self.old lines
+            → MayEnd (D.Disk.is_mixing self.new.disk) (tail_in (D.Disk.seen self.old.disk))) }
+        ensures justified { IfErr result (λ e. IsTrue (D.Disk.is_clean self.new.disk) → (lines : List (List ℕ)) → HasReadLines (D.Disk.seen self.old.disk) self.old lines
+            → JustifiesError (D.Disk.is_mixing self.new.disk) (D.Disk.seen self.old.disk) lines e) }
     {
         match self.look(alloc)? {
             FirstLine::Whole(len) => {
@@ -93,7 +102,7 @@ impl<D: Disk> LogReader<D> {
             FirstLine::Part => Ok(false),
             FirstLine::Broken(len) => {
                 if !self.is_torn(len) {
-                    return Err(LogError::Damaged);
+                    return Err(LogError::Damaged(self.count + 1));
                 }
                 Ok(false)
             }
@@ -112,14 +121,14 @@ impl<D: Disk> LogReader<D> {
         ensures clean_err { IfErr result (λ e. IsTrue (D.Disk.is_clean e.1) → IsTrue (D.Disk.is_clean self.disk)) }
         ensures opened { IfOk result (λ log. IsTrue (D.Disk.is_clean log.file.disk) → (lines : List (List ℕ)) → HasReadLines (D.Disk.seen self.disk) self lines
             → HasLines D.Disk.seen D.Disk.may_leave log lines) }
-        ensures any_moment { IfOk result (λ log. IsTrue (D.Disk.is_clean log.file.disk) → (c : List ℕ) → D.Disk.may_leave log.file.disk c → lines_in c ≡ lines_in (D.Disk.seen self.disk)) }
-        ensures any_moment_err { IfErr result (λ e. IsTrue (D.Disk.is_clean e.1) → (c : List ℕ) → D.Disk.may_leave e.1 c → lines_in c ≡ lines_in (D.Disk.seen self.disk)) }
+        ensures any_moment { IfOk result (λ log. IsTrue (D.Disk.is_clean log.file.disk) → (c : List ℕ) → D.Disk.may_leave log.file.disk c → KeepsLines D.Disk.is_mixing (D.Disk.seen self.disk) c) }
+        ensures any_moment_err { IfErr result (λ e. IsTrue (D.Disk.is_clean e.1) → (c : List ℕ) → D.Disk.may_leave e.1 c → KeepsLines D.Disk.is_mixing (D.Disk.seen self.disk) c) }
     {
-        let settled = self.settle(alloc);
+        let trimmed = self.trim(alloc);
         let LogReader {
             disk, at, hasher, ..
         } = self;
-        match settled {
+        match trimmed {
             Ok(()) => {
                 let file = LineFile {
                     disk,
@@ -133,7 +142,7 @@ impl<D: Disk> LogReader<D> {
     }
 
     /// Cuts off what isn't a whole line, and leaves a blank behind the lines, all of which were read.
-    fn settle(&mut self, alloc: Global) -> Result<(), LogError>
+    fn trim(&mut self, alloc: Global) -> Result<(), LogError>
         requires usable { IsTrue (D.Disk.is_usable self.old.disk) }
         requires durable { Only (D.Disk.seen self.old.disk) (D.Disk.may_leave self.old.disk) }
         requires read { IsTrue (D.Disk.is_clean self.old.disk) → (lines : List (List ℕ)) × HasReadLines (D.Disk.seen self.old.disk) self.old lines }
@@ -147,7 +156,7 @@ impl<D: Disk> LogReader<D> {
         ensures len { OnOk result (length (D.Disk.seen self.new.disk) ≡ self.old.at + 1) }
         ensures same { OnOk result (IsTrue (D.Disk.is_clean self.new.disk) → lines_in (D.Disk.seen self.new.disk) ≡ lines_in (D.Disk.seen self.old.disk)) }
         ensures all { OnOk result (IsTrue (D.Disk.is_clean self.new.disk) → lines_in (drop self.old.at (D.Disk.seen self.old.disk)) ≡ []) }
-        ensures any_moment { IsTrue (D.Disk.is_clean self.new.disk) → (c : List ℕ) → D.Disk.may_leave self.new.disk c → lines_in c ≡ lines_in (D.Disk.seen self.old.disk) }
+        ensures any_moment { IsTrue (D.Disk.is_clean self.new.disk) → (c : List ℕ) → D.Disk.may_leave self.new.disk c → KeepsLines D.Disk.is_mixing (D.Disk.seen self.old.disk) c }
     {
         self.look_past(alloc)?;
         let end = self.at;
@@ -156,7 +165,8 @@ impl<D: Disk> LogReader<D> {
         }
         let is_open = self.begins_line();
         shut_tail(&mut self.disk, end, is_open)?;
-        cut_tail(&mut self.disk, end)
+        cut_tail(&mut self.disk, end)?;
+        Ok(())
     }
 
     /// Looks whether a line is left to read, which is an error.
@@ -167,6 +177,7 @@ impl<D: Disk> LogReader<D> {
         ensures seen { D.Disk.seen self.new.disk ≡ D.Disk.seen self.old.disk }
         ensures crash { (c : List ℕ) → D.Disk.may_leave self.new.disk c → D.Disk.may_leave self.old.disk c }
         ensures at { self.new.at ≡ self.old.at }
+        ensures count { self.new.count ≡ self.old.count }
         ensures hasher { self.new.hasher ≡ self.old.hasher }
         ensures part { IsTrue (D.Disk.is_clean self.new.disk) → IsPartOf (D.Disk.seen self.old.disk) self.old → IsPartOf (D.Disk.seen self.old.disk) self.new }
         ensures none { OnOk result (IsTrue (D.Disk.is_clean self.new.disk) → IsPartOf (D.Disk.seen self.old.disk) self.old → lines_in (drop self.old.at (D.Disk.seen self.old.disk)) ≡ []) }
@@ -185,22 +196,38 @@ impl<D: Disk> LogReader<D> {
         requires line { BeginsAs (held_by self.old) (Whole len) }
         ensures disk { self.new.disk ≡ self.old.disk }
         ensures taken { OnOk result ((lines : List (List ℕ)) → (file : List ℕ) → HasReadLines file self.old lines → HasReadLines file self.new (lines ++ line.new.items ∷ [])) }
+        ensures justified { IfErr result (λ e. (mixes : Bool) → (lines : List (List ℕ)) → (file : List ℕ) → HasReadLines file self.old lines → JustifiesError mixes file lines e) }
     {
         let (_, held) = self.block.split_at(self.from);
         let (found, _) = held.split_at(len);
-        take_line(&mut self.hasher, found, line)?;
+        let is_right = take_line(&mut self.hasher, found, line)?;
+        if !is_right {
+            return Err(LogError::Damaged(self.count + 1));
+        }
         self.from += len + 1;
         self.at += len + 1;
+        self.count += 1;
         Ok(())
     }
 
-    /// Returns whether a crash may have left the byte that follows a beginning of this length: a blank, and where a torn write
-    /// may leave any byte, any at the gate. The same holds for a last byte, with which a file was made longer.
+    /// Returns whether a crash may have left the byte that follows a front of this length: a blank, and where a torn write may
+    /// leave any byte, any in the place of its `{`. The same holds for a last byte, with which a file was made longer.
     fn is_torn(&self, len: usize) -> bool
         requires { len < length (held_by self.now) }
+        ensures torn { IsTrue result → IsTornAt (D.Disk.is_mixing self.now.disk) len (self.now.len - self.now.at) (slice_index self.now.block.items (self.now.from + len)) }
+        ensures other { result ≡ false → IsTornAt (D.Disk.is_mixing self.now.disk) len (self.now.len - self.now.at) (slice_index self.now.block.items (self.now.from + len)) → ⊥ }
     {
         let byte = self.block[self.from + len];
-        byte == b'\r' || len == 0 && (!self.disk.mixes() || self.len - self.at == 1)
+        if byte == b'\r' {
+            return true;
+        }
+        if len > 0 {
+            return false;
+        }
+        if !self.disk.mixes() {
+            return true;
+        }
+        self.len - self.at == 1
     }
 
     /// Returns whether the next byte begins a line.
@@ -218,9 +245,11 @@ impl<D: Disk> LogReader<D> {
         ensures seen { D.Disk.seen self.new.disk ≡ D.Disk.seen self.old.disk }
         ensures crash { (c : List ℕ) → D.Disk.may_leave self.new.disk c → D.Disk.may_leave self.old.disk c }
         ensures at { self.new.at ≡ self.old.at }
+        ensures count { self.new.count ≡ self.old.count }
         ensures hasher { self.new.hasher ≡ self.old.hasher }
         ensures part { IsTrue (D.Disk.is_clean self.new.disk) → IsPartOf (D.Disk.seen self.old.disk) self.old → IsPartOf (D.Disk.seen self.old.disk) self.new }
         ensures tells { IfOk result (λ found. Tells self.new found) }
+        ensures fault { IfErr result (λ e. IsTrue (D.Disk.is_clean self.new.disk) → IsPartOf (D.Disk.seen self.old.disk) self.old → IsLookFault (D.Disk.seen self.old.disk) self.old e) }
     {
         if let Some(found) = self.tell() {
             return Ok(found);
@@ -232,13 +261,14 @@ impl<D: Disk> LogReader<D> {
         self.fill(alloc, LONGEST)?;
         match self.tell() {
             Some(found) => Ok(found),
-            None => Err(LogError::TooLong),
+            None => Err(LogError::LineTooLong(self.count + 1)),
         }
     }
 
     /// Returns what the unread bytes begin with, if those in memory tell.
     fn tell(&self) -> Option<FirstLine>
-        ensures { IfSome result (λ found. Tells self.now found) }
+        ensures tells { IfSome result (λ found. Tells self.now found) }
+        ensures more { IfNone result (IsLineFront (held_by self.now) × (length (held_by self.now) < self.now.len - self.now.at)) }
     {
         let (_, held) = self.block.split_at(self.from);
         let found = first_line(held);
@@ -256,8 +286,12 @@ impl<D: Disk> LogReader<D> {
         ensures seen { D.Disk.seen self.new.disk ≡ D.Disk.seen self.old.disk }
         ensures crash { (c : List ℕ) → D.Disk.may_leave self.new.disk c → D.Disk.may_leave self.old.disk c }
         ensures at { self.new.at ≡ self.old.at }
+        ensures count { self.new.count ≡ self.old.count }
         ensures hasher { self.new.hasher ≡ self.old.hasher }
         ensures part { IsTrue (D.Disk.is_clean self.new.disk) → IsPartOf (D.Disk.seen self.old.disk) self.old → IsPartOf (D.Disk.seen self.old.disk) self.new }
+        ensures len { self.new.len ≡ self.old.len }
+        ensures size { OnOk result (length (held_by self.new) ≡ min size (self.old.len - self.old.at)) }
+        ensures outside { IfErr result (λ e. IsOutside e) }
     {
         let size = size.min(self.len - self.at);
         let block = read_block(alloc, &mut self.disk, self.at, size)?;

@@ -3,7 +3,7 @@
 ghost use Rattle.std.specs.Prelude.{◌≡◌, ◌+◌, ◌<◌, ◌≤◌, ◌^◌, ℕ, Bool, false, List, length, slice_index, IsTrue, OnOk};
 ghost use Rattle.sqlite_disk.specs.Disk.{Only};
 ghost use Rattle.line_log.specs.Lines.{lines_in, text_of};
-ghost use Rattle.line_log.specs.Log.{BeginsWith, IsAtRest, IsShutAt};
+ghost use Rattle.line_log.specs.Log.{BeginsWith, IsAtRest, KeepsLines, IsShutAt};
 
 use crate::error::LogError;
 use sqlite_disk::Disk;
@@ -12,17 +12,18 @@ use sqlite_disk::Disk;
 /// follows them.
 pub(crate) fn shut_tail<D: Disk>(disk: &mut D, end: usize, is_open: bool) -> Result<(), LogError>
     requires usable { IsTrue (D.Disk.is_usable disk.old) }
+    requires short { end ≤ 2 ^ 60 }
     requires durable { Only (D.Disk.seen disk.old) (D.Disk.may_leave disk.old) }
     requires end { IsTrue (D.Disk.is_clean disk.old) → end ≡ length (text_of (lines_in (D.Disk.seen disk.old))) }
     requires within { IsTrue (D.Disk.is_clean disk.old) → IsTrue is_open → end < length (D.Disk.seen disk.old) }
-    requires gate { IsTrue (D.Disk.is_clean disk.old) → IsTrue is_open → slice_index (D.Disk.seen disk.old) end ≡ 123 }
+    requires brace { IsTrue (D.Disk.is_clean disk.old) → IsTrue is_open → slice_index (D.Disk.seen disk.old) end ≡ 123 }
     requires shut { IsTrue (D.Disk.is_clean disk.old) → is_open ≡ false → IsShutAt (D.Disk.seen disk.old) end }
     ensures usable { OnOk result (IsTrue (D.Disk.is_usable disk.new)) }
     ensures clean { D.Disk.is_clean disk.new ≡ D.Disk.is_clean disk.old }
     ensures durable { OnOk result (Only (D.Disk.seen disk.new) (D.Disk.may_leave disk.new)) }
     ensures front { OnOk result (IsTrue (D.Disk.is_clean disk.old) → BeginsWith (D.Disk.seen disk.new) (lines_in (D.Disk.seen disk.old)) end) }
     ensures shut { OnOk result (IsTrue (D.Disk.is_clean disk.old) → IsShutAt (D.Disk.seen disk.new) end) }
-    ensures any_moment { IsTrue (D.Disk.is_clean disk.old) → (c : List ℕ) → D.Disk.may_leave disk.new c → lines_in c ≡ lines_in (D.Disk.seen disk.old) }
+    ensures any_moment { IsTrue (D.Disk.is_clean disk.old) → (c : List ℕ) → D.Disk.may_leave disk.new c → KeepsLines D.Disk.is_mixing (D.Disk.seen disk.old) c }
 {
     if is_open {
         disk.write_at(end, b"\r")?;
@@ -44,7 +45,7 @@ pub(crate) fn cut_tail<D: Disk>(disk: &mut D, end: usize) -> Result<(), LogError
     ensures rest { OnOk result (IsTrue (D.Disk.is_clean disk.old) → IsAtRest (D.Disk.seen disk.new) end) }
     ensures len { OnOk result (length (D.Disk.seen disk.new) ≡ end + 1) }
     ensures same { OnOk result (IsTrue (D.Disk.is_clean disk.old) → lines_in (D.Disk.seen disk.new) ≡ lines_in (D.Disk.seen disk.old)) }
-    ensures any_moment { IsTrue (D.Disk.is_clean disk.old) → (c : List ℕ) → D.Disk.may_leave disk.new c → lines_in c ≡ lines_in (D.Disk.seen disk.old) }
+    ensures any_moment { IsTrue (D.Disk.is_clean disk.old) → (c : List ℕ) → D.Disk.may_leave disk.new c → KeepsLines D.Disk.is_mixing (D.Disk.seen disk.old) c }
 {
     disk.set_len(end + 1)?;
     disk.sync()?;

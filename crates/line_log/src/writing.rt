@@ -1,8 +1,9 @@
 //! How are lines added to a log file, so that a crash leaves whole lines?
 
-ghost use Rattle.std.specs.Prelude.{◌≡◌, ◌+◌, ◌<◌, ◌≤◌, ◌^◌, ◌++◌, ℕ, List, length, replicate, IsTrue, IfOk, OnOk};
-ghost use Rattle.line_log.specs.Lines.{IsBetween, IsText, lines_in};
-ghost use Rattle.line_log.specs.Log.{IsSettled};
+ghost use Rattle.std.specs.Prelude.{◌≡◌, ◌+◌, ◌<◌, ◌≤◌, ◌^◌, ◌++◌, ℕ, Bool, true, false, List, length, replicate, IsTrue, IfOk, OnOk};
+ghost use Rattle.line_log.specs.Lines.{IsText, lines_in};
+ghost use Rattle.line_log.specs.Log.{IsCrashed, IsSynced, MixesIf};
+ghost use Rattle.line_log.specs.Tails.{MayEnd, tail_in};
 
 use crate::error::LogError;
 use crate::file::{LineFile, MOST};
@@ -24,14 +25,14 @@ impl<D: Disk> LineFile<D> {
     /// leaves the lines from before it and some of the new ones, in order. At `Err` open the file again.
     pub(crate) fn append(&mut self, alloc: Global, text: &[u8]) -> Result<(), LogError>
         requires usable { IsTrue (D.Disk.is_usable self.old.disk) }
-        requires settled { IsTrue (D.Disk.is_clean self.old.disk) → IsSettled D.Disk.seen D.Disk.may_leave self.old }
+        requires synced { IsTrue (D.Disk.is_clean self.old.disk) → IsSynced D.Disk.seen D.Disk.may_leave self.old }
         requires text { IsText text.now }
         ensures clean { D.Disk.is_clean self.new.disk ≡ D.Disk.is_clean self.old.disk }
         ensures usable { OnOk result (IsTrue (D.Disk.is_usable self.new.disk)) }
-        ensures settled { OnOk result (IsTrue (D.Disk.is_clean self.old.disk) → IsSettled D.Disk.seen D.Disk.may_leave self.new) }
+        ensures synced { OnOk result (IsTrue (D.Disk.is_clean self.old.disk) → IsSynced D.Disk.seen D.Disk.may_leave self.new) }
         ensures added { OnOk result (IsTrue (D.Disk.is_clean self.old.disk) → lines_in (D.Disk.seen self.new.disk) ≡ lines_in (D.Disk.seen self.old.disk) ++ lines_in text.now) }
-        ensures any_moment { IsTrue (D.Disk.is_clean self.old.disk) → (c : List ℕ) → D.Disk.may_leave self.new.disk c
-            → IsBetween (lines_in (D.Disk.seen self.old.disk)) (lines_in (D.Disk.seen self.old.disk) ++ lines_in text.now) (lines_in c) }
+        ensures any_moment { IsTrue (D.Disk.is_clean self.old.disk) → (mixes : Bool) → MixesIf D.Disk.is_mixing mixes → (c : List ℕ) → D.Disk.may_leave self.new.disk c
+            → IsCrashed mixes (lines_in (D.Disk.seen self.old.disk)) (lines_in (D.Disk.seen self.old.disk) ++ lines_in text.now) c }
     {
         self.make_room(alloc, text.len())?;
         self.write(text)
@@ -40,13 +41,14 @@ impl<D: Disk> LineFile<D> {
     /// Makes room for this many bytes, and a blank behind them.
     fn make_room(&mut self, alloc: Global, count: usize) -> Result<(), LogError>
         requires usable { IsTrue (D.Disk.is_usable self.old.disk) }
-        requires settled { IsTrue (D.Disk.is_clean self.old.disk) → IsSettled D.Disk.seen D.Disk.may_leave self.old }
+        requires synced { IsTrue (D.Disk.is_clean self.old.disk) → IsSynced D.Disk.seen D.Disk.may_leave self.old }
         ensures clean { D.Disk.is_clean self.new.disk ≡ D.Disk.is_clean self.old.disk }
         ensures usable { OnOk result (IsTrue (D.Disk.is_usable self.new.disk)) }
         ensures room { OnOk result (self.new.end + count < self.new.len) }
-        ensures settled { OnOk result (IsTrue (D.Disk.is_clean self.old.disk) → IsSettled D.Disk.seen D.Disk.may_leave self.new) }
+        ensures synced { OnOk result (IsTrue (D.Disk.is_clean self.old.disk) → IsSynced D.Disk.seen D.Disk.may_leave self.new) }
         ensures same { OnOk result (IsTrue (D.Disk.is_clean self.old.disk) → lines_in (D.Disk.seen self.new.disk) ≡ lines_in (D.Disk.seen self.old.disk)) }
-        ensures any_moment { IsTrue (D.Disk.is_clean self.old.disk) → (c : List ℕ) → D.Disk.may_leave self.new.disk c → lines_in c ≡ lines_in (D.Disk.seen self.old.disk) }
+        ensures any_moment { IsTrue (D.Disk.is_clean self.old.disk) → (c : List ℕ) → D.Disk.may_leave self.new.disk c
+            → (lines_in c ≡ lines_in (D.Disk.seen self.old.disk)) × MayEnd true (tail_in c) }
     {
         if count < self.len - self.end {
             return Ok(());
@@ -64,15 +66,15 @@ impl<D: Disk> LineFile<D> {
     /// Writes lines over blanks, and syncs.
     fn write(&mut self, text: &[u8]) -> Result<(), LogError>
         requires usable { IsTrue (D.Disk.is_usable self.old.disk) }
-        requires settled { IsTrue (D.Disk.is_clean self.old.disk) → IsSettled D.Disk.seen D.Disk.may_leave self.old }
+        requires synced { IsTrue (D.Disk.is_clean self.old.disk) → IsSynced D.Disk.seen D.Disk.may_leave self.old }
         requires text { IsText text.now }
         requires room { self.old.end + length text.now < self.old.len }
         ensures clean { D.Disk.is_clean self.new.disk ≡ D.Disk.is_clean self.old.disk }
         ensures usable { OnOk result (IsTrue (D.Disk.is_usable self.new.disk)) }
-        ensures settled { OnOk result (IsTrue (D.Disk.is_clean self.old.disk) → IsSettled D.Disk.seen D.Disk.may_leave self.new) }
+        ensures synced { OnOk result (IsTrue (D.Disk.is_clean self.old.disk) → IsSynced D.Disk.seen D.Disk.may_leave self.new) }
         ensures added { OnOk result (IsTrue (D.Disk.is_clean self.old.disk) → lines_in (D.Disk.seen self.new.disk) ≡ lines_in (D.Disk.seen self.old.disk) ++ lines_in text.now) }
-        ensures any_moment { IsTrue (D.Disk.is_clean self.old.disk) → (c : List ℕ) → D.Disk.may_leave self.new.disk c
-            → IsBetween (lines_in (D.Disk.seen self.old.disk)) (lines_in (D.Disk.seen self.old.disk) ++ lines_in text.now) (lines_in c) }
+        ensures any_moment { IsTrue (D.Disk.is_clean self.old.disk) → (mixes : Bool) → MixesIf D.Disk.is_mixing mixes → (c : List ℕ) → D.Disk.may_leave self.new.disk c
+            → IsCrashed mixes (lines_in (D.Disk.seen self.old.disk)) (lines_in (D.Disk.seen self.old.disk) ++ lines_in text.now) c }
     {
         if text.is_empty() {
             return Ok(());
@@ -80,24 +82,24 @@ impl<D: Disk> LineFile<D> {
         if self.disk.mixes() {
             self.write_at_once(text)
         } else {
-            self.write_gated(text)
+            self.write_brace_last(text)
         }
     }
 
     /// Writes lines with one sync. A torn write must leave each byte blank or new.
     fn write_at_once(&mut self, text: &[u8]) -> Result<(), LogError>
         requires usable { IsTrue (D.Disk.is_usable self.old.disk) }
-        requires settled { IsTrue (D.Disk.is_clean self.old.disk) → IsSettled D.Disk.seen D.Disk.may_leave self.old }
+        requires synced { IsTrue (D.Disk.is_clean self.old.disk) → IsSynced D.Disk.seen D.Disk.may_leave self.old }
         requires text { IsText text.now }
         requires some { 0 < length text.now }
         requires room { self.old.end + length text.now < self.old.len }
         requires mixing { IsTrue (D.Disk.is_mixing self.old.disk) }
         ensures clean { D.Disk.is_clean self.new.disk ≡ D.Disk.is_clean self.old.disk }
         ensures usable { OnOk result (IsTrue (D.Disk.is_usable self.new.disk)) }
-        ensures settled { OnOk result (IsTrue (D.Disk.is_clean self.old.disk) → IsSettled D.Disk.seen D.Disk.may_leave self.new) }
+        ensures synced { OnOk result (IsTrue (D.Disk.is_clean self.old.disk) → IsSynced D.Disk.seen D.Disk.may_leave self.new) }
         ensures added { OnOk result (IsTrue (D.Disk.is_clean self.old.disk) → lines_in (D.Disk.seen self.new.disk) ≡ lines_in (D.Disk.seen self.old.disk) ++ lines_in text.now) }
         ensures any_moment { IsTrue (D.Disk.is_clean self.old.disk) → (c : List ℕ) → D.Disk.may_leave self.new.disk c
-            → IsBetween (lines_in (D.Disk.seen self.old.disk)) (lines_in (D.Disk.seen self.old.disk) ++ lines_in text.now) (lines_in c) }
+            → IsCrashed true (lines_in (D.Disk.seen self.old.disk)) (lines_in (D.Disk.seen self.old.disk) ++ lines_in text.now) c }
     {
         self.disk.write_at(self.end, text)?;
         self.disk.sync()?;
@@ -106,18 +108,18 @@ impl<D: Disk> LineFile<D> {
     }
 
     /// Writes lines with two syncs: all but the first byte, and then that byte, without which none of them counts.
-    fn write_gated(&mut self, text: &[u8]) -> Result<(), LogError>
+    fn write_brace_last(&mut self, text: &[u8]) -> Result<(), LogError>
         requires usable { IsTrue (D.Disk.is_usable self.old.disk) }
-        requires settled { IsTrue (D.Disk.is_clean self.old.disk) → IsSettled D.Disk.seen D.Disk.may_leave self.old }
+        requires synced { IsTrue (D.Disk.is_clean self.old.disk) → IsSynced D.Disk.seen D.Disk.may_leave self.old }
         requires text { IsText text.now }
         requires some { 0 < length text.now }
         requires room { self.old.end + length text.now < self.old.len }
         ensures clean { D.Disk.is_clean self.new.disk ≡ D.Disk.is_clean self.old.disk }
         ensures usable { OnOk result (IsTrue (D.Disk.is_usable self.new.disk)) }
-        ensures settled { OnOk result (IsTrue (D.Disk.is_clean self.old.disk) → IsSettled D.Disk.seen D.Disk.may_leave self.new) }
+        ensures synced { OnOk result (IsTrue (D.Disk.is_clean self.old.disk) → IsSynced D.Disk.seen D.Disk.may_leave self.new) }
         ensures added { OnOk result (IsTrue (D.Disk.is_clean self.old.disk) → lines_in (D.Disk.seen self.new.disk) ≡ lines_in (D.Disk.seen self.old.disk) ++ lines_in text.now) }
         ensures any_moment { IsTrue (D.Disk.is_clean self.old.disk) → (c : List ℕ) → D.Disk.may_leave self.new.disk c
-            → IsBetween (lines_in (D.Disk.seen self.old.disk)) (lines_in (D.Disk.seen self.old.disk) ++ lines_in text.now) (lines_in c) }
+            → IsCrashed false (lines_in (D.Disk.seen self.old.disk)) (lines_in (D.Disk.seen self.old.disk) ++ lines_in text.now) c }
     {
         self.disk.write_at(self.end + 1, &text[1..])?;
         self.disk.sync()?;

@@ -1,5 +1,5 @@
 use Rattle.std.proofs.Common.{take}
-use Rattle.line_log.specs.ReadingPrivate.{IsLineFront}
+use Rattle.line_log.specs.Lines.{IsLineFront}
 use Rattle.line_log.proofs.first_line.first_line.Given as goal
 
 abbrev pub invariant-bytes : goal.invariant-bytes

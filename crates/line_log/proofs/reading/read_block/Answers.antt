@@ -1,8 +1,12 @@
-use Rattle.std.proofs.Common.{rules, ◌≡◌, ◌+◌, ◌<◌, ℕ, List, length, arith, sym, ◌∙◌, ap, subst}
+use Rattle.std.proofs.Common.{rules, ◌≡◌, ◌+◌, ◌<◌, ◌++◌, ℕ, List, length, drop, arith, sym, ◌∙◌, ap}
+use Rattle.std.proofs.lemmas.List.{take_at}
 use Rattle.std.specs.Prelude.{slice_index}
 use Rattle.line_log.proofs.reading.read_block.Goals as goal
 
 pub returns-clause-bytes : goal.returns-clause-bytes
 returns-clause-bytes g c clean i low =
     let held = c.in_ok-read_at.ensures.read clean (search rules) in
-    held.each i (search rules)
+    let new = c.read_at.new.buf in
+    let block = c.in_ok-block.block in
+    let long : length new ≡ block.len = search rules in
+    held.each i (search rules) ∙ ap (λ (l : List ℕ). slice_index l i) (sym (take_at new (drop (length new) block.items) block.len long))

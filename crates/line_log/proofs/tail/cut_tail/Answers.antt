@@ -2,20 +2,20 @@ use Rattle.std.proofs.Common.{◌≡◌, ◌+◌, ◌<◌, List, [], ◌∷◌, 
 use Rattle.std.specs.Prelude.{slice_index}
 use Rattle.sqlite_disk.specs.Disk.{Holds, Torn, Cut}
 use Rattle.line_log.specs.Lines.{lines_in}
-use Rattle.line_log.proofs.RecoverLemmas.{cut_same, blank_last, blank_rest}
+use Rattle.line_log.proofs.RecoverLemmas.{kept_cut, kept_last, blank_last, blank_rest}
 use Rattle.line_log.proofs.tail.cut_tail.Goals as goal
 
 pub returns-in_err-set_len-clause-any_moment : goal.returns-in_err-set_len-clause-any_moment
 returns-in_err-set_len-clause-any_moment g c clean left may =
     let f = g.D.Disk.seen c.args.disk.now in
     let (before, was, cut) = c.set_len.ensures.crash left may in
-    cut_same f c.args.end (c.requires.front clean) left (c.requires.shut clean) (subst (λ (d : List ℕ). Cut (c.args.end + 1) d left) (c.requires.durable before was) cut)
+    kept_cut f c.args.end (c.requires.front clean) g.D.Disk.is_mixing left (c.requires.shut clean) (subst (λ (d : List ℕ). Cut (c.args.end + 1) d left) (c.requires.durable before was) cut)
 
 pub returns-in_err-sync-clause-any_moment : goal.returns-in_err-sync-clause-any_moment
 returns-in_err-sync-clause-any_moment g c clean left may =
     let f = g.D.Disk.seen c.args.disk.now in
     let (before, was, cut) = c.set_len.ensures.crash left (c.sync.ensures.crash left may) in
-    cut_same f c.args.end (c.requires.front clean) left (c.requires.shut clean) (subst (λ (d : List ℕ). Cut (c.args.end + 1) d left) (c.requires.durable before was) cut)
+    kept_cut f c.args.end (c.requires.front clean) g.D.Disk.is_mixing left (c.requires.shut clean) (subst (λ (d : List ℕ). Cut (c.args.end + 1) d left) (c.requires.durable before was) cut)
 
 pub returns-in_err-write_at-clause-any_moment : goal.returns-in_err-write_at-clause-any_moment
 returns-in_err-write_at-clause-any_moment g c clean left may =
@@ -23,7 +23,7 @@ returns-in_err-write_at-clause-any_moment g c clean left may =
     let m = g.D.Disk.seen c.set_len.new.self in
     let front = c.requires.front clean in
     let (before, was, torn) = c.write_at.ensures.crash left may in
-    blank_last f m left c.args.end front c.in_ok-set_len.ensures.len (λ i low. c.set_len.ensures.others.below i (omega (arith, front.within)) (omega arith))
+    kept_last g.D.Disk.is_mixing f m left c.args.end front c.in_ok-set_len.ensures.len (λ i low. c.set_len.ensures.others.below i (omega (arith, front.within)) (omega arith))
         (subst (λ (d : List ℕ). Torn c.args.end 1 d left) (c.in_ok-sync.ensures.durable before was) torn)
 
 pub returns-in_err-sync-2-clause-any_moment : goal.returns-in_err-sync-2-clause-any_moment
@@ -32,7 +32,7 @@ returns-in_err-sync-2-clause-any_moment g c clean left may =
     let m = g.D.Disk.seen c.set_len.new.self in
     let front = c.requires.front clean in
     let (before, was, torn) = c.write_at.ensures.crash left (c.sync-2.ensures.crash left may) in
-    blank_last f m left c.args.end front c.in_ok-set_len.ensures.len (λ i low. c.set_len.ensures.others.below i (omega (arith, front.within)) (omega arith))
+    kept_last g.D.Disk.is_mixing f m left c.args.end front c.in_ok-set_len.ensures.len (λ i low. c.set_len.ensures.others.below i (omega (arith, front.within)) (omega arith))
         (subst (λ (d : List ℕ). Torn c.args.end 1 d left) (c.in_ok-sync.ensures.durable before was) torn)
 
 pub returns-clause-any_moment : goal.returns-clause-any_moment
@@ -41,7 +41,7 @@ returns-clause-any_moment g c clean left may =
     let m = g.D.Disk.seen c.set_len.new.self in
     let front = c.requires.front clean in
     let (before, was, torn) = c.write_at.ensures.crash left (c.sync-2.ensures.crash left may) in
-    blank_last f m left c.args.end front c.in_ok-set_len.ensures.len (λ i low. c.set_len.ensures.others.below i (omega (arith, front.within)) (omega arith))
+    kept_last g.D.Disk.is_mixing f m left c.args.end front c.in_ok-set_len.ensures.len (λ i low. c.set_len.ensures.others.below i (omega (arith, front.within)) (omega arith))
         (subst (λ (d : List ℕ). Torn c.args.end 1 d left) (c.in_ok-sync.ensures.durable before was) torn)
 
 pub returns-clause-rest : goal.returns-clause-rest

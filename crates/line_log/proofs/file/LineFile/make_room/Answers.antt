@@ -2,39 +2,39 @@ use Rattle.std.proofs.Common.{rules, ◌≡◌, ◌<◌, ◌+◌, ℕ, List, len
 use Rattle.std.specs.Prelude.{slice_index}
 use Rattle.std.proofs.lemmas.List.{get_or-replicate, length-replicate}
 use Rattle.sqlite_disk.specs.Disk.{Torn, Holds}
-use Rattle.line_log.proofs.StepLemmas.{torn_behind, rest_with_room}
+use Rattle.line_log.proofs.StepLemmas.{at_rest, torn_behind, rest_with_room}
 use Rattle.line_log.proofs.file.LineFile.make_room.Goals as goal
 
 pub returns-in_err-write_at-clause-any_moment : goal.returns-in_err-write_at-clause-any_moment
 returns-in_err-write_at-clause-any_moment g c clean left may =
-    let s = c.requires.settled clean in
+    let s = c.requires.synced clean in
     let f = g.D.Disk.seen c.args.self.now.disk in
     let (before, was, torn) = c.write_at.ensures.crash left may in
     torn_behind f c.args.self.now.end s.rest c.args.self.now.len _ left c.args.self.now.room (omega (arith, c.args.self.now.room, s.len)) (rw (s.durable before was) at torn)
 
 pub returns-in_err-sync-clause-any_moment : goal.returns-in_err-sync-clause-any_moment
 returns-in_err-sync-clause-any_moment g c clean left may =
-    let s = c.requires.settled clean in
+    let s = c.requires.synced clean in
     let f = g.D.Disk.seen c.args.self.now.disk in
     let (before, was, torn) = c.write_at.ensures.crash left (c.sync.ensures.crash left may) in
     torn_behind f c.args.self.now.end s.rest c.args.self.now.len _ left c.args.self.now.room (omega (arith, c.args.self.now.room, s.len)) (rw (s.durable before was) at torn)
 
 pub returns-clause-any_moment : goal.returns-clause-any_moment
 returns-clause-any_moment g c clean left may =
-    let s = c.requires.settled clean in
+    let s = c.requires.synced clean in
     let f = g.D.Disk.seen c.args.self.now.disk in
     let (before, was, torn) = c.write_at.ensures.crash left (c.sync.ensures.crash left may) in
     torn_behind f c.args.self.now.end s.rest c.args.self.now.len _ left c.args.self.now.room (omega (arith, c.args.self.now.room, s.len)) (rw (s.durable before was) at torn)
 
 pub returns-clause-same : goal.returns-clause-same
 returns-clause-same g c clean =
-    let s = c.requires.settled clean in
+    let s = c.requires.synced clean in
     let f = g.D.Disk.seen c.args.self.now.disk in
-    rw c.sync.ensures.seen (torn_behind f c.args.self.now.end s.rest c.args.self.now.len _ (g.D.Disk.seen c.write_at.new.self) c.args.self.now.room (omega (arith, c.args.self.now.room, s.len)) c.write_at.ensures.others)
+    rw c.sync.ensures.seen ((torn_behind f c.args.self.now.end s.rest c.args.self.now.len _ (g.D.Disk.seen c.write_at.new.self) c.args.self.now.room (omega (arith, c.args.self.now.room, s.len)) c.write_at.ensures.others).0)
 
-pub returns-clause-settled : goal.returns-clause-settled
-returns-clause-settled g c clean =
-    let s = c.requires.settled clean in
+pub returns-clause-synced : goal.returns-clause-synced
+returns-clause-synced g c clean =
+    let s = c.requires.synced clean in
     let f = g.D.Disk.seen c.args.self.now.disk in
     let n = g.D.Disk.seen c.write_at.new.self in
     let b = c.deref.result.now in
@@ -49,3 +49,18 @@ returns-clause-settled g c clean =
       len = rw c.sync.ensures.seen (omega (arith, s.len, done.1, c.len.ensures, ap length c.deref.ensures.value));
       durable = rw c.sync.ensures.seen (c.in_ok-sync.ensures.durable);
     }
+
+pub returns-then-count-self-clause-any_moment : goal.returns-then-count-self-clause-any_moment
+returns-then-count-self-clause-any_moment g c clean left may =
+    let s = c.requires.synced clean in
+    at_rest (g.D.Disk.seen c.args.self.now.disk) c.args.self.now.end s.rest left (omega (arith, c.args.self.now.room, s.len)) (s.durable left may)
+
+pub returns-then-count-gt-MOST-clause-any_moment : goal.returns-then-count-gt-MOST-clause-any_moment
+returns-then-count-gt-MOST-clause-any_moment g c clean left may =
+    let s = c.requires.synced clean in
+    at_rest (g.D.Disk.seen c.args.self.now.disk) c.args.self.now.end s.rest left (omega (arith, c.args.self.now.room, s.len)) (s.durable left may)
+
+pub returns-in_err-blanks-clause-any_moment : goal.returns-in_err-blanks-clause-any_moment
+returns-in_err-blanks-clause-any_moment g c clean left may =
+    let s = c.requires.synced clean in
+    at_rest (g.D.Disk.seen c.args.self.now.disk) c.args.self.now.end s.rest left (omega (arith, c.args.self.now.room, s.len)) (s.durable left may)

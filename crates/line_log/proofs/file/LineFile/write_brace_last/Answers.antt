@@ -1,12 +1,10 @@
-use Rattle.std.proofs.Common.{rules, ◌≡◌, ◌<◌, ◌+◌, ◌-◌, ℕ, List, length, take, arith, sym, ◌∙◌, ap, subst, length-take}
+use Rattle.std.proofs.Common.{rules, ◌≡◌, false, ◌<◌, ◌+◌, ◌-◌, ℕ, List, length, take, arith, sym, ◌∙◌, ap, subst, length-take}
 use Rattle.std.specs.Prelude.{slice_index, slice_range}
 use Rattle.std.proofs.lemmas.List.{places, get_or-take}
 use Rattle.sqlite_disk.specs.Disk.{Torn, Holds}
 use Rattle.line_log.specs.Lines.{lines_in}
-use Rattle.line_log.proofs.LineLemmas.{lines_are}
-use Rattle.line_log.proofs.CrashLemmas.{between_old}
-use Rattle.line_log.proofs.StepLemmas.{torn_behind, gate_between, gate_rest}
-use Rattle.line_log.proofs.file.LineFile.write_gated.Goals as goal
+use Rattle.line_log.proofs.StepLemmas.{none_new, torn_behind, gate_between, gate_rest}
+use Rattle.line_log.proofs.file.LineFile.write_brace_last.Goals as goal
 
 shorter : (g : List ℕ) → 0 < length g → length g ≡ length (slice_range g 1 (length g)) + 1
 shorter g some =
@@ -24,27 +22,25 @@ one g some = omega (arith, length-take 1 g)
 
 pub returns-in_err-write_at-clause-any_moment : goal.returns-in_err-write_at-clause-any_moment
 returns-in_err-write_at-clause-any_moment g c clean left may =
-    let s = c.requires.settled clean in
+    let s = c.requires.synced clean in
     let f = g.D.Disk.seen c.args.self.now.disk in
     let end = c.args.self.now.end in
     let t = c.args.text.now in
     let (before, was, torn) = c.write_at.ensures.crash left may in
-    between_old (lines_in f) (lines_are f) end s.rest.end_is (lines_in t) (lines_are t) t c.requires.text left
-        (torn_behind f end s.rest (end + 1) _ left (omega arith) (omega (arith, c.requires.room, s.len)) (rw (s.durable before was) at torn))
+    none_new false (lines_in f) (lines_in t) left (torn_behind f end s.rest (end + 1) _ left (omega arith) (omega (arith, c.requires.room, s.len)) (rw (s.durable before was) at torn))
 
 pub returns-in_err-sync-clause-any_moment : goal.returns-in_err-sync-clause-any_moment
 returns-in_err-sync-clause-any_moment g c clean left may =
-    let s = c.requires.settled clean in
+    let s = c.requires.synced clean in
     let f = g.D.Disk.seen c.args.self.now.disk in
     let end = c.args.self.now.end in
     let t = c.args.text.now in
     let (before, was, torn) = c.write_at.ensures.crash left (c.sync.ensures.crash left may) in
-    between_old (lines_in f) (lines_are f) end s.rest.end_is (lines_in t) (lines_are t) t c.requires.text left
-        (torn_behind f end s.rest (end + 1) _ left (omega arith) (omega (arith, c.requires.room, s.len)) (rw (s.durable before was) at torn))
+    none_new false (lines_in f) (lines_in t) left (torn_behind f end s.rest (end + 1) _ left (omega arith) (omega (arith, c.requires.room, s.len)) (rw (s.durable before was) at torn))
 
 pub returns-in_err-write_at-2-clause-any_moment : goal.returns-in_err-write_at-2-clause-any_moment
 returns-in_err-write_at-2-clause-any_moment g c clean left may =
-    let s = c.requires.settled clean in
+    let s = c.requires.synced clean in
     let f = g.D.Disk.seen c.args.self.now.disk in
     let end = c.args.self.now.end in
     let t = c.args.text.now in
@@ -55,7 +51,7 @@ returns-in_err-write_at-2-clause-any_moment g c clean left may =
 
 pub returns-in_err-sync-2-clause-any_moment : goal.returns-in_err-sync-2-clause-any_moment
 returns-in_err-sync-2-clause-any_moment g c clean left may =
-    let s = c.requires.settled clean in
+    let s = c.requires.synced clean in
     let f = g.D.Disk.seen c.args.self.now.disk in
     let end = c.args.self.now.end in
     let t = c.args.text.now in
@@ -66,7 +62,7 @@ returns-in_err-sync-2-clause-any_moment g c clean left may =
 
 pub returns-clause-any_moment : goal.returns-clause-any_moment
 returns-clause-any_moment g c clean left may =
-    let s = c.requires.settled clean in
+    let s = c.requires.synced clean in
     let f = g.D.Disk.seen c.args.self.now.disk in
     let end = c.args.self.now.end in
     let t = c.args.text.now in
@@ -75,9 +71,9 @@ returns-clause-any_moment g c clean left may =
     gate_between f end s.rest t c.requires.text (omega (arith, c.requires.room, s.len)) c.requires.some (slice_range t 1 (length t)) (shorter t c.requires.some) (part t c.requires.some)
         m c.write_at.ensures.others c.in_ok-write_at.ensures.written left (length (take 1 t)) (one t c.requires.some) (rw (c.in_ok-sync.ensures.durable before was) at step)
 
-pub returns-clause-settled : goal.returns-clause-settled
-returns-clause-settled g c clean =
-    let s = c.requires.settled clean in
+pub returns-clause-synced : goal.returns-clause-synced
+returns-clause-synced g c clean =
+    let s = c.requires.synced clean in
     let f = g.D.Disk.seen c.args.self.now.disk in
     let end = c.args.self.now.end in
     let t = c.args.text.now in
@@ -95,7 +91,7 @@ returns-clause-settled g c clean =
 
 pub returns-clause-added : goal.returns-clause-added
 returns-clause-added g c clean =
-    let s = c.requires.settled clean in
+    let s = c.requires.synced clean in
     let f = g.D.Disk.seen c.args.self.now.disk in
     let end = c.args.self.now.end in
     let t = c.args.text.now in

@@ -1,0 +1,162 @@
+-- What follows the whole lines of a file.
+use Rattle.std.proofs.Common.{◌≡◌, ◌⊎◌, inl, inr, Bool, true, false, ℕ, zero, suc, ◌+◌, ◌<◌, ◌≤◌, List, [], ◌∷◌, ◌++◌, length, take, drop, refl, sym, ◌∙◌, ap, subst, arith, append_assoc}
+use Rattle.std.proofs.lemmas.List.{append-nil}
+use Rattle.std.proofs.lemmas.Bool.{cases_eq}
+use Rattle.std.proofs.lemmas.Bool.Decides.{nat_tests}
+use Rattle.std.specs.Prelude.{◌≢◌, slice_index, ⊤}
+use Rattle.std.specs.List.{AllByRecursion}
+use Rattle.line_log.specs.Lines.{lines_in, text_of, IsLogLine, IsLineFront}
+use Rattle.line_log.specs.Tails.{Tail, unbroken, broken_by, shut_by, tail_from, tail_in, MayEnd}
+use Rattle.line_log.specs.ReadingPrivate.{IsBreak}
+use Rattle.line_log.proofs.LineLemmas.{IsInside}
+use Rattle.line_log.proofs.FirstLemmas.{no_bytes, past}
+
+opens : (b : ℕ) (bytes : List ℕ) → b ≡ 123 → tail_from false (b ∷ bytes) ≡ tail_from true bytes
+opens b bytes is = grind (arith, nat_tests)
+
+shuts : (b : ℕ) (bytes : List ℕ) → b ≢ 123 → tail_from false (b ∷ bytes) ≡ shut_by b bytes
+shuts b bytes other = grind (arith, nat_tests)
+
+inside : (b : ℕ) (bytes : List ℕ) → 32 ≤ b → tail_from true (b ∷ bytes) ≡ tail_from true bytes
+inside b bytes high = grind (arith, nat_tests)
+
+ends : (b : ℕ) (bytes : List ℕ) → b ≡ 10 → tail_from true (b ∷ bytes) ≡ tail_from false bytes
+ends b bytes is = grind (arith, nat_tests)
+
+breaks : (b : ℕ) (bytes : List ℕ) → b ≢ 10 → b < 32 → tail_from true (b ∷ bytes) ≡ broken_by b
+breaks b bytes other low = grind (arith, nat_tests)
+
+through : (r rest : List ℕ) → AllByRecursion IsInside r → tail_from true (r ++ rest) ≡ tail_from true rest
+through [] rest all = refl
+through (b ∷ r) rest all = inside b (r ++ rest) all.0 ∙ through r rest all.1
+
+past_front : (b : ℕ) (p rest : List ℕ) → IsLogLine (b ∷ p) → tail_in (b ∷ (p ++ rest)) ≡ tail_from true rest
+past_front b p rest line = opens b (p ++ rest) line.0 ∙ through p rest line.1
+
+-- a whole line, and a text, have no tail of their own
+pub past_line : (p rest : List ℕ) → IsLogLine p → tail_in (p ++ 10 ∷ rest) ≡ tail_in rest
+past_line [] rest line = absurd line
+past_line (b ∷ p) rest line = past_front b p (10 ∷ rest) line ∙ ends 10 rest refl
+
+pub past_text : (ls : List (List ℕ)) (rest : List ℕ) → AllByRecursion IsLogLine ls → tail_in (text_of ls ++ rest) ≡ tail_in rest
+past_text [] rest all = refl
+past_text (l ∷ ls) rest all = ap tail_in (append_assoc l (10 ∷ text_of ls) rest) ∙ past_line l (text_of ls ++ rest) all.0 ∙ past_text ls rest all.1
+
+pub front_only : (p : List ℕ) → IsLineFront p → tail_in p ≡ unbroken
+front_only [] front = refl
+front_only (b ∷ p) front = ap (λ (l : List ℕ). tail_in (b ∷ l)) (sym (append-nil p)) ∙ past_front b p [] front
+
+-- the byte that breaks a front
+pub broken_front : (p : List ℕ) (b : ℕ) (rest : List ℕ) → IsLineFront p → IsBreak p b → 0 < length p → tail_in (p ++ b ∷ rest) ≡ broken_by b
+broken_front [] b rest front other some = absurd (omega arith)
+broken_front (x ∷ p) b rest front other some = past_front x p (b ∷ rest) front ∙ breaks b rest other.0 other.1
+
+pub shut_front : (p : List ℕ) (b : ℕ) (rest : List ℕ) → IsBreak p b → length p ≡ 0 → tail_in (p ++ b ∷ rest) ≡ shut_by b rest
+shut_front [] b rest other none = shuts b rest other
+shut_front (x ∷ p) b rest other none = absurd (omega arith)
+
+-- ---- what a crash may leave
+
+-- what a disk that mixes may leave, any disk may
+pub any_disk : (mixes : Bool) (t : Tail) → MayEnd true t → MayEnd mixes t
+any_disk true t may = may
+any_disk false unbroken may = tt
+any_disk false (broken_by b) may = may
+any_disk false (shut_by b bytes) may = elim may [ inl blank ↦ inl blank | inr other ↦ inr (inl refl) ]
+
+-- the bytes begin with a blank, if there are any
+pub blank_first : (d : List ℕ) → (0 < length d → slice_index d 0 ≡ 13) → MayEnd true (tail_in d)
+blank_first [] blank = tt
+blank_first (b ∷ d) blank =
+    let is : b ≡ 13 = blank (omega arith) in
+    subst (MayEnd true) (sym (shuts b d (λ (e : b ≡ 123). omega (arith, is, e)))) (inl is)
+
+-- the bytes begin no line, on a disk that may leave any byte there
+pub any_first : (d : List ℕ) → slice_index d 0 ≢ 123 → MayEnd false (tail_in d)
+any_first [] other = tt
+any_first (b ∷ d) other = subst (MayEnd false) (sym (shuts b d other)) (inr (inl refl))
+
+-- at most one byte
+pub short_tail : (mixes : Bool) (d : List ℕ) → length d ≤ 1 → MayEnd mixes (tail_in d)
+short_tail mixes [] short = tt
+short_tail mixes (b ∷ []) short = elim (cases_eq b 123) [
+  | inl is ↦ subst (MayEnd mixes) (sym (opens b [] is)) tt
+  | inr other ↦ subst (MayEnd mixes) (sym (shuts b [] other)) (inr (inr refl))
+]
+short_tail mixes (b ∷ c ∷ d) short = absurd (omega arith)
+
+-- the same first byte, which begins no line
+pub same_first : (mixes : Bool) (d e : List ℕ) → 0 < length d → 0 < length e → slice_index e 0 ≡ slice_index d 0 → slice_index d 0 ≢ 123 → (length d ≤ 1 → length e ≤ 1)
+    → MayEnd mixes (tail_in d) → MayEnd mixes (tail_in e)
+same_first mixes [] e some other first is_shut short may = absurd (omega arith)
+same_first mixes (b ∷ d) [] some other first is_shut short may = absurd (omega arith)
+same_first mixes (b ∷ d) (x ∷ e) some other first is_shut short may =
+    let was : MayEnd mixes (shut_by b d) = subst (MayEnd mixes) (shuts b d is_shut) may in
+    let now : MayEnd mixes (shut_by x e) = elim was [
+      | inl blank ↦ inl (first ∙ blank)
+      | inr gate ↦ elim gate [
+        | inl dis ↦ inr (inl dis)
+        | inr none ↦
+            let few : length (x ∷ e) ≤ 1 = short (omega (arith, ap length none)) in
+            inr (inr (no_bytes e (omega (arith, few))))
+      ]
+    ] in
+    subst (MayEnd mixes) (sym (shuts x e (λ (is : x ≡ 123). is_shut (sym first ∙ is)))) now
+
+-- what is so for disks that mix and for those that don't
+pub either_end : (mixes : Bool) (old new : Tail) → (mixes ≡ true → MayEnd true old → MayEnd true new) → (MayEnd false old → MayEnd false new) → MayEnd mixes old → MayEnd mixes new
+either_end true old new mixed any may = mixed refl may
+either_end false old new mixed any may = any may
+
+-- each byte of the text is as it was or blank, and a blank is behind it
+abbrev pub IsFadedText : List ℕ → List ℕ → Type 0
+IsFadedText [] d = 0 < length d → slice_index d 0 ≡ 13
+IsFadedText (b ∷ g) [] = ⊥
+IsFadedText (b ∷ g) (c ∷ d) = ((c ≡ 13) ⊎ (c ≡ b)) × IsFadedText g d
+
+faded_inside : (r : List ℕ) (gs : List (List ℕ)) (d : List ℕ) → AllByRecursion IsInside r → ((e : List ℕ) → IsFadedText (text_of gs) e → MayEnd true (tail_in e))
+    → IsFadedText (r ++ 10 ∷ text_of gs) d → MayEnd true (tail_from true d)
+faded_inside [] gs [] all later f = absurd f
+faded_inside [] gs (c ∷ d) all later f = elim (f.0) [
+  | inl blank ↦ subst (MayEnd true) (sym (breaks c d (λ (e : c ≡ 10). omega (arith, blank, e)) (omega (arith, blank)))) blank
+  | inr lf ↦ subst (MayEnd true) (sym (ends c d lf)) (later d f.1)
+]
+faded_inside (b ∷ r) gs [] all later f = absurd f
+faded_inside (b ∷ r) gs (c ∷ d) all later f = elim (f.0) [
+  | inl blank ↦ subst (MayEnd true) (sym (breaks c d (λ (e : c ≡ 10). omega (arith, blank, e)) (omega (arith, blank)))) blank
+  | inr same ↦
+      let high : 32 ≤ c = omega (arith, all.0, same) in
+      subst (MayEnd true) (sym (inside c d high)) (faded_inside r gs d all.1 later f.1)
+]
+
+pub faded_tail : (gs : List (List ℕ)) (d : List ℕ) → AllByRecursion IsLogLine gs → IsFadedText (text_of gs) d → MayEnd true (tail_in d)
+faded_tail [] d all f = blank_first d f
+faded_tail ([] ∷ gs) d all f = absurd (all.0)
+faded_tail ((b ∷ line) ∷ gs) [] all f = absurd f
+faded_tail ((b ∷ line) ∷ gs) (c ∷ d) all f = elim (f.0) [
+  | inl blank ↦ subst (MayEnd true) (sym (shuts c d (λ (e : c ≡ 123). omega (arith, blank, e)))) (inl blank)
+  | inr same ↦ subst (MayEnd true) (sym (opens c d (same ∙ all.0.0))) (faded_inside line gs d all.0.1 (λ (e : List ℕ) (g : IsFadedText (text_of gs) e). faded_tail gs e all.1 g) f.1)
+]
+
+pub faded_text_at : (g d : List ℕ) → length g ≤ length d → ((i : ℕ) → i < length g → (slice_index d i ≡ 13) ⊎ (slice_index d i ≡ slice_index g i)) → slice_index d (length g) ≡ 13 → IsFadedText g d
+faded_text_at [] d le each blank = λ (some : 0 < length d). blank
+faded_text_at (b ∷ g) [] le each blank = absurd (omega arith)
+faded_text_at (b ∷ g) (c ∷ d) le each blank = (each 0 (omega arith), faded_text_at g d (omega arith) (λ i low. each (suc i) (omega arith)) blank)
+
+-- ---- what a reader finds
+
+-- a whole line at the front of the bytes
+pub tail_past : (bytes more : List ℕ) (n : ℕ) → n < length bytes → IsLogLine (take n bytes) → slice_index bytes n ≡ 10 → tail_in (bytes ++ more) ≡ tail_in (drop (n + 1) bytes ++ more)
+tail_past bytes more n low line lf =
+    let whole : bytes ≡ take n bytes ++ 10 ∷ drop (n + 1) bytes = past bytes n low ∙ ap (λ (k : ℕ). take n bytes ++ k ∷ drop (n + 1) bytes) lf in
+    ap (λ (l : List ℕ). tail_in (l ++ more)) whole ∙ ap tail_in (append_assoc (take n bytes) (10 ∷ drop (n + 1) bytes) more) ∙ past_line (take n bytes) (drop (n + 1) bytes ++ more) line
+
+module _ (bytes more : List ℕ) (n : ℕ) (low : n < length bytes) (front : IsLineFront (take n bytes)) (other : IsBreak (take n bytes) (slice_index bytes n)) where
+  broken_at : bytes ++ more ≡ take n bytes ++ slice_index bytes n ∷ (drop (n + 1) bytes ++ more)
+  broken_at = ap (λ (l : List ℕ). l ++ more) (past bytes n low) ∙ append_assoc (take n bytes) (slice_index bytes n ∷ drop (n + 1) bytes) more
+
+  pub tail_broken : 0 < length (take n bytes) → tail_in (bytes ++ more) ≡ broken_by (slice_index bytes n)
+  tail_broken some = ap tail_in broken_at ∙ broken_front (take n bytes) (slice_index bytes n) (drop (n + 1) bytes ++ more) front other some
+
+  pub tail_shut : length (take n bytes) ≡ 0 → tail_in (bytes ++ more) ≡ shut_by (slice_index bytes n) (drop (n + 1) bytes ++ more)
+  tail_shut none = ap tail_in broken_at ∙ shut_front (take n bytes) (slice_index bytes n) (drop (n + 1) bytes ++ more) other none

@@ -1,0 +1,25 @@
+use Rattle.std.proofs.Common.{rules, ◌≡◌, ◌++◌, ◌∷◌, [], ℕ, List, sym, ◌∙◌, ap, subst, append_assoc}
+use Rattle.line_log.specs.Lines.{text_of}
+use Rattle.line_log.specs.Reading.{HasReadLines}
+use Rattle.line_log.proofs.HashLemmas.{text_more}
+use Rattle.line_log.proofs.opening.read_text.Goals as goal
+
+pub lines-preserved : goal.lines-preserved
+lines-preserved g c =
+    let i = c.lines.invariant in
+    let line = c.next_line.new.line.items in
+    record {
+      usable = c.next_line.ensures.usable;
+      clean = λ clean. i.clean (c.next_line.ensures.clean clean);
+      seen = c.next_line.ensures.seen ∙ i.seen;
+      crash = λ left may. i.crash left (c.next_line.ensures.crash left may);
+      read = λ clean start.
+          let (lines, has, is) = i.read (c.next_line.ensures.clean clean) start in
+          let here = subst (λ (file : List ℕ). HasReadLines file c.lines.reader lines) (sym i.seen) has in
+          let next = c.in_ok-next_line.ensures.next c.if-not-branch.false clean lines here in
+          let grown : c.extend_from_slice-in-lines.new.self.items ≡ c.lines.text.items ++ line ++ 10 ∷ [] = search rules in (
+            lines ++ line ∷ [],
+            subst (λ (file : List ℕ). HasReadLines file c.next_line.new.self (lines ++ line ∷ [])) i.seen next,
+            grown ∙ append_assoc c.lines.text.items line (10 ∷ []) ∙ ap (λ (t : List ℕ). t ++ (line ++ 10 ∷ [])) is ∙ sym (text_more lines line),
+          );
+    }

@@ -1,0 +1,96 @@
+use Rattle.std.proofs.Common.{rules, ◌≡◌, ◌<◌, ◌+◌, [], Bool, false, ℕ, List, length, drop, arith, sym, ◌∙◌, ap, subst}
+use Rattle.std.proofs.lemmas.Bool.{false≢true}
+use Rattle.std.proofs.lemmas.Bool.Decides.{Decides-eqb}
+use Rattle.std.specs.Prelude.{◌≢◌, IsTrue, slice_index}
+use Rattle.line_log.specs.Lines.{lines_in, text_of}
+use Rattle.line_log.specs.Log.{BeginsWith, IsAtRest, KeepsLines, IsShutAt}
+use Rattle.line_log.specs.Reading.{held_by}
+use Rattle.line_log.proofs.ReadLemmas.{gate_within, open_gate, read_end, shut_gate}
+use Rattle.line_log.proofs.RecoverLemmas.{kept_on, kept_same}
+use Rattle.line_log.proofs.reader.LogReader.trim.Goals as goal
+
+pub shut_tail-requires-clause-durable : goal.shut_tail-requires-clause-durable
+shut_tail-requires-clause-durable g c left may = c.requires.durable left (c.look_past.ensures.crash left may) ∙ sym c.look_past.ensures.seen
+
+pub shut_tail-requires-clause-end : goal.shut_tail-requires-clause-end
+shut_tail-requires-clause-end g c clean =
+    let file = g.D.Disk.seen c.args.self.now.disk in
+    let (lines, has) = c.requires.read (c.look_past.ensures.clean clean) in
+    c.look_past.ensures.at ∙ read_end file c.args.self.now lines has (c.in_ok-look_past.ensures.none clean has.part) ∙ ap (λ (f : List ℕ). length (text_of (lines_in f))) (sym c.look_past.ensures.seen)
+
+pub shut_tail-requires-clause-within : goal.shut_tail-requires-clause-within
+shut_tail-requires-clause-within g c clean is_open =
+    let file = g.D.Disk.seen c.args.self.now.disk in
+    let s = c.look_past.new.self in
+    let (lines, has) = c.requires.read (c.look_past.ensures.clean clean) in
+    let gate = (Decides-eqb (slice_index (held_by s) 0) 123).0 (sym c.begins_line-is_open.ensures ∙ is_open) in
+    subst (λ (f : List ℕ). s.at < length f) (sym c.look_past.ensures.seen) (gate_within file s (c.look_past.ensures.part clean has.part) gate)
+
+pub shut_tail-requires-clause-brace : goal.shut_tail-requires-clause-brace
+shut_tail-requires-clause-brace g c clean is_open =
+    let file = g.D.Disk.seen c.args.self.now.disk in
+    let s = c.look_past.new.self in
+    let (lines, has) = c.requires.read (c.look_past.ensures.clean clean) in
+    let gate = (Decides-eqb (slice_index (held_by s) 0) 123).0 (sym c.begins_line-is_open.ensures ∙ is_open) in
+    subst (λ (f : List ℕ). slice_index f s.at ≡ 123) (sym c.look_past.ensures.seen) (open_gate file s (c.look_past.ensures.part clean has.part) gate)
+
+pub shut_tail-requires-clause-shut : goal.shut_tail-requires-clause-shut
+shut_tail-requires-clause-shut g c clean is_shut =
+    let file = g.D.Disk.seen c.args.self.now.disk in
+    let s = c.look_past.new.self in
+    let (lines, has) = c.requires.read (c.look_past.ensures.clean clean) in
+    let other : slice_index (held_by s) 0 ≢ 123 = λ e. false≢true (sym is_shut ∙ c.begins_line-is_open.ensures ∙ (Decides-eqb (slice_index (held_by s) 0) 123).1 e) in
+    subst (λ (f : List ℕ). IsShutAt f s.at) (sym c.look_past.ensures.seen)
+        (λ (within : s.at < length file). shut_gate file s (c.look_past.ensures.part clean has.part) (c.in_ok-look_past.ensures.held clean has.part within) other)
+
+pub cut_tail-requires-clause-front : goal.cut_tail-requires-clause-front
+cut_tail-requires-clause-front g c clean =
+    let d = c.shut_tail.new.disk in
+    let before = subst IsTrue c.shut_tail.ensures.clean clean in
+    let kept = c.shut_tail.ensures.any_moment before (g.D.Disk.seen d) (g.D.Disk.seen_may_stay d) in
+    subst (λ (ls : List (List ℕ)). BeginsWith (g.D.Disk.seen d) ls c.look_past.new.self.at) (sym kept.lines) (c.in_ok-shut_tail.ensures.front before)
+
+pub returns-in_err-look_past-clause-any_moment : goal.returns-in_err-look_past-clause-any_moment
+returns-in_err-look_past-clause-any_moment g c clean left may =
+    kept_same g.D.Disk.is_mixing (g.D.Disk.seen c.args.self.now.disk) left (c.requires.durable left (c.look_past.ensures.crash left may))
+
+pub returns-then-end-gt-MOST-clause-any_moment : goal.returns-then-end-gt-MOST-clause-any_moment
+returns-then-end-gt-MOST-clause-any_moment g c clean left may =
+    kept_same g.D.Disk.is_mixing (g.D.Disk.seen c.args.self.now.disk) left (c.requires.durable left (c.look_past.ensures.crash left may))
+
+pub returns-in_err-shut_tail-clause-any_moment : goal.returns-in_err-shut_tail-clause-any_moment
+returns-in_err-shut_tail-clause-any_moment g c clean left may =
+    subst (λ (f : List ℕ). KeepsLines g.D.Disk.is_mixing f left) c.look_past.ensures.seen (c.shut_tail.ensures.any_moment (subst IsTrue c.shut_tail.ensures.clean clean) left may)
+
+pub returns-in_err-cut_tail-clause-any_moment : goal.returns-in_err-cut_tail-clause-any_moment
+returns-in_err-cut_tail-clause-any_moment g c clean left may =
+    let d = c.shut_tail.new.disk in
+    let between = subst IsTrue c.cut_tail.ensures.clean clean in
+    let kept = c.shut_tail.ensures.any_moment (subst IsTrue c.shut_tail.ensures.clean between) (g.D.Disk.seen d) (g.D.Disk.seen_may_stay d) in
+    subst (λ (f : List ℕ). KeepsLines g.D.Disk.is_mixing f left) c.look_past.ensures.seen
+        (kept_on g.D.Disk.is_mixing (g.D.Disk.seen c.look_past.new.self.disk) (g.D.Disk.seen d) left kept (c.cut_tail.ensures.any_moment between left may))
+
+pub returns-clause-any_moment : goal.returns-clause-any_moment
+returns-clause-any_moment g c clean left may =
+    let d = c.shut_tail.new.disk in
+    let between = subst IsTrue c.cut_tail.ensures.clean clean in
+    let kept = c.shut_tail.ensures.any_moment (subst IsTrue c.shut_tail.ensures.clean between) (g.D.Disk.seen d) (g.D.Disk.seen_may_stay d) in
+    subst (λ (f : List ℕ). KeepsLines g.D.Disk.is_mixing f left) c.look_past.ensures.seen
+        (kept_on g.D.Disk.is_mixing (g.D.Disk.seen c.look_past.new.self.disk) (g.D.Disk.seen d) left kept (c.cut_tail.ensures.any_moment between left may))
+
+pub returns-clause-rest : goal.returns-clause-rest
+returns-clause-rest g c clean =
+    subst (λ (n : ℕ). IsAtRest (g.D.Disk.seen c.cut_tail.new.disk) n) c.look_past.ensures.at (c.in_ok-cut_tail.ensures.rest (subst IsTrue c.cut_tail.ensures.clean clean))
+
+pub returns-clause-same : goal.returns-clause-same
+returns-clause-same g c clean =
+    let d = c.shut_tail.new.disk in
+    let between = subst IsTrue c.cut_tail.ensures.clean clean in
+    let kept = c.shut_tail.ensures.any_moment (subst IsTrue c.shut_tail.ensures.clean between) (g.D.Disk.seen d) (g.D.Disk.seen_may_stay d) in
+    c.in_ok-cut_tail.ensures.same between ∙ kept.lines ∙ ap lines_in c.look_past.ensures.seen
+
+pub returns-clause-all : goal.returns-clause-all
+returns-clause-all g c clean =
+    let after_look = subst IsTrue c.shut_tail.ensures.clean (subst IsTrue c.cut_tail.ensures.clean clean) in
+    let (lines, has) = c.requires.read (c.look_past.ensures.clean after_look) in
+    c.in_ok-look_past.ensures.none after_look has.part
