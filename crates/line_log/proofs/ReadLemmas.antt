@@ -1,8 +1,8 @@
 -- What a reader of a log has read.
-use Rattle.std.proofs.Common.{◌≡◌, ◌⊎◌, inl, inr, Bool, ℕ, zero, suc, ◌+◌, ◌-◌, ◌<◌, ◌≤◌, min, List, [], ◌∷◌, ◌++◌, length, take, drop, refl, sym, ◌∙◌, ap, subst, arith, append_assoc, length-append, length-drop}
+use Rattle.std.proofs.Common.{◌≡◌, ◌⊎◌, inl, inr, Bool, Result, Ok, Err, ℕ, zero, suc, ◌+◌, ◌-◌, ◌<◌, ◌≤◌, min, List, [], ◌∷◌, ◌++◌, length, take, drop, refl, sym, ◌∙◌, ap, subst, arith, append_assoc, length-append, length-drop}
 use Rattle.std.proofs.lemmas.List.{append-nil, get_or-drop, drop-drop, drop-append-le, length-take-le, take_at}
 use Rattle.std.proofs.lemmas.Bool.{cases_eq}
-use Rattle.std.specs.Prelude.{◌≢◌, slice_index}
+use Rattle.std.specs.Prelude.{◌≢◌, slice_index, IfErr, IsErrAnd}
 use Rattle.line_log.specs.Lines.{lines_in, text_of, IsLogLine, IsLineFront}
 use Rattle.line_log.specs.Hashes.{hashed_line, hashed_after, hashed}
 use Rattle.sqlite_disk.specs.declared.Disk.{Ghosts}
@@ -197,9 +197,14 @@ look_justified mixes file r lines NoMemory read fault = tt
 look_justified mixes file r lines (Disk e) read fault = tt
 look_justified mixes file r lines TooLong read fault = absurd fault
 look_justified mixes file r lines (LineTooLong n) read fault =
-    (fault.0 ∙ ap (λ (k : ℕ). k + 1) read.count, subst (λ (k : ℕ). IsLongLine (drop k file)) read.at fault.1)
+    (fault.0 ∙ read.count, subst (λ (k : ℕ). IsLongLine (drop k file)) read.at fault.1)
 look_justified mixes file r lines (Damaged n) read fault = absurd fault
 look_justified mixes file r lines Unread read fault = absurd fault
+
+-- what holds of the error that `?` hands on
+pub of_error : {T : Type 0} (r : Result T LogError) (P : LogError → Type 0) (e : LogError) → IsErrAnd r (λ x. x ≡ e) → P e → IfErr r P
+of_error (Ok x) P e gives p = absurd gives
+of_error (Err y) P e gives p = subst P (sym gives) p
 
 -- an error from outside is no fault of the next line
 pub outside_fault : {D : Type 0} {d : Ghosts D} (file : List ℕ) (r : LogReader D d) (e : LogError) → IsOutside e → IsLookFault file r e

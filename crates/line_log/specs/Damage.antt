@@ -1,6 +1,6 @@
 -- When a reader may call a file damaged. A file that has its lines with their hashes, and ends as a crash may leave it, is never called
 -- so (`specs/Laws`).
-use Rattle.std.specs.Prelude.{◌≡◌, ◌≢◌, ◌⊎◌, ℕ, ◌+◌, ◌<◌, ◌^◌, Bool, List, ◌∷◌, ◌++◌, length, take, drop, ⊤}
+use Rattle.std.specs.Prelude.{◌≡◌, ◌≢◌, ◌⊎◌, ℕ, ◌<◌, ◌^◌, Bool, List, ◌∷◌, ◌++◌, length, take, drop, ⊤}
 use Rattle.line_log.specs.Lines.{lines_in, text_of, IsLineFront}
 use Rattle.line_log.specs.Hashes.{hashed_line, hashed}
 use Rattle.line_log.specs.Tails.{tail_in, MayEnd}
@@ -23,11 +23,11 @@ pub record HasWrongEnd (mixes : Bool) (file : List ℕ) (lines : List (List ℕ)
 abbrev pub IsLongLine : List ℕ → Type 0
 IsLongLine bytes = (2 ^ 23 < length bytes) × IsLineFront (take (2 ^ 23) bytes)
 
--- The next line of the file, behind these, is damaged or too long, and the error has its number, from 1 on; or the error is of the disk
--- or of memory.
+-- The next line of the file, behind these, is damaged or too long, and the error says how many these are; or the error is of the disk or
+-- of memory.
 abbrev pub JustifiesError : Bool → List ℕ → List (List ℕ) → LogError → Type 0
-JustifiesError mixes file lines (Damaged n) = (n ≡ length lines + 1) × (HasWrongLine file lines ⊎ HasWrongEnd mixes file lines)
-JustifiesError mixes file lines (LineTooLong n) = (n ≡ length lines + 1) × IsLongLine (drop (length (text_of (hashed lines))) file)
+JustifiesError mixes file lines (Damaged n) = (n ≡ length lines) × (HasWrongLine file lines ⊎ HasWrongEnd mixes file lines)
+JustifiesError mixes file lines (LineTooLong n) = (n ≡ length lines) × IsLongLine (drop (length (text_of (hashed lines))) file)
 JustifiesError mixes file lines NoMemory = ⊤
 JustifiesError mixes file lines (Disk e) = ⊤
 JustifiesError mixes file lines other = ⊥

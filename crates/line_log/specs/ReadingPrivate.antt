@@ -31,9 +31,9 @@ pub record Tells {D : Type 0} {d : Ghosts D} (reader : LogReader D d) (found : F
 abbrev pub IsTornAt : Bool → ℕ → ℕ → ℕ → Type 0
 IsTornAt mixes front left byte = (byte ≡ 13) ⊎ ((front ≡ 0) × ((mixes ≡ false) ⊎ (left ≡ 1)))
 
--- the next line is too long, and the error has its number, or the error is of the disk or of memory
+-- the next line is too long, and the error says how many were read, or the error is of the disk or of memory
 abbrev pub IsLookFault : {D : Type 0} {d : Ghosts D} → List ℕ → LogReader D d → LogError → Type 0
-IsLookFault file reader (LineTooLong n) = (n ≡ reader.count + 1) × IsLongLine (drop reader.at file)
+IsLookFault file reader (LineTooLong n) = (n ≡ reader.count) × IsLongLine (drop reader.at file)
 IsLookFault file reader NoMemory = ⊤
 IsLookFault file reader (Disk e) = ⊤
 IsLookFault file reader other = ⊥

@@ -15,26 +15,26 @@ pub enum LogError {
     Disk(io::Error),
     /// The file would be too long.
     TooLong,
-    /// The line of this number, from 1 on, is longer than any line of a log.
+    /// The line behind so many is longer than any line of a log.
     LineTooLong(usize),
-    /// In the place of the line of this number, from 1 on, is none with the right hash, and no torn end either.
+    /// What follows so many lines is no line with the right hash, and no end that a crash leaves.
     Damaged(usize),
     /// The file has lines that were not read.
     Unread,
 }
 
 impl From<io::Error> for LogError {
-    fn from(error: io::Error) -> LogError
-        ensures { result ≡ Disk error }
-    {
+    ghost from_gives = { λ error fault. fault ≡ Disk error };
+
+    fn from(error: io::Error) -> LogError {
         LogError::Disk(error)
     }
 }
 
 impl From<AllocError> for LogError {
-    fn from(_: AllocError) -> LogError
-        ensures { result ≡ NoMemory }
-    {
+    ghost from_gives = { λ _ fault. fault ≡ NoMemory };
+
+    fn from(_: AllocError) -> LogError {
         LogError::NoMemory
     }
 }

@@ -75,8 +75,8 @@ impl<D: Disk> LogReader<D> {
     }
 
     /// Reads the next line, without its hash, and returns true; or false if no whole line follows. Nothing is written. At `Err`
-    /// begin again. `Damaged` has the number of a line whose hash is wrong, or of the one in whose place is something that no crash
-    /// leaves; `LineTooLong` that of a line which doesn't end within 8 MiB.
+    /// begin again. `Damaged(n)` says that the line behind the first n has another hash than its text, or that the lines end there in
+    /// something that no crash leaves; `LineTooLong(n)` that this line doesn't end within 8 MiB.
     pub fn next_line(&mut self, alloc: Global, line: &mut Vec<u8>) -> Result<bool, LogError>
         requires usable { IsTrue (D.Disk.is_usable self.old.disk) }
         ensures usable { IsTrue (D.Disk.is_usable self.new.disk) }
@@ -102,7 +102,7 @@ impl<D: Disk> LogReader<D> {
             FirstLine::Part => Ok(false),
             FirstLine::Broken(len) => {
                 if !self.is_torn(len) {
-                    return Err(LogError::Damaged(self.count + 1));
+                    return Err(LogError::Damaged(self.count));
                 }
                 Ok(false)
             }
@@ -202,7 +202,7 @@ impl<D: Disk> LogReader<D> {
         let (found, _) = held.split_at(len);
         let is_right = take_line(&mut self.hasher, found, line)?;
         if !is_right {
-            return Err(LogError::Damaged(self.count + 1));
+            return Err(LogError::Damaged(self.count));
         }
         self.from += len + 1;
         self.at += len + 1;
@@ -261,7 +261,7 @@ impl<D: Disk> LogReader<D> {
         self.fill(alloc, LONGEST)?;
         match self.tell() {
             Some(found) => Ok(found),
-            None => Err(LogError::LineTooLong(self.count + 1)),
+            None => Err(LogError::LineTooLong(self.count)),
         }
     }
 

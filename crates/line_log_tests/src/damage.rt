@@ -27,15 +27,15 @@ fn opens(alloc: Global, lines: &[u8]) -> Result<bool, AllocError> {
     Ok(open_log(alloc, TornDisk::new(alloc, lines, true)?).is_ok())
 }
 
-/// Returns whether the file is refused as damaged in the line of this number, and not changed.
-fn is_refused(alloc: Global, lines: &[u8], number: usize) -> Result<bool, AllocError> {
+/// Returns whether the file is refused as damaged behind so many lines, and not changed.
+fn is_refused(alloc: Global, lines: &[u8], right: usize) -> Result<bool, AllocError> {
     let mut file = Vec::new(alloc);
     file.extend_from_slice(lines)?;
     file.extend_from_slice(b"\r\r\r")?;
     Ok(match open_log(alloc, TornDisk::new(alloc, &file, true)?) {
         Ok(_) => false,
         Err((error, disk)) => {
-            matches!(error, LogError::Damaged(n) if n == number) && disk.bytes() == file.as_slice()
+            matches!(error, LogError::Damaged(n) if n == right) && disk.bytes() == file.as_slice()
         }
     })
 }
@@ -44,9 +44,9 @@ fn is_refused(alloc: Global, lines: &[u8], number: usize) -> Result<bool, AllocE
 fn a_changed_bit_is_found_in_each_byte(rt: HostRuntime) -> Result<(), Fail> {
     let mut file = written(rt.alloc())?;
     for at in 0..file.len() - 1 {
-        let number = 1 + file[..at].iter().filter(|byte| **byte == b'\n').count();
+        let right = file[..at].iter().filter(|byte| **byte == b'\n').count();
         file[at] ^= 1;
-        holds_at(&rt, is_refused(rt.alloc(), &file, number)?, "a changed byte", at as u64);
+        holds_at(&rt, is_refused(rt.alloc(), &file, right)?, "a changed byte", at as u64);
         file[at] ^= 1;
     }
     holds(&rt, opens(rt.alloc(), &file)?, "the file as it was written");
@@ -58,11 +58,11 @@ fn missing_and_moved_lines_are_found(rt: HostRuntime) -> Result<(), Fail> {
     let file = written(rt.alloc())?;
     let (first, rest) = file.split_at(17 + 33);
     let (second, third) = rest.split_at(8 + 33);
-    for (lines, number) in [([second, third], 1), ([first, third], 2), ([third, first], 1)] {
+    for (lines, right) in [([second, third], 0), ([first, third], 1), ([third, first], 0)] {
         let mut changed = Vec::new(rt.alloc());
         changed.extend_from_slice(lines[0])?;
         changed.extend_from_slice(lines[1])?;
-        holds(&rt, is_refused(rt.alloc(), &changed, number)?, "a missing or moved line");
+        holds(&rt, is_refused(rt.alloc(), &changed, right)?, "a missing or moved line");
     }
     Ok(())
 }

@@ -1,13 +1,15 @@
-use Rattle.std.proofs.Common.{rules, ◌≡◌, ◌⊎◌, inl, inr, ◌+◌, ◌<◌, ◌≤◌, ◌++◌, ◌∷◌, [], ℕ, List, length, take, drop, arith, sym, ◌∙◌, ap, subst, append_assoc, length-append, length-drop}
+use Rattle.std.proofs.Common.{rules, ◌≡◌, ◌⊎◌, inl, inr, Bool, ◌+◌, ◌<◌, ◌≤◌, ◌++◌, ◌∷◌, [], ℕ, List, length, take, drop, arith, sym, ◌∙◌, ap, subst, append_assoc, length-append, length-drop}
 use Rattle.std.proofs.lemmas.List.{length-take-le}
 use Rattle.std.specs.Prelude.{◌≢◌, slice_index}
 use Rattle.sha2.specs.Hashers.{Holds256}
 use Rattle.line_log.specs.Lines.{lines_in, text_of}
 use Rattle.line_log.specs.Hashes.{hashed, hashed_line}
-use Rattle.line_log.specs.Damage.{HasWrongLine}
-use Rattle.line_log.specs.Reading.{held_by}
+use Rattle.line_log.specs.Damage.{HasWrongLine, JustifiesError}
+use Rattle.line_log.specs.Reading.{HasReadLines, held_by}
+use Rattle.line_log.specs.declared.error.LogError.{LogError}
+use Rattle.line_log.specs.declared.error.LogError.TheVariants.{NoMemory}
 use Rattle.line_log.proofs.HashLemmas.{text_more}
-use Rattle.line_log.proofs.ReadLemmas.{rest_whole, rest_tail, more_at, more_read, part_past, part_within}
+use Rattle.line_log.proofs.ReadLemmas.{of_error, rest_whole, rest_tail, more_at, more_read, part_past, part_within}
 use Rattle.line_log.proofs.reader.LogReader.take.Goals as goal
 
 pub returns-clause-taken : goal.returns-clause-taken
@@ -45,4 +47,9 @@ returns-then-not-is_right-clause-justified g c mixes lines file read =
       follows = read.read ∙ ap (λ (l : List (List ℕ)). hashed lines ++ l) rest;
       wrong = λ other e. c.in_ok-is_right.ensures.wrong c.if-not-is_right.true (text_of lines) read.text other (found_is ∙ e);
     } in
-    (ap (λ (k : ℕ). k + 1) read.count, inl wrong)
+    (read.count, inl wrong)
+
+pub returns-in_err-is_right-clause-justified : goal.returns-in_err-is_right-clause-justified
+returns-in_err-is_right-clause-justified g c =
+    of_error c.from_residual.result (λ (e : LogError). (mixes : Bool) → (lines : List (List ℕ)) → (file : List ℕ) → HasReadLines file c.args.self.now lines → JustifiesError mixes file lines e)
+        NoMemory c.from_residual.ensures.1 (λ mixes lines file read. tt)
