@@ -47,7 +47,7 @@ pub cut_tail-requires-clause-front : goal.cut_tail-requires-clause-front
 cut_tail-requires-clause-front g c clean =
     let d = c.shut_tail.new.disk in
     let before = subst IsTrue c.shut_tail.ensures.clean clean in
-    let kept = c.shut_tail.ensures.any_moment before (g.D.Disk.seen d) (g.D.Disk.seen_may_stay d) in
+    let kept = c.shut_tail.ensures.any_moment before (g.D.Disk.seen d) (g.met.D.Disk.seen_may_stay d) in
     subst (λ (ls : List (List ℕ)). BeginsWith (g.D.Disk.seen d) ls c.look_past.new.self.at) (sym kept.lines) (c.in_ok-shut_tail.ensures.front before)
 
 pub returns-in_err-look_past-clause-any_moment : goal.returns-in_err-look_past-clause-any_moment
@@ -66,7 +66,7 @@ pub returns-in_err-cut_tail-clause-any_moment : goal.returns-in_err-cut_tail-cla
 returns-in_err-cut_tail-clause-any_moment g c clean left may =
     let d = c.shut_tail.new.disk in
     let between = subst IsTrue c.cut_tail.ensures.clean clean in
-    let kept = c.shut_tail.ensures.any_moment (subst IsTrue c.shut_tail.ensures.clean between) (g.D.Disk.seen d) (g.D.Disk.seen_may_stay d) in
+    let kept = c.shut_tail.ensures.any_moment (subst IsTrue c.shut_tail.ensures.clean between) (g.D.Disk.seen d) (g.met.D.Disk.seen_may_stay d) in
     subst (λ (f : List ℕ). KeepsLines g.D.Disk.is_mixing f left) c.look_past.ensures.seen
         (kept_on g.D.Disk.is_mixing (g.D.Disk.seen c.look_past.new.self.disk) (g.D.Disk.seen d) left kept (c.cut_tail.ensures.any_moment between left may))
 
@@ -74,7 +74,7 @@ pub returns-clause-any_moment : goal.returns-clause-any_moment
 returns-clause-any_moment g c clean left may =
     let d = c.shut_tail.new.disk in
     let between = subst IsTrue c.cut_tail.ensures.clean clean in
-    let kept = c.shut_tail.ensures.any_moment (subst IsTrue c.shut_tail.ensures.clean between) (g.D.Disk.seen d) (g.D.Disk.seen_may_stay d) in
+    let kept = c.shut_tail.ensures.any_moment (subst IsTrue c.shut_tail.ensures.clean between) (g.D.Disk.seen d) (g.met.D.Disk.seen_may_stay d) in
     subst (λ (f : List ℕ). KeepsLines g.D.Disk.is_mixing f left) c.look_past.ensures.seen
         (kept_on g.D.Disk.is_mixing (g.D.Disk.seen c.look_past.new.self.disk) (g.D.Disk.seen d) left kept (c.cut_tail.ensures.any_moment between left may))
 
@@ -86,7 +86,7 @@ pub returns-clause-same : goal.returns-clause-same
 returns-clause-same g c clean =
     let d = c.shut_tail.new.disk in
     let between = subst IsTrue c.cut_tail.ensures.clean clean in
-    let kept = c.shut_tail.ensures.any_moment (subst IsTrue c.shut_tail.ensures.clean between) (g.D.Disk.seen d) (g.D.Disk.seen_may_stay d) in
+    let kept = c.shut_tail.ensures.any_moment (subst IsTrue c.shut_tail.ensures.clean between) (g.D.Disk.seen d) (g.met.D.Disk.seen_may_stay d) in
     c.in_ok-cut_tail.ensures.same between ∙ kept.lines ∙ ap lines_in c.look_past.ensures.seen
 
 pub returns-clause-all : goal.returns-clause-all
