@@ -1,10 +1,9 @@
 -- What a crash leaves of a file of lines.
-use Rattle.std.proofs.Common.{◌≡◌, ◌⊎◌, inl, inr, true, false, ℕ, zero, suc, ◌+◌, ◌-◌, ◌<◌, ◌≤◌, List, [], ◌∷◌, ◌++◌, length, drop, refl, sym, ◌∙◌, ap, subst, arith, append_assoc, length-append, length-drop}
+use Rattle.std.proofs.Common.{◌≡◌, ◌⊎◌, inl, inr, true, false, ℕ, suc, ◌+◌, ◌-◌, ◌<◌, ◌≤◌, List, [], ◌∷◌, ◌++◌, length, drop, refl, sym, ◌∙◌, ap, subst, arith, append_assoc, length-append, length-drop}
 use Rattle.std.proofs.lemmas.List.{append-nil, get_or_append_left, get_or-append_right, get_or-drop}
 use Rattle.std.proofs.lemmas.Bool.{cases_eq, cases_lt}
 use Rattle.std.specs.Prelude.{◌≢◌, slice_index}
 use Rattle.std.specs.List.{AllByRecursion}
-use mathlib.Core.List.{IsPrefix}
 use Rattle.line_log.specs.Lines.{lines_in, text_of, IsLogLine, IsBetween}
 use Rattle.line_log.specs.Tails.{tail_in, MayEnd}
 use Rattle.line_log.specs.Log.{IsCrashed}
@@ -52,7 +51,7 @@ module _ (ls : List (List ℕ)) (all : AllByRecursion IsLogLine ls) (end : ℕ) 
   blank_end c within same blank =
       let zero_more : end + 0 ≡ end = omega arith in
       subst (MayEnd true) (sym (after_tail c within same))
-          (blank_first (drop end c) (λ (some : 0 < length (drop end c)). get_or-drop end c 0 0 ∙ ap (slice_index c) zero_more ∙ blank (omega (arith, some, length-drop end c))))
+      (blank_first (drop end c) (λ (some : 0 < length (drop end c)). get_or-drop end c 0 0 ∙ ap (slice_index c) zero_more ∙ blank (omega (arith, some, length-drop end c))))
 
   -- any byte but a gate behind a text
   pub shut_end : (c : List ℕ) → end ≤ length c → ((i : ℕ) → i < end → slice_index c i ≡ slice_index (text_of ls) i) → slice_index c end ≢ 123 → MayEnd false (tail_in c)
@@ -108,8 +107,8 @@ module _ (ls : List (List ℕ)) (all : AllByRecursion IsLogLine ls) (end : ℕ) 
       let d = drop end c in
       let at = λ (i : ℕ). get_or-drop end c i 0 in
       let faded : IsFaded g d = faded_at g d (omega (arith, length-drop end c))
-          (λ i low. elim (each i low) [ inl blank ↦ inl (get_or-drop end c i 0 ∙ blank) | inr new ↦ inr (get_or-drop end c i 0 ∙ new) ])
-          (λ e. other (sym (get_or-drop end c (length g) 0) ∙ e)) in
+      (λ i low. elim (each i low) [ inl blank ↦ inl (get_or-drop end c i 0 ∙ blank) | inr new ↦ inr (get_or-drop end c i 0 ∙ new) ])
+      (λ e. other (sym (get_or-drop end c (length g) 0) ∙ e)) in
       let found = faded_lines gs d more (subst (λ (t : List ℕ). IsFaded t d) (sym g_is) faded) in
       let read = after_text ls all end is c (omega arith) same in
       record {
@@ -123,8 +122,8 @@ module _ (ls : List (List ℕ)) (all : AllByRecursion IsLogLine ls) (end : ℕ) 
   faded_end c within same each blank =
       let d = drop end c in
       let faded : IsFadedText g d = faded_text_at g d (omega (arith, length-drop end c))
-          (λ i low. elim (each i low) [ inl old ↦ inl (get_or-drop end c i 0 ∙ old) | inr new ↦ inr (get_or-drop end c i 0 ∙ new) ])
-          (get_or-drop end c (length g) 0 ∙ blank) in
+      (λ i low. elim (each i low) [ inl old ↦ inl (get_or-drop end c i 0 ∙ old) | inr new ↦ inr (get_or-drop end c i 0 ∙ new) ])
+      (get_or-drop end c (length g) 0 ∙ blank) in
       subst (MayEnd true) (sym (after_tail ls all end is c (omega arith) same)) (faded_tail gs d more (subst (λ (t : List ℕ). IsFadedText t d) (sym g_is) faded))
 
   -- all of the text is there but the gate, which has any byte, and a blank is behind it

@@ -1,9 +1,9 @@
 -- Hexadecimal digits are no control bytes.
-use Rattle.std.proofs.Common.{◌≡◌, ℕ, zero, suc, ◌+◌, ◌/◌, ◌%◌, ◌<◌, ◌≤◌, List, [], ◌∷◌, ◌++◌, length, take, drop, refl, sym, ◌∙◌, ap, subst, arith, append_assoc}
+use Rattle.std.proofs.Common.{◌≡◌, ℕ, zero, suc, ◌/◌, ◌%◌, ◌<◌, ◌≤◌, List, [], ◌∷◌, ◌++◌, length, sym, ◌∙◌, ap, arith, append_assoc}
 use Rattle.std.proofs.lemmas.List.{append-nil}
 use Rattle.std.specs.Prelude.{slice_index}
 use Rattle.std.specs.List.{AllByRecursion}
-use Rattle.hex.specs.Hex.{IsBytes, encode_with, encode_lower, lower_digits}
+use Rattle.hex.specs.Hex.{IsBytes, encode_with, lower_digits}
 use Rattle.line_log.specs.Lines.{lines_in, text_of, IsLogLine, IsText}
 use Rattle.line_log.proofs.LineLemmas.{IsInside, lines_are, lines_of_text, text_append, all_append}
 

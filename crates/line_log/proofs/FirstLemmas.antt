@@ -104,7 +104,7 @@ module _ (text rest : List ℕ) (ls : List (List ℕ)) (is : text ≡ text_of ls
       let l = take n rest in
       let d = drop (n + 1) rest in
       let joined : text_of (ls ++ l ∷ []) ++ d ≡ text_of ls ++ (l ++ 10 ∷ d) =
-          ap (λ (t : List ℕ). t ++ d) (text_append ls (l ∷ [])) ∙ append_assoc (text_of ls) (l ++ 10 ∷ []) d ∙ ap (λ (t : List ℕ). text_of ls ++ t) (append_assoc l (10 ∷ []) d) in
+      ap (λ (t : List ℕ). t ++ d) (text_append ls (l ∷ [])) ∙ append_assoc (text_of ls) (l ++ 10 ∷ []) d ∙ ap (λ (t : List ℕ). text_of ls ++ t) (append_assoc l (10 ∷ []) d) in
       is ∙ ap (λ (r : List ℕ). text_of ls ++ r) (past rest n low ∙ ap (λ (k : ℕ). l ++ k ∷ d) lf) ∙ sym joined
 
   pub text_all : (n : ℕ) → IsLogLine (take n rest) → AllByRecursion IsLogLine (ls ++ take n rest ∷ [])

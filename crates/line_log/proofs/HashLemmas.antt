@@ -1,8 +1,7 @@
 -- Lines and their hashes.
-use Rattle.std.proofs.Common.{◌≡◌, Bool, true, ℕ, zero, suc, ◌+◌, ◌<◌, ◌≤◌, List, [], ◌∷◌, ◌++◌, length, take, drop, refl, sym, ◌∙◌, ap, subst, arith, append_assoc, length-append}
+use Rattle.std.proofs.Common.{◌≡◌, Bool, true, ℕ, ◌≤◌, List, [], ◌∷◌, ◌++◌, length, take, refl, sym, ◌∙◌, ap, subst, arith, append_assoc, length-append}
 use Rattle.std.proofs.lemmas.List.{append-nil, append_cancel_left, length-take-le}
 use Rattle.std.specs.Prelude.{◌≢◌}
-use Rattle.std.specs.List.{AllByRecursion}
 use Rattle.hex.specs.Hex.{lower_digits}
 use Rattle.hex.proofs.HexLemmas.{length-encode_with}
 use Rattle.sha2.specs.Sha256.{sha256}
@@ -134,5 +133,5 @@ no_wrong_line file all lines is w =
     let (front, more, all_is, lines_are) = hashed_front [] all (hashed lines) (w.found ∷ w.rest) (sym w.follows ∙ is) in
     let same : lines ≡ front = hashed_same [] lines front lines_are in
     let both : hashed lines ++ (w.found ∷ w.rest) ≡ hashed lines ++ hashed_after (text_of lines) more =
-        sym w.follows ∙ is ∙ ap hashed (all_is ∙ ap (λ (l : List (List ℕ)). l ++ more) (sym same)) ∙ hashed_append [] lines more in
+    sym w.follows ∙ is ∙ ap hashed (all_is ∙ ap (λ (l : List (List ℕ)). l ++ more) (sym same)) ∙ hashed_append [] lines more in
     never_wrong (text_of lines) w.found w.rest more (append_cancel_left (hashed lines) (w.found ∷ w.rest) (hashed_after (text_of lines) more) both) w.wrong

@@ -1,10 +1,10 @@
 -- What a reader of a log has read.
-use Rattle.std.proofs.Common.{◌≡◌, ◌⊎◌, inl, inr, Bool, Result, Ok, Err, ℕ, zero, suc, ◌+◌, ◌-◌, ◌<◌, ◌≤◌, min, List, [], ◌∷◌, ◌++◌, length, take, drop, refl, sym, ◌∙◌, ap, subst, arith, append_assoc, length-append, length-drop}
+use Rattle.std.proofs.Common.{◌≡◌, inl, inr, Bool, Result, Ok, Err, ℕ, ◌+◌, ◌-◌, ◌<◌, ◌≤◌, min, List, [], ◌∷◌, ◌++◌, length, take, drop, refl, sym, ◌∙◌, ap, subst, arith, append_assoc, length-append, length-drop}
 use Rattle.std.proofs.lemmas.List.{append-nil, get_or-drop, drop-drop, drop-append-le, length-take-le, take_at}
 use Rattle.std.proofs.lemmas.Bool.{cases_eq}
 use Rattle.std.specs.Prelude.{◌≢◌, slice_index, IfErr, IsErrAnd}
 use Rattle.line_log.specs.Lines.{lines_in, text_of, IsLogLine, IsLineFront}
-use Rattle.line_log.specs.Hashes.{hashed_line, hashed_after, hashed}
+use Rattle.line_log.specs.Hashes.{hashed_line, hashed}
 use Rattle.sqlite_disk.specs.declared.Disk.{Ghosts}
 use Rattle.sha2.specs.Hashers.{Holds256}
 use Rattle.sha2.specs.declared.Sha256.{Sha256}
@@ -19,7 +19,7 @@ use Rattle.line_log.specs.declared.first_line.FirstLine.TheVariants.{Part, Broke
 use Rattle.line_log.proofs.LineLemmas.{text_append}
 use Rattle.line_log.proofs.CrashLemmas.{split_front}
 use Rattle.line_log.proofs.FirstLemmas.{no_bytes, whole_first, begun_none, broken_first}
-use Rattle.line_log.proofs.HashLemmas.{hashed_more, text_more}
+use Rattle.line_log.proofs.HashLemmas.{hashed_more}
 use Rattle.line_log.proofs.TailLemmas.{front_only, tail_past, tail_broken, tail_shut}
 
 some_at : (l : List ℕ) → slice_index l 0 ≡ 123 → 0 < length l
@@ -106,7 +106,7 @@ module _ (file : List ℕ) (lines : List (List ℕ)) (line : List ℕ) (n at : �
   pub more_at : at + (n + 1) ≡ length (text_of (hashed (lines ++ line ∷ [])))
   more_at =
       let both : text_of (hashed (lines ++ line ∷ [])) ≡ text_of (hashed lines) ++ (found ++ 10 ∷ []) =
-          ap text_of (hashed_more [] lines line) ∙ text_append (hashed lines) (hashed_line (text_of lines) line ∷ []) ∙ ap (λ (t : List ℕ). text_of (hashed lines) ++ (t ++ 10 ∷ [])) (sym is) in
+      ap text_of (hashed_more [] lines line) ∙ text_append (hashed lines) (hashed_line (text_of lines) line ∷ []) ∙ ap (λ (t : List ℕ). text_of (hashed lines) ++ (t ++ 10 ∷ [])) (sym is) in
       omega (arith, at_is, long, ap length both, length-append (text_of (hashed lines)) (found ++ 10 ∷ []), length-append found (10 ∷ []))
 
   pub more_read : lines_in file ≡ hashed lines ++ found ∷ lines_in rest → lines_in file ≡ hashed (lines ++ line ∷ []) ++ lines_in rest
@@ -141,7 +141,7 @@ module _ {D : Type 0} {d : Ghosts D} (file : List ℕ) (r : LogReader D d) (part
   pub end_torn : (mixes : Bool) (n : ℕ) → Tells r (Broken n) → IsTornAt mixes n (r.len - r.at) (slice_index r.block.items (r.from + n)) → MayEnd mixes (tail_in (drop r.at file))
   end_torn mixes n tells torn =
       torn_may file (held_by r) r.at part_within part.each n tells.begins.0 tells.begins.1 tells.begins.2 mixes r.len part.len
-          (subst (IsTornAt mixes n (r.len - r.at)) (sym (read_byte n)) torn)
+      (subst (IsTornAt mixes n (r.len - r.at)) (sym (read_byte n)) torn)
 
   pub end_wrong : (mixes : Bool) (n : ℕ) → Tells r (Broken n) → (IsTornAt mixes n (r.len - r.at) (slice_index r.block.items (r.from + n)) → ⊥) → MayEnd mixes (tail_in (drop r.at file)) → ⊥
   end_wrong mixes n tells other may =
@@ -176,13 +176,13 @@ module _ {D : Type 0} {d : Ghosts D} (file : List ℕ) (r : LogReader D d) (part
 pub looked : {D : Type 0} {d : Ghosts D} (file : List ℕ) (r s : LogReader D d) (lines : List (List ℕ)) → IsPartOf file s → s.at ≡ r.at → s.count ≡ r.count → s.hasher ≡ r.hasher
     → HasReadLines file r lines → HasReadLines file s lines
 looked file r s lines part at count hasher read = record {
-    part = part;
-    count = count ∙ read.count;
-    at = at ∙ read.at;
-    read = read.read ∙ ap (λ (n : ℕ). hashed lines ++ lines_in (drop n file)) (sym at);
-    tail = read.tail ∙ ap (λ (n : ℕ). tail_in (drop n file)) (sym at);
-    text = subst (λ (h : Sha256). Holds256 h (text_of lines)) (sym hasher) read.text;
-  }
+  part = part;
+  count = count ∙ read.count;
+  at = at ∙ read.at;
+  read = read.read ∙ ap (λ (n : ℕ). hashed lines ++ lines_in (drop n file)) (sym at);
+  tail = read.tail ∙ ap (λ (n : ℕ). tail_in (drop n file)) (sym at);
+  text = subst (λ (h : Sha256). Holds256 h (text_of lines)) (sym hasher) read.text;
+}
 
 -- all lines were read
 pub read_all : {D : Type 0} {d : Ghosts D} (file : List ℕ) (r : LogReader D d) (lines : List (List ℕ)) → HasReadLines file r lines → lines_in (drop r.at file) ≡ [] → lines_in file ≡ hashed lines

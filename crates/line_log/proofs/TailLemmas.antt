@@ -1,11 +1,11 @@
 -- What follows the whole lines of a file.
-use Rattle.std.proofs.Common.{◌≡◌, ◌⊎◌, inl, inr, Bool, true, false, ℕ, zero, suc, ◌+◌, ◌<◌, ◌≤◌, List, [], ◌∷◌, ◌++◌, length, take, drop, refl, sym, ◌∙◌, ap, subst, arith, append_assoc}
+use Rattle.std.proofs.Common.{◌≡◌, ◌⊎◌, inl, inr, Bool, true, false, ℕ, suc, ◌+◌, ◌<◌, ◌≤◌, List, [], ◌∷◌, ◌++◌, length, take, drop, refl, sym, ◌∙◌, ap, subst, arith, append_assoc}
 use Rattle.std.proofs.lemmas.List.{append-nil}
 use Rattle.std.proofs.lemmas.Bool.{cases_eq}
 use Rattle.std.proofs.lemmas.Bool.Decides.{nat_tests}
-use Rattle.std.specs.Prelude.{◌≢◌, slice_index, ⊤}
+use Rattle.std.specs.Prelude.{◌≢◌, slice_index}
 use Rattle.std.specs.List.{AllByRecursion}
-use Rattle.line_log.specs.Lines.{lines_in, text_of, IsLogLine, IsLineFront}
+use Rattle.line_log.specs.Lines.{text_of, IsLogLine, IsLineFront}
 use Rattle.line_log.specs.Tails.{Tail, unbroken, broken_by, shut_by, tail_from, tail_in, MayEnd}
 use Rattle.line_log.specs.ReadingPrivate.{IsBreak}
 use Rattle.line_log.proofs.LineLemmas.{IsInside}

@@ -1,5 +1,5 @@
 -- What a reader of a log has read of its file.
-use Rattle.std.specs.Prelude.{◌≡◌, ℕ, ◌+◌, ◌<◌, ◌≤◌, List, ◌++◌, length, drop, slice_index}
+use Rattle.std.specs.Prelude.{◌≡◌, ℕ, ◌+◌, ◌<◌, List, ◌++◌, length, drop, slice_index}
 use Rattle.sqlite_disk.specs.declared.Disk.{Ghosts}
 use Rattle.sha2.specs.Hashers.{Holds256}
 use Rattle.line_log.specs.Lines.{lines_in, text_of}

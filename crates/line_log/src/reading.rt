@@ -126,7 +126,10 @@ impl<D: Disk> LogReader<D> {
     {
         let trimmed = self.trim(alloc);
         let LogReader {
-            disk, at, hasher, ..
+            disk,
+            at,
+            hasher,
+            ..
         } = self;
         match trimmed {
             Ok(()) => {

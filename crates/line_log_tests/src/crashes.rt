@@ -69,14 +69,45 @@ fn crash_twice(rt: &impl Abort, alloc: Global, mixes: bool, all: &[u8]) -> Resul
     for calls in 0..24 {
         for _ in 0..2 {
             let first = crash_at(alloc, b"", mixes, calls, &mut random)?;
-            let second = crash_at(alloc, &first.left, mixes, random.below(24) as u64, &mut random)?;
+            let second = crash_at(
+                alloc,
+                &first.left,
+                mixes,
+                random.below(24) as u64,
+                &mut random,
+            )?;
             let found = text_of_file(alloc, &first.left, mixes)?;
-            holds_at(rt, found.len() >= first.acknowledged, "what was acknowledged", calls);
-            holds_at(rt, all.starts_with(&found), "a beginning of the texts", calls);
+            holds_at(
+                rt,
+                found.len() >= first.acknowledged,
+                "what was acknowledged",
+                calls,
+            );
+            holds_at(
+                rt,
+                all.starts_with(&found),
+                "a beginning of the texts",
+                calls,
+            );
             let later = text_of_file(alloc, &second.left, mixes)?;
-            holds_at(rt, later.len() >= second.acknowledged, "what was acknowledged later", calls);
-            holds_at(rt, later.starts_with(&found), "what was found before", calls);
-            holds_at(rt, all.starts_with(&later), "a beginning of the texts", calls);
+            holds_at(
+                rt,
+                later.len() >= second.acknowledged,
+                "what was acknowledged later",
+                calls,
+            );
+            holds_at(
+                rt,
+                later.starts_with(&found),
+                "what was found before",
+                calls,
+            );
+            holds_at(
+                rt,
+                all.starts_with(&later),
+                "a beginning of the texts",
+                calls,
+            );
         }
     }
     Ok(())

@@ -46,7 +46,12 @@ fn a_changed_bit_is_found_in_each_byte(rt: HostRuntime) -> Result<(), Fail> {
     for at in 0..file.len() - 1 {
         let right = file[..at].iter().filter(|byte| **byte == b'\n').count();
         file[at] ^= 1;
-        holds_at(&rt, is_refused(rt.alloc(), &file, right)?, "a changed byte", at as u64);
+        holds_at(
+            &rt,
+            is_refused(rt.alloc(), &file, right)?,
+            "a changed byte",
+            at as u64,
+        );
         file[at] ^= 1;
     }
     holds(&rt, opens(rt.alloc(), &file)?, "the file as it was written");
@@ -58,11 +63,19 @@ fn missing_and_moved_lines_are_found(rt: HostRuntime) -> Result<(), Fail> {
     let file = written(rt.alloc())?;
     let (first, rest) = file.split_at(17 + 33);
     let (second, third) = rest.split_at(8 + 33);
-    for (lines, right) in [([second, third], 0), ([first, third], 1), ([third, first], 0)] {
+    for (lines, right) in [
+        ([second, third], 0),
+        ([first, third], 1),
+        ([third, first], 0),
+    ] {
         let mut changed = Vec::new(rt.alloc());
         changed.extend_from_slice(lines[0])?;
         changed.extend_from_slice(lines[1])?;
-        holds(&rt, is_refused(rt.alloc(), &changed, right)?, "a missing or moved line");
+        holds(
+            &rt,
+            is_refused(rt.alloc(), &changed, right)?,
+            "a missing or moved line",
+        );
     }
     Ok(())
 }

@@ -7,7 +7,8 @@ use std::process::Abort;
 use std::test::Fail;
 
 /// The first lines of a file with their hashes: those that `sha256sum` prints for the lines up to each.
-const FILE: &[u8] = b"{\"log\":\"regd 1\"} d285f3136c9b0730537ed2391065be20\n{\"n\":1} 5fb8711356ca3a9ed4a763e046d6aa35\n{\"n\":2} a1ff0a4567980499140dec83ec9ba48c\n";
+const FILE: &[u8] =
+    b"{\"log\":\"regd 1\"} d285f3136c9b0730537ed2391065be20\n{\"n\":1} 5fb8711356ca3a9ed4a763e046d6aa35\n{\"n\":2} a1ff0a4567980499140dec83ec9ba48c\n";
 /// The lines without hashes.
 const TEXT: &[u8] = b"{\"log\":\"regd 1\"}\n{\"n\":1}\n{\"n\":2}\n";
 
@@ -21,11 +22,23 @@ fn each_line_has_the_hash_of_all_lines_up_to_it(rt: HostRuntime) -> Result<(), F
     if !is_text(&TEXT[..17]) || !is_text(&TEXT[17..]) {
         return Err(Fail::from("no log"));
     }
-    holds(&rt, log.append(rt.alloc(), &TEXT[..17]).is_ok(), "the first line");
-    holds(&rt, log.append(rt.alloc(), &TEXT[17..]).is_ok(), "two lines at once");
+    holds(
+        &rt,
+        log.append(rt.alloc(), &TEXT[..17]).is_ok(),
+        "the first line",
+    );
+    holds(
+        &rt,
+        log.append(rt.alloc(), &TEXT[17..]).is_ok(),
+        "two lines at once",
+    );
     let bytes = log.file.disk.bytes();
     holds(&rt, bytes.starts_with(FILE), "the lines with their hashes");
-    holds(&rt, bytes[FILE.len()..].iter().all(|byte| *byte == b'\r'), "blanks behind the lines");
+    holds(
+        &rt,
+        bytes[FILE.len()..].iter().all(|byte| *byte == b'\r'),
+        "blanks behind the lines",
+    );
     let disk = TornDisk::new(rt.alloc(), bytes, true)?;
     let Ok((_, text)) = open_log(rt.alloc(), disk) else {
         return Err(Fail::from("no log"));

@@ -1,6 +1,5 @@
-use Rattle.std.proofs.Common.{rules, ◌≡◌, ◌<◌, ◌≤◌, List, ℕ, length, take, arith, sym, ◌∙◌, ap, subst}
+use Rattle.std.proofs.Common.{rules, arith, subst}
 use Rattle.std.proofs.lemmas.List.{take_all}
-use Rattle.std.specs.Prelude.{slice_index}
 use Rattle.line_log.specs.Lines.{IsLineFront}
 use Rattle.line_log.proofs.FirstLemmas.{begun_step, line_at, break_at}
 use Rattle.line_log.proofs.first_line.first_line.Goals as goal

@@ -1,4 +1,4 @@
-use Rattle.std.proofs.Common.{rules, ◌≡◌, ◌<◌, List, ℕ, length, arith, sym, subst}
+use Rattle.std.proofs.Common.{rules, ◌≡◌, arith, sym, subst}
 use Rattle.std.specs.List.{AllByRecursion}
 use Rattle.hex.specs.Hex.{IsBytes, encode_lower}
 use Rattle.line_log.proofs.LineLemmas.{IsInside}

@@ -1,4 +1,4 @@
-use Rattle.std.proofs.Common.{rules, ◌≡◌, List, ℕ, take, sym, ◌∙◌, ap}
+use Rattle.std.proofs.Common.{rules, ◌≡◌, List, ℕ, take, ◌∙◌, ap}
 use Rattle.sha2.specs.Sha256.{sha256}
 use Rattle.hex.specs.Hex.{encode_lower}
 use Rattle.line_log.specs.Hashes.{hash_of}

@@ -1,4 +1,4 @@
-use Rattle.std.proofs.Common.{rules, ◌≡◌, ◌++◌, ◌∷◌, [], List, ℕ, sym, ◌∙◌, ap, append_assoc}
+use Rattle.std.proofs.Common.{rules, ◌≡◌, ◌++◌, ◌∷◌, [], List, ℕ, ◌∙◌, ap, append_assoc}
 use Rattle.line_log.specs.Lines.{lines_in}
 use Rattle.line_log.proofs.DigitLemmas.{put_found, put_text}
 use Rattle.line_log.proofs.hashing.put_line.Goals as goal

@@ -1,4 +1,4 @@
-use Rattle.std.proofs.Common.{◌≡◌, ◌⊎◌, inl, inr, ℕ, List, [], sym, ◌∙◌}
+use Rattle.std.proofs.Common.{inl, inr, [], sym, ◌∙◌}
 use Rattle.line_log.proofs.HashLemmas.{hashed_same, no_wrong_line}
 use Rattle.line_log.proofs.laws.good_files.Goals as goal
 

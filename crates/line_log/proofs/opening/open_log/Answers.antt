@@ -1,7 +1,6 @@
-use Rattle.std.proofs.Common.{◌≡◌, [], ℕ, List, sym, ◌∙◌, ap, subst}
+use Rattle.std.proofs.Common.{ℕ, List, sym, ◌∙◌, ap, subst}
 use Rattle.line_log.specs.Lines.{lines_in}
 use Rattle.line_log.specs.Reading.{HasReadLines}
-use Rattle.line_log.proofs.RecoverLemmas.{kept_same}
 use Rattle.line_log.proofs.opening.open_log.Goals as goal
 
 pub returns-in_ok-log-in-Ok-clause-opened : goal.returns-in_ok-log-in-Ok-clause-opened

@@ -1,5 +1,4 @@
 use Rattle.std.proofs.Common.{rules, ◌≡◌, ◌++◌, ◌∷◌, [], ℕ, List, sym, ◌∙◌, ap, subst, append_assoc}
-use Rattle.line_log.specs.Lines.{text_of}
 use Rattle.line_log.specs.Reading.{HasReadLines}
 use Rattle.line_log.proofs.HashLemmas.{text_more}
 use Rattle.line_log.proofs.opening.read_text.Goals as goal

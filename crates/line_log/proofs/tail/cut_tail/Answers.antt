@@ -1,6 +1,5 @@
-use Rattle.std.proofs.Common.{◌≡◌, ◌+◌, ◌<◌, List, [], ◌∷◌, ℕ, length, refl, sym, ◌∙◌, ap, subst, arith, rules}
-use Rattle.std.specs.Prelude.{slice_index}
-use Rattle.sqlite_disk.specs.Disk.{Holds, Torn, Cut}
+use Rattle.std.proofs.Common.{◌+◌, List, ℕ, ◌∙◌, ap, subst, arith}
+use Rattle.sqlite_disk.specs.Disk.{Torn, Cut}
 use Rattle.line_log.specs.Lines.{lines_in}
 use Rattle.line_log.proofs.RecoverLemmas.{kept_cut, kept_last, blank_last, blank_rest}
 use Rattle.line_log.proofs.tail.cut_tail.Goals as goal
@@ -24,7 +23,7 @@ returns-in_err-write_at-clause-any_moment g c clean left may =
     let front = c.requires.front clean in
     let (before, was, torn) = c.write_at.ensures.crash left may in
     kept_last g.D.Disk.is_mixing f m left c.args.end front c.in_ok-set_len.ensures.len (λ i low. c.set_len.ensures.others.below i (omega (arith, front.within)) (omega arith))
-        (subst (λ (d : List ℕ). Torn c.args.end 1 d left) (c.in_ok-sync.ensures.durable before was) torn)
+    (subst (λ (d : List ℕ). Torn c.args.end 1 d left) (c.in_ok-sync.ensures.durable before was) torn)
 
 pub returns-in_err-sync-2-clause-any_moment : goal.returns-in_err-sync-2-clause-any_moment
 returns-in_err-sync-2-clause-any_moment g c clean left may =
@@ -33,7 +32,7 @@ returns-in_err-sync-2-clause-any_moment g c clean left may =
     let front = c.requires.front clean in
     let (before, was, torn) = c.write_at.ensures.crash left (c.sync-2.ensures.crash left may) in
     kept_last g.D.Disk.is_mixing f m left c.args.end front c.in_ok-set_len.ensures.len (λ i low. c.set_len.ensures.others.below i (omega (arith, front.within)) (omega arith))
-        (subst (λ (d : List ℕ). Torn c.args.end 1 d left) (c.in_ok-sync.ensures.durable before was) torn)
+    (subst (λ (d : List ℕ). Torn c.args.end 1 d left) (c.in_ok-sync.ensures.durable before was) torn)
 
 pub returns-clause-any_moment : goal.returns-clause-any_moment
 returns-clause-any_moment g c clean left may =
@@ -42,7 +41,7 @@ returns-clause-any_moment g c clean left may =
     let front = c.requires.front clean in
     let (before, was, torn) = c.write_at.ensures.crash left (c.sync-2.ensures.crash left may) in
     kept_last g.D.Disk.is_mixing f m left c.args.end front c.in_ok-set_len.ensures.len (λ i low. c.set_len.ensures.others.below i (omega (arith, front.within)) (omega arith))
-        (subst (λ (d : List ℕ). Torn c.args.end 1 d left) (c.in_ok-sync.ensures.durable before was) torn)
+    (subst (λ (d : List ℕ). Torn c.args.end 1 d left) (c.in_ok-sync.ensures.durable before was) torn)
 
 pub returns-clause-rest : goal.returns-clause-rest
 returns-clause-rest g c clean =

@@ -1,7 +1,5 @@
-use Rattle.std.proofs.Common.{rules, ◌≡◌, ◌<◌, ◌+◌, [], ◌∷◌, Bool, ℕ, List, length, arith, sym, ◌∙◌, ap, subst}
-use Rattle.std.specs.Prelude.{slice_index}
+use Rattle.std.proofs.Common.{[], ◌∷◌, ℕ, List, arith, subst}
 use Rattle.sqlite_disk.specs.Disk.{Torn, Mixed}
-use Rattle.line_log.specs.Lines.{lines_in, text_of}
 use Rattle.line_log.specs.Tails.{tail_in}
 use Rattle.line_log.proofs.TailLemmas.{either_end}
 use Rattle.line_log.proofs.RecoverLemmas.{begins, front_same, kept_same, mixed_gate_end, torn_gate_end, torn_gate_same}
@@ -19,8 +17,8 @@ returns-in_err-write_at-clause-any_moment g c clean left may =
       lines = torn_gate_same f c.args.end front left within gate torn_once;
       end = λ mixes kind. either_end mixes (tail_in f) (tail_in left)
           (λ is may_end.
-              let (old, was_old, mixed) = c.write_at.ensures.mixed (kind is c.args.disk.now) (omega (arith, c.requires.short)) left may in
-              mixed_gate_end f c.args.end front left within (subst (λ (d : List ℕ). Mixed c.args.end (13 ∷ []) d left) (c.requires.durable old was_old) mixed) may_end)
+          let (old, was_old, mixed) = c.write_at.ensures.mixed (kind is c.args.disk.now) (omega (arith, c.requires.short)) left may in
+          mixed_gate_end f c.args.end front left within (subst (λ (d : List ℕ). Mixed c.args.end (13 ∷ []) d left) (c.requires.durable old was_old) mixed) may_end)
           (λ may_end. torn_gate_end f c.args.end front left within gate torn_once may_end);
     }
 
@@ -36,8 +34,8 @@ returns-in_err-sync-clause-any_moment g c clean left may =
       lines = torn_gate_same f c.args.end front left within gate torn_once;
       end = λ mixes kind. either_end mixes (tail_in f) (tail_in left)
           (λ is may_end.
-              let (old, was_old, mixed) = c.write_at.ensures.mixed (kind is c.args.disk.now) (omega (arith, c.requires.short)) left (c.sync.ensures.crash left may) in
-              mixed_gate_end f c.args.end front left within (subst (λ (d : List ℕ). Mixed c.args.end (13 ∷ []) d left) (c.requires.durable old was_old) mixed) may_end)
+          let (old, was_old, mixed) = c.write_at.ensures.mixed (kind is c.args.disk.now) (omega (arith, c.requires.short)) left (c.sync.ensures.crash left may) in
+          mixed_gate_end f c.args.end front left within (subst (λ (d : List ℕ). Mixed c.args.end (13 ∷ []) d left) (c.requires.durable old was_old) mixed) may_end)
           (λ may_end. torn_gate_end f c.args.end front left within gate torn_once may_end);
     }
 
@@ -53,8 +51,8 @@ returns-in_ok-sync-clause-any_moment g c clean left may =
       lines = torn_gate_same f c.args.end front left within gate torn_once;
       end = λ mixes kind. either_end mixes (tail_in f) (tail_in left)
           (λ is may_end.
-              let (old, was_old, mixed) = c.write_at.ensures.mixed (kind is c.args.disk.now) (omega (arith, c.requires.short)) left (c.sync.ensures.crash left may) in
-              mixed_gate_end f c.args.end front left within (subst (λ (d : List ℕ). Mixed c.args.end (13 ∷ []) d left) (c.requires.durable old was_old) mixed) may_end)
+          let (old, was_old, mixed) = c.write_at.ensures.mixed (kind is c.args.disk.now) (omega (arith, c.requires.short)) left (c.sync.ensures.crash left may) in
+          mixed_gate_end f c.args.end front left within (subst (λ (d : List ℕ). Mixed c.args.end (13 ∷ []) d left) (c.requires.durable old was_old) mixed) may_end)
           (λ may_end. torn_gate_end f c.args.end front left within gate torn_once may_end);
     }
 

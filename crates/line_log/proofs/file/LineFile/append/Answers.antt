@@ -1,4 +1,4 @@
-use Rattle.std.proofs.Common.{◌≡◌, ◌++◌, Bool, ℕ, List, sym, subst}
+use Rattle.std.proofs.Common.{◌++◌, ℕ, List, sym, subst}
 use Rattle.std.specs.Prelude.{IsTrue}
 use Rattle.line_log.specs.Lines.{lines_in}
 use Rattle.line_log.specs.Log.{IsCrashed}
@@ -12,4 +12,4 @@ returns-in_err-make_room-clause-any_moment g c clean mixes kind left may =
 pub returns-clause-any_moment : goal.returns-clause-any_moment
 returns-clause-any_moment g c clean mixes kind left may =
     subst (λ (l : List (List ℕ)). IsCrashed mixes l (l ++ lines_in c.args.text.now) left) (c.in_ok-make_room.ensures.same clean)
-        (c.write.ensures.any_moment (subst IsTrue (sym c.make_room.ensures.clean) clean) mixes kind left may)
+    (c.write.ensures.any_moment (subst IsTrue (sym c.make_room.ensures.clean) clean) mixes kind left may)

@@ -1,4 +1,4 @@
-use Rattle.std.proofs.Common.{rules, ◌≡◌, ◌<◌, ◌+◌, ℕ, List, length, arith, sym, ◌∙◌, ap, subst}
+use Rattle.std.proofs.Common.{◌≡◌, ◌+◌, ℕ, List, length, arith, ◌∙◌, ap, subst}
 use Rattle.std.specs.Prelude.{slice_index}
 use Rattle.std.proofs.lemmas.List.{get_or-replicate, length-replicate}
 use Rattle.sqlite_disk.specs.Disk.{Torn, Holds}
@@ -43,7 +43,7 @@ returns-clause-synced g c clean =
     let torn = subst (λ (k : ℕ). Torn k (length b) f n) s.len c.write_at.ensures.others in
     let holds = subst (λ (k : ℕ). Holds n k b) s.len (c.in_ok-write_at.ensures.written (omega (arith, long))) in
     let done = rest_with_room f c.args.self.now.end s.rest b n (omega (arith, c.args.self.now.room, s.len)) torn holds
-        (λ i low. ap (λ (l : List ℕ). slice_index l i) b_is ∙ get_or-replicate (c.args.count + 262144) i 13 0 (omega (arith, low, long))) in
+    (λ i low. ap (λ (l : List ℕ). slice_index l i) b_is ∙ get_or-replicate (c.args.count + 262144) i 13 0 (omega (arith, low, long))) in
     record {
       rest = rw c.sync.ensures.seen (done.0);
       len = rw c.sync.ensures.seen (omega (arith, s.len, done.1, c.len.ensures, ap length c.deref.ensures.value));

@@ -1,4 +1,4 @@
-use Rattle.std.proofs.Common.{◌≡◌, ◌<◌, ◌++◌, ℕ, List, length, arith}
+use Rattle.std.proofs.Common.{arith}
 use Rattle.line_log.specs.Lines.{lines_in}
 use Rattle.line_log.proofs.StepLemmas.{at_rest, none_new}
 use Rattle.line_log.proofs.file.LineFile.write.Goals as goal

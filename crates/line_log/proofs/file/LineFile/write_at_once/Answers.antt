@@ -1,5 +1,5 @@
-use Rattle.std.proofs.Common.{◌≡◌, ◌+◌, ◌<◌, List, ℕ, length, refl, sym, ◌∙◌, ap, subst, arith, rules}
-use Rattle.sqlite_disk.specs.Disk.{Holds, Torn, Mixed}
+use Rattle.std.proofs.Common.{List, ℕ, subst, arith}
+use Rattle.sqlite_disk.specs.Disk.{Mixed}
 use Rattle.line_log.proofs.StepLemmas.{mixed_between, held_rest}
 use Rattle.line_log.proofs.file.LineFile.write_at_once.Goals as goal
 

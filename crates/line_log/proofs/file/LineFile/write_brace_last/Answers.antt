@@ -1,7 +1,7 @@
-use Rattle.std.proofs.Common.{rules, ◌≡◌, false, ◌<◌, ◌+◌, ◌-◌, ℕ, List, length, take, arith, sym, ◌∙◌, ap, subst, length-take}
+use Rattle.std.proofs.Common.{rules, ◌≡◌, false, ◌<◌, ◌+◌, ◌-◌, ℕ, List, length, take, arith, ◌∙◌, ap, subst, length-take}
 use Rattle.std.specs.Prelude.{slice_index, slice_range}
 use Rattle.std.proofs.lemmas.List.{places, get_or-take}
-use Rattle.sqlite_disk.specs.Disk.{Torn, Holds}
+use Rattle.sqlite_disk.specs.Disk.{Torn}
 use Rattle.line_log.specs.Lines.{lines_in}
 use Rattle.line_log.proofs.StepLemmas.{none_new, torn_behind, gate_between, gate_rest}
 use Rattle.line_log.proofs.file.LineFile.write_brace_last.Goals as goal
@@ -47,7 +47,7 @@ returns-in_err-write_at-2-clause-any_moment g c clean left may =
     let m = g.D.Disk.seen c.write_at.new.self in
     let (before, was, step) = c.write_at-2.ensures.crash left may in
     gate_between f end s.rest t c.requires.text (omega (arith, c.requires.room, s.len)) c.requires.some (slice_range t 1 (length t)) (shorter t c.requires.some) (part t c.requires.some)
-        m c.write_at.ensures.others c.in_ok-write_at.ensures.written left (length (take 1 t)) (one t c.requires.some) (rw (c.in_ok-sync.ensures.durable before was) at step)
+    m c.write_at.ensures.others c.in_ok-write_at.ensures.written left (length (take 1 t)) (one t c.requires.some) (rw (c.in_ok-sync.ensures.durable before was) at step)
 
 pub returns-in_err-sync-2-clause-any_moment : goal.returns-in_err-sync-2-clause-any_moment
 returns-in_err-sync-2-clause-any_moment g c clean left may =
@@ -58,7 +58,7 @@ returns-in_err-sync-2-clause-any_moment g c clean left may =
     let m = g.D.Disk.seen c.write_at.new.self in
     let (before, was, step) = c.write_at-2.ensures.crash left (c.sync-2.ensures.crash left may) in
     gate_between f end s.rest t c.requires.text (omega (arith, c.requires.room, s.len)) c.requires.some (slice_range t 1 (length t)) (shorter t c.requires.some) (part t c.requires.some)
-        m c.write_at.ensures.others c.in_ok-write_at.ensures.written left (length (take 1 t)) (one t c.requires.some) (rw (c.in_ok-sync.ensures.durable before was) at step)
+    m c.write_at.ensures.others c.in_ok-write_at.ensures.written left (length (take 1 t)) (one t c.requires.some) (rw (c.in_ok-sync.ensures.durable before was) at step)
 
 pub returns-clause-any_moment : goal.returns-clause-any_moment
 returns-clause-any_moment g c clean left may =
@@ -69,7 +69,7 @@ returns-clause-any_moment g c clean left may =
     let m = g.D.Disk.seen c.write_at.new.self in
     let (before, was, step) = c.write_at-2.ensures.crash left (c.sync-2.ensures.crash left may) in
     gate_between f end s.rest t c.requires.text (omega (arith, c.requires.room, s.len)) c.requires.some (slice_range t 1 (length t)) (shorter t c.requires.some) (part t c.requires.some)
-        m c.write_at.ensures.others c.in_ok-write_at.ensures.written left (length (take 1 t)) (one t c.requires.some) (rw (c.in_ok-sync.ensures.durable before was) at step)
+    m c.write_at.ensures.others c.in_ok-write_at.ensures.written left (length (take 1 t)) (one t c.requires.some) (rw (c.in_ok-sync.ensures.durable before was) at step)
 
 pub returns-clause-synced : goal.returns-clause-synced
 returns-clause-synced g c clean =
@@ -82,7 +82,7 @@ returns-clause-synced g c clean =
     let first = c.write_at.ensures.others in
     let step = subst (λ (d : List ℕ). Torn end (length (take 1 t)) d n) c.sync.ensures.seen c.write_at-2.ensures.others in
     let done = gate_rest f end s.rest t c.requires.text (omega (arith, c.requires.room, s.len)) c.requires.some (slice_range t 1 (length t)) (shorter t c.requires.some) (part t c.requires.some)
-        m first c.in_ok-write_at.ensures.written n (take 1 t) (one t c.requires.some) (get_or-take 1 t 0 0 (omega arith)) step (c.in_ok-write_at-2.ensures.written (omega (arith, one t c.requires.some))) in
+    m first c.in_ok-write_at.ensures.written n (take 1 t) (one t c.requires.some) (get_or-take 1 t 0 0 (omega arith)) step (c.in_ok-write_at-2.ensures.written (omega (arith, one t c.requires.some))) in
     record {
       rest = rw c.sync-2.ensures.seen (done.0);
       len = rw c.sync-2.ensures.seen (omega (arith, s.len, first.no_shorter, first.no_longer, step.no_shorter, step.no_longer, c.requires.room, c.requires.some, shorter t c.requires.some, one t c.requires.some));
@@ -99,5 +99,5 @@ returns-clause-added g c clean =
     let n = g.D.Disk.seen c.write_at-2.new.self in
     let step = subst (λ (d : List ℕ). Torn end (length (take 1 t)) d n) c.sync.ensures.seen c.write_at-2.ensures.others in
     let done = gate_rest f end s.rest t c.requires.text (omega (arith, c.requires.room, s.len)) c.requires.some (slice_range t 1 (length t)) (shorter t c.requires.some) (part t c.requires.some)
-        m c.write_at.ensures.others c.in_ok-write_at.ensures.written n (take 1 t) (one t c.requires.some) (get_or-take 1 t 0 0 (omega arith)) step (c.in_ok-write_at-2.ensures.written (omega (arith, one t c.requires.some))) in
+    m c.write_at.ensures.others c.in_ok-write_at.ensures.written n (take 1 t) (one t c.requires.some) (get_or-take 1 t 0 0 (omega arith)) step (c.in_ok-write_at-2.ensures.written (omega (arith, one t c.requires.some))) in
     rw c.sync-2.ensures.seen (done.1)

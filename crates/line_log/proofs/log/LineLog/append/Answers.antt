@@ -1,4 +1,4 @@
-use Rattle.std.proofs.Common.{◌≡◌, ◌++◌, ◌<◌, [], Bool, ℕ, List, length, arith, sym, ◌∙◌, ap, subst}
+use Rattle.std.proofs.Common.{◌≡◌, ◌++◌, [], ℕ, List, arith, sym, ◌∙◌, ap, subst}
 use Rattle.sha2.specs.Hashers.{Holds256}
 use Rattle.line_log.specs.Lines.{lines_in, text_of}
 use Rattle.line_log.specs.Hashes.{hashed, hashed_after}

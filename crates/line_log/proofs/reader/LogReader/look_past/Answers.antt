@@ -1,4 +1,4 @@
-use Rattle.std.proofs.Common.{◌≡◌, [], ℕ, List, drop, subst}
+use Rattle.std.proofs.Common.{◌≡◌, [], ℕ, drop, subst}
 use Rattle.line_log.specs.Lines.{lines_in}
 use Rattle.line_log.specs.ReadingPrivate.{Tells}
 use Rattle.line_log.proofs.ReadLemmas.{none_part, none_broken}

@@ -1,4 +1,4 @@
-use Rattle.std.proofs.Common.{◌≡◌, ◌⊎◌, inl, inr, ◌+◌, [], ℕ, List, drop, sym, ◌∙◌, ap, subst}
+use Rattle.std.proofs.Common.{◌≡◌, inr, [], ℕ, List, drop, sym, ◌∙◌, subst}
 use Rattle.std.specs.Prelude.{IsTrue}
 use Rattle.line_log.specs.Lines.{lines_in}
 use Rattle.line_log.specs.Tails.{tail_in, MayEnd}
@@ -39,7 +39,7 @@ returns-else-not-is_torn-clause-end g c none clean lines has =
     let tells = subst (Tells s) c.in-Broken.is c.in_ok-len.ensures.tells in
     let torn = c.is_torn.ensures.torn c.if-not-is_torn.false in
     subst (MayEnd mixes) (sym has.tail)
-        (subst (λ (n : ℕ). MayEnd mixes (tail_in (drop n file))) c.look.ensures.at (end_torn file s (c.look.ensures.part clean has.part) mixes c.in-Broken.len tells torn))
+    (subst (λ (n : ℕ). MayEnd mixes (tail_in (drop n file))) c.look.ensures.at (end_torn file s (c.look.ensures.part clean has.part) mixes c.in-Broken.len tells torn))
 
 pub returns-then-not-is_torn-clause-justified : goal.returns-then-not-is_torn-clause-justified
 returns-then-not-is_torn-clause-justified g c clean lines has =
@@ -68,25 +68,25 @@ returns-in_err-len-clause-justified g c =
     let file = g.D.Disk.seen c.args.self.now.disk in
     let disk = c.look.new.self.disk in
     of_error c.from_residual.result
-        (λ (e : LogError). IsTrue (g.D.Disk.is_clean disk) → (lines : List (List ℕ)) → HasReadLines file c.args.self.now lines → JustifiesError (g.D.Disk.is_mixing disk) file lines e)
-        c.in_err-len.field-0.0 c.from_residual.ensures.1
-        (λ clean lines has. look_justified (g.D.Disk.is_mixing disk) file c.args.self.now lines c.in_err-len.field-0.0 has (c.in_err-len.ensures.fault clean has.part))
+    (λ (e : LogError). IsTrue (g.D.Disk.is_clean disk) → (lines : List (List ℕ)) → HasReadLines file c.args.self.now lines → JustifiesError (g.D.Disk.is_mixing disk) file lines e)
+    c.in_err-len.field-0.0 c.from_residual.ensures.1
+    (λ clean lines has. look_justified (g.D.Disk.is_mixing disk) file c.args.self.now lines c.in_err-len.field-0.0 has (c.in_err-len.ensures.fault clean has.part))
 
 pub returns-in_err-take-in-Whole-clause-justified : goal.returns-in_err-take-in-Whole-clause-justified
 returns-in_err-take-in-Whole-clause-justified g c =
     let file = g.D.Disk.seen c.args.self.now.disk in
     let disk = c.take.new.self.disk in
     of_error c.from_residual-in_err-take-in-Whole.result
-        (λ (e : LogError). IsTrue (g.D.Disk.is_clean disk) → (lines : List (List ℕ)) → HasReadLines file c.args.self.now lines → JustifiesError (g.D.Disk.is_mixing disk) file lines e)
-        c.in_err-take-in-Whole.field-0.0 c.from_residual-in_err-take-in-Whole.ensures.1
-        (λ clean lines has.
-            let before = subst (λ d. IsTrue (g.D.Disk.is_clean d)) c.take.ensures.disk clean in
-            c.in_err-take-in-Whole.ensures.justified (g.D.Disk.is_mixing disk) lines file
-                (looked file c.args.self.now c.look.new.self lines (c.look.ensures.part before has.part) c.look.ensures.at c.look.ensures.count c.look.ensures.hasher has))
+    (λ (e : LogError). IsTrue (g.D.Disk.is_clean disk) → (lines : List (List ℕ)) → HasReadLines file c.args.self.now lines → JustifiesError (g.D.Disk.is_mixing disk) file lines e)
+    c.in_err-take-in-Whole.field-0.0 c.from_residual-in_err-take-in-Whole.ensures.1
+    (λ clean lines has.
+    let before = subst (λ d. IsTrue (g.D.Disk.is_clean d)) c.take.ensures.disk clean in
+    c.in_err-take-in-Whole.ensures.justified (g.D.Disk.is_mixing disk) lines file
+    (looked file c.args.self.now c.look.new.self lines (c.look.ensures.part before has.part) c.look.ensures.at c.look.ensures.count c.look.ensures.hasher has))
 
 pub returns-in_ok-take-in-Whole-clause-next : goal.returns-in_ok-take-in-Whole-clause-next
 returns-in_ok-take-in-Whole-clause-next g c any clean lines has =
     let file = g.D.Disk.seen c.args.self.now.disk in
     let before = subst (λ d. IsTrue (g.D.Disk.is_clean d)) c.take.ensures.disk clean in
     c.in_ok-take-in-Whole.ensures.taken lines file
-        (looked file c.args.self.now c.look.new.self lines (c.look.ensures.part before has.part) c.look.ensures.at c.look.ensures.count c.look.ensures.hasher has)
+    (looked file c.args.self.now c.look.new.self lines (c.look.ensures.part before has.part) c.look.ensures.at c.look.ensures.count c.look.ensures.hasher has)

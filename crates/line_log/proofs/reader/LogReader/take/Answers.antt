@@ -1,6 +1,5 @@
-use Rattle.std.proofs.Common.{rules, ◌≡◌, ◌⊎◌, inl, inr, Bool, ◌+◌, ◌<◌, ◌≤◌, ◌++◌, ◌∷◌, [], ℕ, List, length, take, drop, arith, sym, ◌∙◌, ap, subst, append_assoc, length-append, length-drop}
+use Rattle.std.proofs.Common.{rules, ◌≡◌, inl, Bool, ◌+◌, ◌++◌, ◌∷◌, [], ℕ, List, length, take, drop, arith, sym, ◌∙◌, ap, subst, append_assoc, length-append}
 use Rattle.std.proofs.lemmas.List.{length-take-le}
-use Rattle.std.specs.Prelude.{◌≢◌, slice_index}
 use Rattle.sha2.specs.Hashers.{Holds256}
 use Rattle.line_log.specs.Lines.{lines_in, text_of}
 use Rattle.line_log.specs.Hashes.{hashed, hashed_line}
@@ -52,4 +51,4 @@ returns-then-not-is_right-clause-justified g c mixes lines file read =
 pub returns-in_err-is_right-clause-justified : goal.returns-in_err-is_right-clause-justified
 returns-in_err-is_right-clause-justified g c =
     of_error c.from_residual.result (λ (e : LogError). (mixes : Bool) → (lines : List (List ℕ)) → (file : List ℕ) → HasReadLines file c.args.self.now lines → JustifiesError mixes file lines e)
-        NoMemory c.from_residual.ensures.1 (λ mixes lines file read. tt)
+    NoMemory c.from_residual.ensures.1 (λ mixes lines file read. tt)

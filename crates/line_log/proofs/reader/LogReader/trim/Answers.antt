@@ -1,4 +1,4 @@
-use Rattle.std.proofs.Common.{rules, ◌≡◌, ◌<◌, ◌+◌, [], Bool, false, ℕ, List, length, drop, arith, sym, ◌∙◌, ap, subst}
+use Rattle.std.proofs.Common.{◌≡◌, ◌<◌, ℕ, List, length, sym, ◌∙◌, ap, subst}
 use Rattle.std.proofs.lemmas.Bool.{false≢true}
 use Rattle.std.proofs.lemmas.Bool.Decides.{Decides-eqb}
 use Rattle.std.specs.Prelude.{◌≢◌, IsTrue, slice_index}
@@ -41,7 +41,7 @@ shut_tail-requires-clause-shut g c clean is_shut =
     let (lines, has) = c.requires.read (c.look_past.ensures.clean clean) in
     let other : slice_index (held_by s) 0 ≢ 123 = λ e. false≢true (sym is_shut ∙ c.begins_line-is_open.ensures ∙ (Decides-eqb (slice_index (held_by s) 0) 123).1 e) in
     subst (λ (f : List ℕ). IsShutAt f s.at) (sym c.look_past.ensures.seen)
-        (λ (within : s.at < length file). shut_gate file s (c.look_past.ensures.part clean has.part) (c.in_ok-look_past.ensures.held clean has.part within) other)
+    (λ (within : s.at < length file). shut_gate file s (c.look_past.ensures.part clean has.part) (c.in_ok-look_past.ensures.held clean has.part within) other)
 
 pub cut_tail-requires-clause-front : goal.cut_tail-requires-clause-front
 cut_tail-requires-clause-front g c clean =
@@ -68,7 +68,7 @@ returns-in_err-cut_tail-clause-any_moment g c clean left may =
     let between = subst IsTrue c.cut_tail.ensures.clean clean in
     let kept = c.shut_tail.ensures.any_moment (subst IsTrue c.shut_tail.ensures.clean between) (g.D.Disk.seen d) (g.met.D.Disk.seen_may_stay d) in
     subst (λ (f : List ℕ). KeepsLines g.D.Disk.is_mixing f left) c.look_past.ensures.seen
-        (kept_on g.D.Disk.is_mixing (g.D.Disk.seen c.look_past.new.self.disk) (g.D.Disk.seen d) left kept (c.cut_tail.ensures.any_moment between left may))
+    (kept_on g.D.Disk.is_mixing (g.D.Disk.seen c.look_past.new.self.disk) (g.D.Disk.seen d) left kept (c.cut_tail.ensures.any_moment between left may))
 
 pub returns-clause-any_moment : goal.returns-clause-any_moment
 returns-clause-any_moment g c clean left may =
@@ -76,7 +76,7 @@ returns-clause-any_moment g c clean left may =
     let between = subst IsTrue c.cut_tail.ensures.clean clean in
     let kept = c.shut_tail.ensures.any_moment (subst IsTrue c.shut_tail.ensures.clean between) (g.D.Disk.seen d) (g.met.D.Disk.seen_may_stay d) in
     subst (λ (f : List ℕ). KeepsLines g.D.Disk.is_mixing f left) c.look_past.ensures.seen
-        (kept_on g.D.Disk.is_mixing (g.D.Disk.seen c.look_past.new.self.disk) (g.D.Disk.seen d) left kept (c.cut_tail.ensures.any_moment between left may))
+    (kept_on g.D.Disk.is_mixing (g.D.Disk.seen c.look_past.new.self.disk) (g.D.Disk.seen d) left kept (c.cut_tail.ensures.any_moment between left may))
 
 pub returns-clause-rest : goal.returns-clause-rest
 returns-clause-rest g c clean =
