@@ -7,3 +7,4 @@ pub mod TailLemmas
 pub mod HashLemmas
 pub mod ReadLemmas
 pub mod DigitLemmas
+pub mod RestartLemmas

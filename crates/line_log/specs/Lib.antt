@@ -6,3 +6,4 @@ pub mod Damage
 pub mod Reading
 pub mod ReadingPrivate
 pub mod Laws
+pub mod Restarts

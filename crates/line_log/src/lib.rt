@@ -10,16 +10,16 @@
 //!   Its file is a [`LineFile`].
 //! - [`open_log`] does both for a log whose text fits into memory; [`is_text`] tests whether bytes are whole lines.
 //! - [`LogError`] says why a call failed.
-//! - [`good_files`] states theorems about the definitions.
+//! - [`good_files`] states theorems about the definitions; [`reopened`] is one about runs, crashes and restarts ([`Restarts`]).
 //!
 //! The definitions are in `specs/`: `Lines` has the lines of a file, `Hashes` their hashes and what a crash may leave, `Tails` what may
 //! follow the lines, `Log` when a file is at rest and which lines an open log has, `Reading` what a reader has read, `Damage` when it
-//! may report damage, `Laws` the theorems. `ReadingPrivate` is for this crate's own contracts.
+//! may report damage, `Laws` the theorems, `Restarts` what survives crashes. `ReadingPrivate` is for this crate's own contracts.
 //!
 //! - `log`, `file`, `reader`: the types; `error`: their error.
 //! - `appending`, `hashing`: lines get their hashes and are added; `writing`: bytes are written so that a crash leaves whole lines.
 //! - `reading`, `first_line`: a file is read line by line; `tail`: it gets its end back; `opening`: a log is opened and read whole.
-//! - `laws`: theorems about the definitions.
+//! - `laws`: theorems about the definitions; `restart`: the theorem on crashes and restarts.
 //!
 //! `docs/GLOSSARY.md` explains the terms.
 #![tactic(auto)]
@@ -34,6 +34,7 @@ mod log;
 mod opening;
 mod reader;
 mod reading;
+mod restart;
 mod tail;
 mod writing;
 
@@ -44,3 +45,4 @@ pub use laws::good_files;
 pub use log::LineLog;
 pub use opening::open_log;
 pub use reader::LogReader;
+pub use restart::{Restarts, reopened};

@@ -42,6 +42,7 @@ pub fn open_log<D: Disk>(alloc: Global, disk: D) -> Result<(LineLog<D>, Vec<u8>)
     requires durable { Only (D.Disk.seen disk) (D.Disk.may_leave disk) }
     ensures usable { IfOk result (λ r. IsTrue (D.Disk.is_usable r.0.file.disk)) }
     ensures clean { IfOk result (λ r. IsTrue (D.Disk.is_clean r.0.file.disk) → IsTrue (D.Disk.is_clean disk)) }
+    ensures clean_err { IfErr result (λ e. IsTrue (D.Disk.is_clean e.1) → IsTrue (D.Disk.is_clean disk)) }
     ensures synced { IfOk result (λ r. IsTrue (D.Disk.is_clean r.0.file.disk) → IsSynced D.Disk.seen D.Disk.may_leave r.0.file) }
     ensures opened { IfOk result (λ r. IsTrue (D.Disk.is_clean r.0.file.disk) → (lines : List (List ℕ)) × HasLines D.Disk.seen D.Disk.may_leave r.0 lines × (lines_in (D.Disk.seen disk) ≡ hashed lines) × (r.1.items ≡ text_of lines)) }
     ensures any_moment { IfOk result (λ r. IsTrue (D.Disk.is_clean r.0.file.disk) → (c : List ℕ) → D.Disk.may_leave r.0.file.disk c → KeepsLines D.Disk.is_mixing (D.Disk.seen disk) c) }

@@ -55,6 +55,7 @@ impl<D: Disk> LogReader<D> {
         requires usable { IsTrue (D.Disk.is_usable disk) }
         ensures usable { IfOk result (λ r. IsTrue (D.Disk.is_usable r.disk)) }
         ensures clean { IfOk result (λ r. IsTrue (D.Disk.is_clean r.disk) → IsTrue (D.Disk.is_clean disk)) }
+        ensures clean_err { IfErr result (λ e. IsTrue (D.Disk.is_clean e.1) → IsTrue (D.Disk.is_clean disk)) }
         ensures seen { IfOk result (λ r. D.Disk.seen r.disk ≡ D.Disk.seen disk) }
         ensures crash { IfOk result (λ r. (c : List ℕ) → D.Disk.may_leave r.disk c → D.Disk.may_leave disk c) }
         ensures crash_err { IfErr result (λ e. (c : List ℕ) → D.Disk.may_leave e.1 c → D.Disk.may_leave disk c) }

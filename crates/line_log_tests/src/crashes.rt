@@ -1,10 +1,13 @@
 //! Does a log keep what it acknowledged, and nothing but a beginning of the rest, over a crash at each call of the disk?
 
+ghost use Rattle.std.specs.Prelude.{IsTrue};
+ghost use Rattle.line_log.specs.Log.{IsSynced};
+
 use crate::random::Random;
 use crate::torn_disk::TornDisk;
 use crate::wanted::holds_at;
-use line_log::{is_text, open_log};
-use sqlite_disk::Fuse;
+use line_log::{LineLog, is_text, open_log};
+use sqlite_disk::{Disk, Fuse};
 use std::alloc::{AllocError, Global};
 use std::process::Abort;
 use std::test::Fail;
@@ -24,6 +27,26 @@ struct Run {
     left: Vec<u8>,
 }
 
+/// Adds the texts that a log lacks, of whose text so many bytes were found, until a call fails. Returns the length of the texts that it has
+/// acknowledged.
+fn add<D: Disk>(alloc: Global, log: &mut LineLog<D>, found: usize) -> usize
+    requires usable { IsTrue (D.Disk.is_usable log.old.file.disk) }
+    requires synced { IsTrue (D.Disk.is_clean log.old.file.disk) → IsSynced D.Disk.seen D.Disk.may_leave log.old.file }
+{
+    let mut acknowledged = found;
+    let mut end: usize = 0;
+    'texts: for text in TEXTS {
+        end = end.saturating_add(text.len());
+        if end > found && is_text(text) {
+            if log.append(alloc, text).is_err() {
+                return acknowledged;
+            }
+            acknowledged = end;
+        }
+    }
+    acknowledged
+}
+
 /// Opens a file on a disk that stops after this number of calls, adds the texts that it lacks, and crashes.
 fn crash_at(
     alloc: Global,
@@ -33,23 +56,13 @@ fn crash_at(
     random: &mut Random,
 ) -> Result<Run, AllocError> {
     let disk = Fuse::new(TornDisk::new(alloc, file, mixes)?, calls);
-    let mut acknowledged = 0;
-    let disk = match open_log(alloc, disk) {
+    let (acknowledged, disk) = match open_log(alloc, disk) {
         Ok((mut log, text)) => {
-            acknowledged = text.len();
-            let mut end = 0;
-            for text in TEXTS {
-                end += text.len();
-                if end > acknowledged && is_text(text) {
-                    if log.append(alloc, text).is_err() {
-                        break;
-                    }
-                    acknowledged = end;
-                }
-            }
-            log.file.disk
+            let acknowledged = add(alloc, &mut log, text.len());
+            let LineLog { file, .. } = log;
+            (acknowledged, file.disk)
         }
-        Err((_, disk)) => disk,
+        Err((_, disk)) => (0, disk),
     };
     let left = disk.inner().after_crash(alloc, random)?;
     Ok(Run { acknowledged, left })

@@ -1,6 +1,6 @@
 //! A disk in memory of which a crash keeps a random part of what was written since the last sync.
 
-ghost use Rattle.std.specs.Prelude.{◌≡◌, length, true, false, refl, is_ok, IfOk, OnOk};
+ghost use Rattle.std.specs.Prelude.{◌≡◌, length, true, false, refl, is_ok, IfOk, IsTrue, OnOk};
 ghost use Rattle.sqlite_disk.specs.Disk.{CountsFault, Cut, Holds, Mixed, Torn};
 ghost use Rattle.sqlite_disk.specs.Refusal.{finds_no_room};
 
@@ -28,7 +28,9 @@ pub struct TornDisk {
 
 impl TornDisk {
     /// Returns a disk whose file has these bytes.
-    pub fn new(alloc: Global, bytes: &[u8], mixes: bool) -> Result<TornDisk, AllocError> {
+    pub fn new(alloc: Global, bytes: &[u8], mixes: bool) -> Result<TornDisk, AllocError>
+        ensures { IfOk result (λ disk. IsTrue disk.is_usable) }
+    {
         Ok(TornDisk {
             bytes: copy_of(alloc, bytes)?,
             synced: copy_of(alloc, bytes)?,
