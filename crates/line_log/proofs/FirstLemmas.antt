@@ -1,6 +1,7 @@
 -- What bytes begin with, and their lines.
-use Rattle.std.proofs.Common.{◌≡◌, ℕ, zero, suc, ◌+◌, ◌<◌, ◌≤◌, List, [], ◌∷◌, ◌++◌, length, take, drop, refl, sym, ◌∙◌, ap, subst, arith, append_assoc, length-append}
-use Rattle.std.proofs.lemmas.List.{append-nil, take_more, length-take-le}
+use Rattle.std.proofs.Common.{◌≡◌, inl, inr, ℕ, zero, suc, ◌+◌, ◌<◌, ◌≤◌, List, [], ◌∷◌, ◌++◌, length, take, drop, refl, sym, ◌∙◌, ap, subst, arith, append_assoc, length-append, length-drop}
+use Rattle.std.proofs.lemmas.Bool.{cases_lt}
+use Rattle.std.proofs.lemmas.List.{append-nil, append_cancel_left, take_more, length-take-le}
 use Rattle.std.specs.Prelude.{◌≢◌, slice_index}
 use Rattle.std.specs.List.{AllByRecursion}
 use Rattle.line_log.specs.Lines.{lines_from, lines_in, text_of, IsLogLine, IsLineFront}
@@ -116,3 +117,39 @@ module _ (text rest : List ℕ) (ls : List (List ℕ)) (is : text ≡ text_of ls
 
   pub none_left : lines_in rest ≡ [] → text_of (lines_in text) ≡ text → length rest ≡ 0
   none_left none whole = omega (arith, ap length is, length-append (text_of ls) rest, ap length whole, ap (λ (l : List (List ℕ)). length (text_of l)) (text_ended none))
+
+-- ---- a text of one line
+
+no_lines : (l : List (List ℕ)) → length l ≡ 0 → l ≡ []
+no_lines [] none = refl
+no_lines (x ∷ l) none = absurd (omega arith)
+
+tail_same : {x : ℕ} {s t : List ℕ} → x ∷ s ≡ x ∷ t → s ≡ t
+tail_same e = cc
+
+lines_some : (rest : List ℕ) → text_of (lines_in rest) ≡ rest → 0 < length rest → 0 < length (lines_in rest)
+lines_some rest whole some = elim (cases_lt 0 (length (lines_in rest))) [
+  | inl more ↦ more
+  | inr none ↦ absurd (omega (arith, some, ap length (sym whole), ap (λ (l : List (List ℕ)). length (text_of l)) (no_lines (lines_in rest) (omega (arith, none)))))
+]
+
+module _ (text : List ℕ) (n : ℕ) (low : n < length text) (line : IsLogLine (take n text)) (lf : slice_index text n ≡ 10) where
+  one_then : lines_in text ≡ take n text ∷ lines_in (drop (n + 1) text)
+  one_then = ap lines_in (past text n low ∙ ap (λ (k : ℕ). take n text ++ k ∷ drop (n + 1) text) lf) ∙ whole_then (take n text) (drop (n + 1) text) line
+
+  pub one_line : n + 1 ≡ length text → length (lines_in text) ≤ 1
+  one_line all =
+      let none : drop (n + 1) text ≡ [] = no_bytes (drop (n + 1) text) (omega (arith, all, length-drop (n + 1) text)) in
+      omega (arith, ap length one_then, ap (λ (l : List ℕ). length (lines_in l)) none)
+
+  pub more_lines : text_of (lines_in text) ≡ text → length (lines_in text) ≤ 1 → n + 1 ≡ length text
+  more_lines whole one =
+      let d = drop (n + 1) text in
+      let rest_whole : take n text ++ 10 ∷ text_of (lines_in d) ≡ take n text ++ 10 ∷ d =
+      ap text_of (sym one_then) ∙ whole ∙ past text n low ∙ ap (λ (k : ℕ). take n text ++ k ∷ d) lf in
+      elim (cases_lt (n + 1) (length text)) [
+        | inl longer ↦
+            let same : text_of (lines_in d) ≡ d = tail_same (append_cancel_left (take n text) (10 ∷ text_of (lines_in d)) (10 ∷ d) rest_whole) in
+            absurd (omega (arith, one, ap length one_then, lines_some d same (omega (arith, longer, length-drop (n + 1) text))))
+        | inr here ↦ omega (arith, low, here)
+      ]

@@ -13,7 +13,7 @@ use Rattle.line_log.specs.ReadingPrivate.{IsBreak, IsLookFault, IsTornAt, Tells}
 use Rattle.line_log.specs.Damage.{JustifiesError, IsLongLine, IsOutside}
 use Rattle.line_log.specs.Tails.{tail_in, unbroken, broken_by, shut_by, MayEnd}
 use Rattle.line_log.specs.declared.error.LogError.{LogError}
-use Rattle.line_log.specs.declared.error.LogError.TheVariants.{NoMemory, Disk, TooLong, LineTooLong, Damaged, Unread}
+use Rattle.line_log.specs.declared.error.LogError.TheVariants.{NoMemory, Disk, TooLong, TooMuch, LineTooLong, Damaged, Unread}
 use Rattle.line_log.specs.declared.reader.LogReader.{LogReader}
 use Rattle.line_log.specs.declared.first_line.FirstLine.TheVariants.{Part, Broken}
 use Rattle.line_log.proofs.LineLemmas.{text_append}
@@ -196,6 +196,7 @@ pub look_justified : {D : Type 0} {d : Ghosts D} (mixes : Bool) (file : List ℕ
 look_justified mixes file r lines NoMemory read fault = tt
 look_justified mixes file r lines (Disk e) read fault = tt
 look_justified mixes file r lines TooLong read fault = absurd fault
+look_justified mixes file r lines TooMuch read fault = absurd fault
 look_justified mixes file r lines (LineTooLong n) read fault =
     (fault.0 ∙ read.count, subst (λ (k : ℕ). IsLongLine (drop k file)) read.at fault.1)
 look_justified mixes file r lines (Damaged n) read fault = absurd fault
@@ -211,6 +212,7 @@ pub outside_fault : {D : Type 0} {d : Ghosts D} (file : List ℕ) (r : LogReader
 outside_fault file r NoMemory outside = tt
 outside_fault file r (Disk e) outside = tt
 outside_fault file r TooLong outside = absurd outside
+outside_fault file r TooMuch outside = absurd outside
 outside_fault file r (LineTooLong n) outside = absurd outside
 outside_fault file r (Damaged n) outside = absurd outside
 outside_fault file r Unread outside = absurd outside

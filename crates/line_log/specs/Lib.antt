@@ -2,8 +2,10 @@ pub mod Lines
 pub mod Tails
 pub mod Hashes
 pub mod Log
+pub mod Failures
 pub mod Damage
 pub mod Reading
 pub mod ReadingPrivate
 pub mod Laws
 pub mod Restarts
+pub mod WritingPrivate

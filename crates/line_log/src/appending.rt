@@ -1,11 +1,14 @@
 //! How are lines added to a log, each with its hash?
 
-ghost use Rattle.std.specs.Prelude.{◌≡◌, ◌++◌, ℕ, Bool, List, IsTrue, OnOk};
+ghost use Rattle.std.specs.Prelude.{◌≡◌, ◌++◌, ℕ, Bool, List, IsTrue, IfErr, OnOk};
+ghost use Rattle.line_log.specs.Failures.{IsRefusal, JustifiesRefusal};
 ghost use Rattle.line_log.specs.Lines.{IsText, lines_in};
 ghost use Rattle.line_log.specs.Hashes.{IsLeft};
 ghost use Rattle.line_log.specs.Log.{HasLines, IsSynced, MixesIf};
 
 use crate::error::LogError;
+use crate::file::{GROUP, LONGEST};
+use crate::first_line::is_one_line;
 use crate::hashing::with_hashes;
 use crate::log::LineLog;
 use sqlite_disk::Disk;
@@ -13,7 +16,10 @@ use std::alloc::Global;
 
 impl<D: Disk> LineLog<D> {
     /// Adds whole lines, each with its hash, and syncs. At `Ok` each crash from then on leaves a file with them. A crash at any
-    /// moment of the call leaves the lines from before it and some of the new ones, in order. At `Err` open the file again.
+    /// moment of the call leaves the lines from before it and some of the new ones, in order.
+    ///
+    /// Lines of more than 64 KiB with their hashes are refused, and a line of more than 8 MiB (`TooMuch`). That, `TooLong` and `NoMemory`
+    /// leave the log as it was. At any other `Err` open the file again.
     pub fn append(&mut self, alloc: Global, text: &[u8]) -> Result<(), LogError>
         requires usable { IsTrue (D.Disk.is_usable self.old.file.disk) }
         requires synced { IsTrue (D.Disk.is_clean self.old.file.disk) → IsSynced D.Disk.seen D.Disk.may_leave self.old.file }
@@ -26,9 +32,17 @@ impl<D: Disk> LineLog<D> {
         ensures any_moment { IsTrue (D.Disk.is_clean self.old.file.disk) → (mixes : Bool) → MixesIf D.Disk.is_mixing mixes
             → (lines : List (List ℕ)) → HasLines D.Disk.seen D.Disk.may_leave self.old lines
             → (c : List ℕ) → D.Disk.may_leave self.new.file.disk c → IsLeft mixes lines (lines_in text.now) c }
+        ensures refused { IfErr result (λ e. IsRefusal e → self.new ≡ self.old) }
+        ensures justified { IfErr result (λ e. JustifiesRefusal text.now self.old.file.len (D.Disk.faults self.old.file.disk) (D.Disk.faults self.new.file.disk) e) }
     {
-        let hashed = with_hashes(alloc, &mut self.hasher, text)?;
+        let mut hasher = self.hasher.clone()?;
+        let hashed = with_hashes(alloc, &mut hasher, text)?;
+        let size = hashed.len();
+        if size > LONGEST || (size > GROUP && !is_one_line(text)) {
+            return Err(LogError::TooMuch);
+        }
         self.file.append(alloc, &hashed)?;
+        self.hasher = hasher;
         Ok(())
     }
 }

@@ -6,7 +6,8 @@ ghost use Rattle.line_log.specs.declared.error.LogError.TheVariants.{Disk, NoMem
 use std::alloc::{AllocError, AllocFailed};
 use std::io;
 
-/// Why a call of a log failed. The log can't be used any more: open the file again.
+/// Why a call of a log failed. After `NoMemory`, `TooMuch` and `TooLong` of [`crate::LineLog::append`] the log is as it was. After any other
+/// error open the file again.
 #[derive(Clone, Copy, Debug, Drop)]
 pub enum LogError {
     /// Memory ran out.
@@ -15,6 +16,8 @@ pub enum LogError {
     Disk(io::Error),
     /// The file would be too long.
     TooLong,
+    /// More lines are to be added at once than a log takes, or a longer one than it has.
+    TooMuch,
     /// The line behind so many is longer than any line of a log.
     LineTooLong(usize),
     /// What follows so many lines is no line with the right hash, and no end that a crash leaves.

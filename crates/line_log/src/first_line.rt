@@ -1,6 +1,6 @@
 //! What do bytes of a log begin with?
 
-ghost use Rattle.std.specs.Prelude.{◌≡◌, ◌<◌, ◌↔◌, [], length, slice_index, take, IfNone, IfSome, IsTrue};
+ghost use Rattle.std.specs.Prelude.{◌≡◌, ◌<◌, ◌≤◌, ◌↔◌, [], length, slice_index, take, IfNone, IfSome, IsTrue};
 ghost use Rattle.line_log.specs.Lines.{IsLogLine, IsText, lines_in};
 ghost use Rattle.line_log.specs.ReadingPrivate.{BeginsAs};
 
@@ -43,6 +43,17 @@ pub(crate) fn line_len(bytes: &[u8]) -> Option<usize>
         FirstLine::Whole(n) => Some(n),
         FirstLine::Part => None,
         FirstLine::Broken(_) => None,
+    }
+}
+
+/// Returns whether a text has one line at most.
+pub(crate) fn is_one_line(text: &[u8]) -> bool
+    requires { IsText text.now }
+    ensures { IsTrue result ↔ (length (lines_in text.now) ≤ 1) }
+{
+    match line_len(text) {
+        Some(n) => n + 1 == text.len(),
+        None => true,
     }
 }
 

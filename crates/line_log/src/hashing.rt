@@ -1,10 +1,11 @@
 //! How do lines get their hashes, and how are they tested?
 
-ghost use Rattle.std.specs.Prelude.{◌≡◌, ◌≢◌, ◌≤◌, ◌++◌, ◌∷◌, ℕ, false, List, [], length, bytes_eq, IfOk, IsTrue, OnOk};
+ghost use Rattle.std.specs.Prelude.{◌≡◌, ◌≢◌, ◌+◌, ◌≤◌, ◌++◌, ◌∷◌, ℕ, false, List, [], length, bytes_eq, IfOk, IsTrue, OnOk};
 ghost use Rattle.std.specs.List.{AllByRecursion};
 ghost use Rattle.sha2.specs.Hashers.{Holds256};
 ghost use Rattle.hex.specs.Hex.{encode_lower};
 ghost use Rattle.line_log.specs.Lines.{IsLogLine, IsText, lines_in};
+ghost use Rattle.line_log.specs.Failures.{size_in_file};
 ghost use Rattle.line_log.specs.Hashes.{hash_of, hashed_after, hashed_line};
 
 use crate::first_line::line_len;
@@ -52,6 +53,7 @@ fn put_line(hasher: &mut Sha256, line: &[u8], file: &mut Vec<u8>) -> Result<(), 
     ensures text { OnOk result ((before : List ℕ) → Holds256 hasher.old before → Holds256 hasher.new (before ++ line.now ++ 10 ∷ [])) }
     ensures put { OnOk result ((before : List ℕ) → Holds256 hasher.old before → lines_in file.new.items ≡ lines_in file.old.items ++ hashed_line before line.now ∷ []) }
     ensures lines { OnOk result (IsText file.new.items) }
+    ensures len { OnOk result (length file.new.items ≡ length file.old.items + length line.now + 34) }
 {
     let hash = hash_line(hasher, line)?;
     file.extend_from_slice(line)?;
@@ -81,6 +83,7 @@ pub(crate) fn with_hashes(
     ensures text { OnOk result ((before : List ℕ) → Holds256 hasher.old before → Holds256 hasher.new (before ++ text.now)) }
     ensures hashed { IfOk result (λ file. (before : List ℕ) → Holds256 hasher.old before → lines_in file.items ≡ hashed_after before (lines_in text.now)) }
     ensures lines { IfOk result (λ file. IsText file.items) }
+    ensures len { IfOk result (λ file. length file.items ≡ size_in_file text.now) }
 {
     let mut file = Vec::new(alloc);
     let mut rest = text;

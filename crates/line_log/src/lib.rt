@@ -14,7 +14,8 @@
 //!
 //! The definitions are in `specs/`: `Lines` has the lines of a file, `Hashes` their hashes and what a crash may leave, `Tails` what may
 //! follow the lines, `Log` when a file is at rest and which lines an open log has, `Reading` what a reader has read, `Damage` when it
-//! may report damage, `Laws` the theorems, `Restarts` what survives crashes. `ReadingPrivate` is for this crate's own contracts.
+//! may report damage, `Failures` when adding lines fails, `Laws` the theorems, `Restarts` what survives crashes. `ReadingPrivate` and
+//! `WritingPrivate` are for this crate's own contracts.
 //!
 //! - `log`, `file`, `reader`: the types; `error`: their error.
 //! - `appending`, `hashing`: lines get their hashes and are added; `writing`: bytes are written so that a crash leaves whole lines.

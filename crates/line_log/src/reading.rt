@@ -12,7 +12,7 @@ ghost use Rattle.line_log.specs.Tails.{MayEnd, tail_in};
 ghost use Rattle.line_log.specs.declared.first_line.FirstLine.TheVariants.{Whole};
 
 use crate::error::LogError;
-use crate::file::{LineFile, MOST};
+use crate::file::{LONGEST, LineFile, MOST};
 use crate::first_line::{FirstLine, first_line};
 use crate::hashing::take_line;
 use crate::log::LineLog;
@@ -24,9 +24,6 @@ use std::alloc::Global;
 
 /// How many bytes of a file are read at once.
 const BLOCK: usize = 1 << 18;
-
-/// The maximum length of a line of a file, with its hash. No line that `regd` prints is as long.
-const LONGEST: usize = 1 << 23;
 
 /// Reads a part of a file.
 fn read_block<D: Disk>(

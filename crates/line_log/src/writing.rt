@@ -1,6 +1,8 @@
 //! How are lines added to a log file, so that a crash leaves whole lines?
 
-ghost use Rattle.std.specs.Prelude.{◌≡◌, ◌+◌, ◌<◌, ◌≤◌, ◌^◌, ◌++◌, ℕ, Bool, true, false, List, length, replicate, IsTrue, IfOk, OnOk};
+ghost use Rattle.std.specs.Prelude.{◌≡◌, ◌+◌, ◌<◌, ◌≤◌, ◌^◌, ◌++◌, ℕ, Bool, true, false, List, length, replicate, IsTrue, IfErr, IfOk, OnOk};
+ghost use Rattle.line_log.specs.Failures.{IsRefusal, IsWriteFault};
+ghost use Rattle.line_log.specs.WritingPrivate.{IsDiskFault};
 ghost use Rattle.line_log.specs.Lines.{IsText, lines_in};
 ghost use Rattle.line_log.specs.Log.{IsCrashed, IsSynced, MixesIf};
 ghost use Rattle.line_log.specs.Tails.{MayEnd, tail_in};
@@ -22,17 +24,20 @@ fn blanks(alloc: Global, count: usize) -> Result<Vec<u8>, AllocError>
 
 impl<D: Disk> LineFile<D> {
     /// Adds whole lines, and syncs. At `Ok` each crash from then on leaves a file with them. A crash at any moment of the call
-    /// leaves the lines from before it and some of the new ones, in order. At `Err` open the file again.
+    /// leaves the lines from before it and some of the new ones, in order. At an `Err` of the disk open the file again.
     pub(crate) fn append(&mut self, alloc: Global, text: &[u8]) -> Result<(), LogError>
         requires usable { IsTrue (D.Disk.is_usable self.old.disk) }
         requires synced { IsTrue (D.Disk.is_clean self.old.disk) → IsSynced D.Disk.seen D.Disk.may_leave self.old }
         requires text { IsText text.now }
+        requires short { length text.now ≤ 2 ^ 23 }
         ensures clean { D.Disk.is_clean self.new.disk ≡ D.Disk.is_clean self.old.disk }
         ensures usable { OnOk result (IsTrue (D.Disk.is_usable self.new.disk)) }
         ensures synced { OnOk result (IsTrue (D.Disk.is_clean self.old.disk) → IsSynced D.Disk.seen D.Disk.may_leave self.new) }
         ensures added { OnOk result (IsTrue (D.Disk.is_clean self.old.disk) → lines_in (D.Disk.seen self.new.disk) ≡ lines_in (D.Disk.seen self.old.disk) ++ lines_in text.now) }
         ensures any_moment { IsTrue (D.Disk.is_clean self.old.disk) → (mixes : Bool) → MixesIf D.Disk.is_mixing mixes → (c : List ℕ) → D.Disk.may_leave self.new.disk c
             → IsCrashed mixes (lines_in (D.Disk.seen self.old.disk)) (lines_in (D.Disk.seen self.old.disk) ++ lines_in text.now) c }
+        ensures refused { IfErr result (λ e. IsRefusal e → self.new ≡ self.old) }
+        ensures justified { IfErr result (λ e. IsWriteFault self.old.len (D.Disk.faults self.old.disk) (D.Disk.faults self.new.disk) e) }
     {
         self.make_room(alloc, text.len())?;
         self.write(text)
@@ -41,6 +46,7 @@ impl<D: Disk> LineFile<D> {
     /// Makes room for this many bytes, and a blank behind them.
     fn make_room(&mut self, alloc: Global, count: usize) -> Result<(), LogError>
         requires usable { IsTrue (D.Disk.is_usable self.old.disk) }
+        requires short { count ≤ 2 ^ 23 }
         requires synced { IsTrue (D.Disk.is_clean self.old.disk) → IsSynced D.Disk.seen D.Disk.may_leave self.old }
         ensures clean { D.Disk.is_clean self.new.disk ≡ D.Disk.is_clean self.old.disk }
         ensures usable { OnOk result (IsTrue (D.Disk.is_usable self.new.disk)) }
@@ -49,11 +55,14 @@ impl<D: Disk> LineFile<D> {
         ensures same { OnOk result (IsTrue (D.Disk.is_clean self.old.disk) → lines_in (D.Disk.seen self.new.disk) ≡ lines_in (D.Disk.seen self.old.disk)) }
         ensures any_moment { IsTrue (D.Disk.is_clean self.old.disk) → (c : List ℕ) → D.Disk.may_leave self.new.disk c
             → (lines_in c ≡ lines_in (D.Disk.seen self.old.disk)) × MayEnd true (tail_in c) }
+        ensures refused { IfErr result (λ e. IsRefusal e → self.new ≡ self.old) }
+        ensures justified { IfErr result (λ e. IsWriteFault self.old.len (D.Disk.faults self.old.disk) (D.Disk.faults self.new.disk) e) }
+        ensures faults { OnOk result (D.Disk.faults self.new.disk ≡ D.Disk.faults self.old.disk) }
     {
         if count < self.len - self.end {
             return Ok(());
         }
-        if count > MOST || self.len > MOST {
+        if self.len > MOST {
             return Err(LogError::TooLong);
         }
         let blanks = blanks(alloc, count + CHUNK)?;
@@ -75,6 +84,7 @@ impl<D: Disk> LineFile<D> {
         ensures added { OnOk result (IsTrue (D.Disk.is_clean self.old.disk) → lines_in (D.Disk.seen self.new.disk) ≡ lines_in (D.Disk.seen self.old.disk) ++ lines_in text.now) }
         ensures any_moment { IsTrue (D.Disk.is_clean self.old.disk) → (mixes : Bool) → MixesIf D.Disk.is_mixing mixes → (c : List ℕ) → D.Disk.may_leave self.new.disk c
             → IsCrashed mixes (lines_in (D.Disk.seen self.old.disk)) (lines_in (D.Disk.seen self.old.disk) ++ lines_in text.now) c }
+        ensures justified { IfErr result (λ e. IsDiskFault (D.Disk.faults self.old.disk) (D.Disk.faults self.new.disk) e) }
     {
         if text.is_empty() {
             return Ok(());
@@ -100,6 +110,7 @@ impl<D: Disk> LineFile<D> {
         ensures added { OnOk result (IsTrue (D.Disk.is_clean self.old.disk) → lines_in (D.Disk.seen self.new.disk) ≡ lines_in (D.Disk.seen self.old.disk) ++ lines_in text.now) }
         ensures any_moment { IsTrue (D.Disk.is_clean self.old.disk) → (c : List ℕ) → D.Disk.may_leave self.new.disk c
             → IsCrashed true (lines_in (D.Disk.seen self.old.disk)) (lines_in (D.Disk.seen self.old.disk) ++ lines_in text.now) c }
+        ensures justified { IfErr result (λ e. IsDiskFault (D.Disk.faults self.old.disk) (D.Disk.faults self.new.disk) e) }
     {
         self.disk.write_at(self.end, text)?;
         self.disk.sync()?;
@@ -120,6 +131,7 @@ impl<D: Disk> LineFile<D> {
         ensures added { OnOk result (IsTrue (D.Disk.is_clean self.old.disk) → lines_in (D.Disk.seen self.new.disk) ≡ lines_in (D.Disk.seen self.old.disk) ++ lines_in text.now) }
         ensures any_moment { IsTrue (D.Disk.is_clean self.old.disk) → (c : List ℕ) → D.Disk.may_leave self.new.disk c
             → IsCrashed false (lines_in (D.Disk.seen self.old.disk)) (lines_in (D.Disk.seen self.old.disk) ++ lines_in text.now) c }
+        ensures justified { IfErr result (λ e. IsDiskFault (D.Disk.faults self.old.disk) (D.Disk.faults self.new.disk) e) }
     {
         self.disk.write_at(self.end + 1, &text[1..])?;
         self.disk.sync()?;

@@ -1,8 +1,13 @@
 //! Which bytes has a log file, and which lines come back?
 
+ghost use Rattle.std.specs.Prelude.{◌≡◌, IsTrue};
+ghost use Rattle.line_log.specs.Log.{IsSynced};
+
 use crate::torn_disk::TornDisk;
 use crate::wanted::holds;
-use line_log::{LogError, is_text, open_log};
+use line_log::{LineLog, LogError, is_text, open_log};
+use sqlite_disk::Disk;
+use std::alloc::Global;
 use std::process::Abort;
 use std::test::Fail;
 
@@ -11,6 +16,42 @@ const FILE: &[u8] =
     b"{\"log\":\"regd 1\"} d285f3136c9b0730537ed2391065be20\n{\"n\":1} 5fb8711356ca3a9ed4a763e046d6aa35\n{\"n\":2} a1ff0a4567980499140dec83ec9ba48c\n";
 /// The lines without hashes.
 const TEXT: &[u8] = b"{\"log\":\"regd 1\"}\n{\"n\":1}\n{\"n\":2}\n";
+
+/// Returns whether lines are refused as too much, without a change of the log.
+fn is_too_much<D: Disk>(alloc: Global, log: &mut LineLog<D>, text: &[u8]) -> bool
+    requires usable { IsTrue (D.Disk.is_usable log.old.file.disk) }
+    requires synced { IsTrue (D.Disk.is_clean log.old.file.disk) → IsSynced D.Disk.seen D.Disk.may_leave log.old.file }
+    ensures { IsTrue result → log.new ≡ log.old }
+{
+    if !is_text(text) {
+        return false;
+    }
+    match log.append(alloc, text) {
+        Err(LogError::TooMuch) => true,
+        _ => false,
+    }
+}
+
+#[test]
+fn lines_of_more_than_64_kib_are_refused(rt: HostRuntime) -> Result<(), Fail> {
+    let mut long = Vec::new(rt.alloc());
+    long.extend_from_slice(b"{\"n\":1}\n{")?;
+    long.resize((1 << 16) - 66, b'-')?;
+    long.push(b'\n')?;
+    let disk = TornDisk::new(rt.alloc(), b"", true)?;
+    let Ok((mut log, _)) = open_log(rt.alloc(), disk) else {
+        return Err(Fail::from("no log"));
+    };
+    if !is_too_much(rt.alloc(), &mut log, &long) {
+        return Err(Fail::from("lines of 64 KiB and a byte are added"));
+    }
+    long.truncate((1 << 16) - 67);
+    long.push(b'\n')?;
+    if !is_text(&long) || log.append(rt.alloc(), &long).is_err() {
+        return Err(Fail::from("lines of 64 KiB are not added"));
+    }
+    Ok(())
+}
 
 #[test]
 fn each_line_has_the_hash_of_all_lines_up_to_it(rt: HostRuntime) -> Result<(), Fail> {

@@ -55,8 +55,8 @@ returns-then-count-self-clause-any_moment g c clean left may =
     let s = c.requires.synced clean in
     at_rest (g.D.Disk.seen c.args.self.now.disk) c.args.self.now.end s.rest left (omega (arith, c.args.self.now.room, s.len)) (s.durable left may)
 
-pub returns-then-count-gt-MOST-clause-any_moment : goal.returns-then-count-gt-MOST-clause-any_moment
-returns-then-count-gt-MOST-clause-any_moment g c clean left may =
+pub returns-then-self-gt-MOST-clause-any_moment : goal.returns-then-self-gt-MOST-clause-any_moment
+returns-then-self-gt-MOST-clause-any_moment g c clean left may =
     let s = c.requires.synced clean in
     at_rest (g.D.Disk.seen c.args.self.now.disk) c.args.self.now.end s.rest left (omega (arith, c.args.self.now.room, s.len)) (s.durable left may)
 

@@ -1,0 +1,33 @@
+-- When a log refuses to add lines, and when adding them fails.
+use Rattle.std.specs.Prelude.{◌⊎◌, ℕ, ◌+◌, ◌*◌, ◌^◌, ◌<◌, List, length, ⊤}
+use Rattle.sqlite_disk.specs.Disk.{MoreFaults}
+use Rattle.line_log.specs.Lines.{lines_in}
+use Rattle.line_log.specs.declared.error.LogError.{LogError}
+use Rattle.line_log.specs.declared.error.LogError.TheVariants.{NoMemory, Disk, TooMuch, TooLong}
+
+-- the length of lines with their hashes
+abbrev pub size_in_file : List ℕ → ℕ
+size_in_file text = length text + 33 * length (lines_in text)
+
+-- The lines with their hashes are longer than what is added at once: 64 KiB, or 8 MiB if it is one line.
+abbrev pub IsTooMuch : List ℕ → Type 0
+IsTooMuch text = (2 ^ 23 < size_in_file text) ⊎ ((2 ^ 16 < size_in_file text) × (1 < length (lines_in text)))
+
+-- The call has written nothing: the log is as it was, and can be used.
+abbrev pub IsRefusal : LogError → Type 0
+IsRefusal NoMemory = ⊤
+IsRefusal TooMuch = ⊤
+IsRefusal TooLong = ⊤
+IsRefusal other = ⊥
+
+-- Memory ran out, a file of this length can't be longer, or a call of the disk failed, which the disk has counted.
+abbrev pub IsWriteFault : ℕ → ℕ → ℕ → LogError → Type 0
+IsWriteFault len old_faults new_faults NoMemory = ⊤
+IsWriteFault len old_faults new_faults TooLong = 2 ^ 60 < len
+IsWriteFault len old_faults new_faults (Disk e) = MoreFaults old_faults new_faults
+IsWriteFault len old_faults new_faults other = ⊥
+
+-- the same, or the text is too much
+abbrev pub JustifiesRefusal : List ℕ → ℕ → ℕ → ℕ → LogError → Type 0
+JustifiesRefusal text len old_faults new_faults TooMuch = IsTooMuch text
+JustifiesRefusal text len old_faults new_faults other = IsWriteFault len old_faults new_faults other
