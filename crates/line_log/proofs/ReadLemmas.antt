@@ -9,13 +9,14 @@ use Rattle.sqlite_disk.specs.declared.Disk.{Ghosts}
 use Rattle.sha2.specs.Hashers.{Holds256}
 use Rattle.sha2.specs.declared.Sha256.{Sha256}
 use Rattle.line_log.specs.Reading.{IsPartOf, HasReadLines, held_by}
-use Rattle.line_log.specs.ReadingPrivate.{IsBreak, IsLookFault, IsTornAt, Tells}
-use Rattle.line_log.specs.Damage.{JustifiesError, IsLongLine, IsOutside}
+use Rattle.line_log.specs.ReadingPrivate.{BeginsAs, IsBreak, IsLookFault, IsNextFault, IsPastFault, IsTornAt, Tells}
+use Rattle.line_log.specs.WritingPrivate.{IsDiskFault}
+use Rattle.line_log.specs.Damage.{HasWrongEnd, JustifiesError, JustifiesFinish, IsLongLine, IsOutside}
 use Rattle.line_log.specs.Tails.{tail_in, unbroken, broken_by, shut_by, MayEnd}
 use Rattle.line_log.specs.declared.error.LogError.{LogError}
 use Rattle.line_log.specs.declared.error.LogError.TheVariants.{NoMemory, Disk, TooLong, TooMuch, LineTooLong, Damaged, Unread}
 use Rattle.line_log.specs.declared.reader.LogReader.{LogReader}
-use Rattle.line_log.specs.declared.first_line.FirstLine.TheVariants.{Part, Broken}
+use Rattle.line_log.specs.declared.first_line.FirstLine.TheVariants.{Whole, Part, Broken}
 use Rattle.line_log.proofs.LineLemmas.{text_append}
 use Rattle.line_log.proofs.CrashLemmas.{split_front}
 use Rattle.line_log.proofs.FirstLemmas.{no_bytes, whole_first, begun_none, broken_first}
@@ -132,6 +133,10 @@ module _ {D : Type 0} {d : Ghosts D} (file : List ℕ) (r : LogReader D d) (part
   pub none_broken : (n : ℕ) → Tells r (Broken n) → lines_in (drop r.at file) ≡ []
   none_broken n tells = rest_broken file (held_by r) r.at part_within part.each n tells.begins.0 tells.begins.1 tells.begins.2
 
+  -- a whole line follows
+  pub whole_next : (n : ℕ) → n < length (held_by r) → BeginsAs (held_by r) (Whole n) → lines_in (drop r.at file) ≡ take n (held_by r) ∷ lines_in (drop (r.at + (n + 1)) file)
+  whole_next n low begins = rest_whole file (held_by r) r.at part_within part.each n low begins.1 begins.2
+
   pub end_part : (mixes : Bool) → Tells r Part → MayEnd mixes (tail_in (drop r.at file))
   end_part mixes tells = subst (MayEnd mixes) (sym (part_tail file (held_by r) r.at part_within part.each tells.begins (tells.whole refl ∙ part.len))) tt
 
@@ -201,6 +206,35 @@ look_justified mixes file r lines (LineTooLong n) read fault =
     (fault.0 ∙ read.count, subst (λ (k : ℕ). IsLongLine (drop k file)) read.at fault.1)
 look_justified mixes file r lines (Damaged n) read fault = absurd fault
 look_justified mixes file r lines Unread read fault = absurd fault
+
+pub next_justified : {D : Type 0} {d : Ghosts D} (mixes : Bool) (file : List ℕ) (r : LogReader D d) (lines : List (List ℕ)) (e : LogError) → HasReadLines file r lines → IsNextFault mixes file r e → JustifiesError mixes file lines e
+next_justified mixes file r lines NoMemory read fault = tt
+next_justified mixes file r lines (Disk e) read fault = tt
+next_justified mixes file r lines TooLong read fault = absurd fault
+next_justified mixes file r lines TooMuch read fault = absurd fault
+next_justified mixes file r lines (LineTooLong n) read fault = look_justified mixes file r lines (LineTooLong n) read fault
+next_justified mixes file r lines (Damaged n) read fault =
+    let wrong : HasWrongEnd mixes file lines = record { all = read_all file r lines read fault.1; wrong = λ may. fault.2 (subst (MayEnd mixes) read.tail may) } in
+    (fault.0 ∙ read.count, inr wrong)
+next_justified mixes file r lines Unread read fault = absurd fault
+
+pub past_justified : {D : Type 0} {d : Ghosts D} (mixes : Bool) (file : List ℕ) (r : LogReader D d) (lines : List (List ℕ)) (e : LogError) → HasReadLines file r lines → IsPastFault mixes file r e → JustifiesFinish mixes file lines e
+past_justified mixes file r lines NoMemory read fault = tt
+past_justified mixes file r lines (Disk e) read fault = tt
+past_justified mixes file r lines TooLong read fault = absurd fault
+past_justified mixes file r lines TooMuch read fault = absurd fault
+past_justified mixes file r lines (LineTooLong n) read fault = next_justified mixes file r lines (LineTooLong n) read fault
+past_justified mixes file r lines (Damaged n) read fault = next_justified mixes file r lines (Damaged n) read fault
+past_justified mixes file r lines Unread read fault = (fault.0, fault.1, read.read ∙ ap (λ (l : List (List ℕ)). hashed lines ++ l) fault.2)
+
+pub disk_finish : (mixes : Bool) (file : List ℕ) (lines : List (List ℕ)) (old new : ℕ) (e : LogError) → IsDiskFault old new e → JustifiesFinish mixes file lines e
+disk_finish mixes file lines old new NoMemory fault = absurd fault
+disk_finish mixes file lines old new (Disk e) fault = tt
+disk_finish mixes file lines old new TooLong fault = absurd fault
+disk_finish mixes file lines old new TooMuch fault = absurd fault
+disk_finish mixes file lines old new (LineTooLong n) fault = absurd fault
+disk_finish mixes file lines old new (Damaged n) fault = absurd fault
+disk_finish mixes file lines old new Unread fault = absurd fault
 
 -- what holds of the error that `?` hands on
 pub of_error : {T : Type 0} (r : Result T LogError) (P : LogError → Type 0) (e : LogError) → IsErrAnd r (λ x. x ≡ e) → P e → IfErr r P

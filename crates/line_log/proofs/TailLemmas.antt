@@ -1,9 +1,9 @@
 -- What follows the whole lines of a file.
 use Rattle.std.proofs.Common.{◌≡◌, ◌⊎◌, inl, inr, Bool, true, false, ℕ, suc, ◌+◌, ◌<◌, ◌≤◌, List, [], ◌∷◌, ◌++◌, length, take, drop, refl, sym, ◌∙◌, ap, subst, arith, append_assoc}
 use Rattle.std.proofs.lemmas.List.{append-nil}
-use Rattle.std.proofs.lemmas.Bool.{cases_eq}
+use Rattle.std.proofs.lemmas.Bool.{cases_eq, false≢true}
 use Rattle.std.proofs.lemmas.Bool.Decides.{nat_tests}
-use Rattle.std.specs.Prelude.{◌≢◌, slice_index}
+use Rattle.std.specs.Prelude.{◌≢◌, slice_index, IsTrue}
 use Rattle.std.specs.List.{AllByRecursion}
 use Rattle.line_log.specs.Lines.{text_of, IsLogLine, IsLineFront}
 use Rattle.line_log.specs.Tails.{Tail, unbroken, broken_by, shut_by, tail_from, tail_in, MayEnd}
@@ -63,6 +63,13 @@ any_disk true t may = may
 any_disk false unbroken may = tt
 any_disk false (broken_by b) may = may
 any_disk false (shut_by b bytes) may = elim may [ inl blank ↦ inl blank | inr other ↦ inr (inl refl) ]
+
+-- what this disk may leave, disks may leave that mix only if this one does
+pub each_disk : (mixing mixes : Bool) (t : Tail) → (IsTrue mixes → IsTrue mixing) → MayEnd mixing t → MayEnd mixes t
+each_disk true true t same may = may
+each_disk true false t same may = any_disk false t may
+each_disk false true t same may = absurd (false≢true (same refl))
+each_disk false false t same may = may
 
 -- the bytes begin with a blank, if there are any
 pub blank_first : (d : List ℕ) → (0 < length d → slice_index d 0 ≡ 13) → MayEnd true (tail_in d)

@@ -14,11 +14,11 @@ abbrev pub IsTooMuch : List ℕ → Type 0
 IsTooMuch text = (2 ^ 23 < size_in_file text) ⊎ ((2 ^ 16 < size_in_file text) × (1 < length (lines_in text)))
 
 -- The call has written nothing: the log is as it was, and can be used.
-abbrev pub IsRefusal : LogError → Type 0
-IsRefusal NoMemory = ⊤
-IsRefusal TooMuch = ⊤
-IsRefusal TooLong = ⊤
-IsRefusal other = ⊥
+abbrev pub LeavesLog : LogError → Type 0
+LeavesLog NoMemory = ⊤
+LeavesLog TooMuch = ⊤
+LeavesLog TooLong = ⊤
+LeavesLog other = ⊥
 
 -- Memory ran out, a file of this length can't be longer, or a call of the disk failed, which the disk has counted.
 abbrev pub IsWriteFault : ℕ → ℕ → ℕ → LogError → Type 0

@@ -2,9 +2,10 @@
 use Rattle.std.specs.Prelude.{◌≡◌, ◌≢◌, ◌⊎◌, ℕ, ◌+◌, ◌<◌, Bool, false, List, [], ◌∷◌, length, take, drop, slice_index, ⊤}
 use Rattle.line_log.specs.Damage.{IsLongLine}
 use Rattle.line_log.specs.declared.error.LogError.{LogError}
-use Rattle.line_log.specs.declared.error.LogError.TheVariants.{NoMemory, Disk, LineTooLong}
+use Rattle.line_log.specs.declared.error.LogError.TheVariants.{NoMemory, Disk, LineTooLong, Damaged, Unread}
 use Rattle.sqlite_disk.specs.declared.Disk.{Ghosts}
-use Rattle.line_log.specs.Lines.{IsLogLine, IsLineFront}
+use Rattle.line_log.specs.Lines.{lines_in, IsLogLine, IsLineFront}
+use Rattle.line_log.specs.Tails.{tail_in, MayEnd}
 use Rattle.line_log.specs.Reading.{held_by}
 use Rattle.line_log.specs.declared.reader.LogReader.{LogReader}
 use Rattle.line_log.specs.declared.first_line.FirstLine.{FirstLine}
@@ -37,3 +38,18 @@ IsLookFault file reader (LineTooLong n) = (n ≡ reader.count) × IsLongLine (dr
 IsLookFault file reader NoMemory = ⊤
 IsLookFault file reader (Disk e) = ⊤
 IsLookFault file reader other = ⊥
+
+-- no whole line follows, and the bytes are an end that a crash may leave
+pub record IsEnd (mixes : Bool) (bytes : List ℕ) : Type 0 where
+  pub none : lines_in bytes ≡ []
+  pub end : MayEnd mixes (tail_in bytes)
+
+-- the same, or no whole line follows, the bytes are no end that a crash leaves, and the error says how many lines were read
+abbrev pub IsNextFault : {D : Type 0} {d : Ghosts D} → Bool → List ℕ → LogReader D d → LogError → Type 0
+IsNextFault mixes file reader (Damaged n) = (n ≡ reader.count) × (lines_in (drop reader.at file) ≡ []) × (MayEnd mixes (tail_in (drop reader.at file)) → ⊥)
+IsNextFault mixes file reader other = IsLookFault file reader other
+
+-- the same, or a whole line follows
+abbrev pub IsPastFault : {D : Type 0} {d : Ghosts D} → Bool → List ℕ → LogReader D d → LogError → Type 0
+IsPastFault mixes file reader Unread = (found : List ℕ) × (rest : List (List ℕ)) × (lines_in (drop reader.at file) ≡ found ∷ rest)
+IsPastFault mixes file reader other = IsNextFault mixes file reader other

@@ -1,7 +1,7 @@
 //! How are lines added to a log, each with its hash?
 
 ghost use Rattle.std.specs.Prelude.{◌≡◌, ◌++◌, ℕ, Bool, List, IsTrue, IfErr, OnOk};
-ghost use Rattle.line_log.specs.Failures.{IsRefusal, JustifiesRefusal};
+ghost use Rattle.line_log.specs.Failures.{LeavesLog, JustifiesRefusal};
 ghost use Rattle.line_log.specs.Lines.{IsText, lines_in};
 ghost use Rattle.line_log.specs.Hashes.{IsLeft};
 ghost use Rattle.line_log.specs.Log.{HasLines, IsSynced, MixesIf};
@@ -32,7 +32,7 @@ impl<D: Disk> LineLog<D> {
         ensures any_moment { IsTrue (D.Disk.is_clean self.old.file.disk) → (mixes : Bool) → MixesIf D.Disk.is_mixing mixes
             → (lines : List (List ℕ)) → HasLines D.Disk.seen D.Disk.may_leave self.old lines
             → (c : List ℕ) → D.Disk.may_leave self.new.file.disk c → IsLeft mixes lines (lines_in text.now) c }
-        ensures refused { IfErr result (λ e. IsRefusal e → self.new ≡ self.old) }
+        ensures refused { IfErr result (λ e. LeavesLog e → self.new ≡ self.old) }
         ensures justified { IfErr result (λ e. JustifiesRefusal text.now self.old.file.len (D.Disk.faults self.old.file.disk) (D.Disk.faults self.new.file.disk) e) }
     {
         let mut hasher = self.hasher.clone()?;

@@ -2,12 +2,12 @@
 
 ghost use Rattle.std.specs.Prelude.{◌≡◌, ◌==◌, ◌+◌, ◌-◌, ◌^◌, ◌<◌, ◌≤◌, ◌++◌, ◌∷◌, [], ℕ, Bool, false, List, drop, length, min, slice_index, IsTrue, IfNone, IfOk, IfErr, IfSome, OnOk};
 ghost use Rattle.sqlite_disk.specs.Disk.{Only};
-ghost use Rattle.line_log.specs.Damage.{JustifiesError, IsOutside};
+ghost use Rattle.line_log.specs.Damage.{JustifiesError, JustifiesFinish, IsOutside};
 ghost use Rattle.line_log.specs.Lines.{lines_in, IsLineFront};
 ghost use Rattle.line_log.specs.Hashes.{hashed};
-ghost use Rattle.line_log.specs.Log.{HasLines, IsAtRest, KeepsLines};
+ghost use Rattle.line_log.specs.Log.{HasLines, IsAtRest, KeepsLines, MixesIf};
 ghost use Rattle.line_log.specs.Reading.{HasReadLines, IsPartOf, held_by};
-ghost use Rattle.line_log.specs.ReadingPrivate.{BeginsAs, IsLookFault, IsTornAt, Tells};
+ghost use Rattle.line_log.specs.ReadingPrivate.{BeginsAs, IsEnd, IsLookFault, IsNextFault, IsPastFault, IsTornAt, Tells};
 ghost use Rattle.line_log.specs.Tails.{MayEnd, tail_in};
 ghost use Rattle.line_log.specs.declared.first_line.FirstLine.TheVariants.{Whole};
 
@@ -92,23 +92,16 @@ impl<D: Disk> LogReader<D> {
         ensures justified { IfErr result (λ e. IsTrue (D.Disk.is_clean self.new.disk) → (lines : List (List ℕ)) → HasReadLines (D.Disk.seen self.old.disk) self.old lines
             → JustifiesError (D.Disk.is_mixing self.new.disk) (D.Disk.seen self.old.disk) lines e) }
     {
-        match self.look(alloc)? {
-            FirstLine::Whole(len) => {
-                self.take(len, line)?;
-                Ok(true)
-            }
-            FirstLine::Part => Ok(false),
-            FirstLine::Broken(len) => {
-                if !self.is_torn(len) {
-                    return Err(LogError::Damaged(self.count));
-                }
-                Ok(false)
-            }
-        }
+        let Some(len) = self.next_len(alloc)? else {
+            return Ok(false);
+        };
+        self.take(len, line)?;
+        Ok(true)
     }
 
-    /// Opens the log whose lines were all read: cuts off what isn't a whole line, and leaves a blank behind the lines. It may
-    /// crash too, and then the file has the same lines. An error hands the file back.
+    /// Opens the log whose lines were all read: cuts off what a crash left behind them, and leaves a blank there. It may crash too, and
+    /// then the file has the same lines. An error hands the file back. Nothing is written if a line follows (`Unread`), whole or too long
+    /// (`LineTooLong`), or if the lines end in something that no crash leaves (`Damaged`).
     pub fn finish(mut self, alloc: Global) -> Result<LineLog<D>, (LogError, D)>
         requires usable { IsTrue (D.Disk.is_usable self.disk) }
         // After a restart, what is read is what is on the disk.
@@ -119,6 +112,10 @@ impl<D: Disk> LogReader<D> {
         ensures clean_err { IfErr result (λ e. IsTrue (D.Disk.is_clean e.1) → IsTrue (D.Disk.is_clean self.disk)) }
         ensures opened { IfOk result (λ log. IsTrue (D.Disk.is_clean log.file.disk) → (lines : List (List ℕ)) → HasReadLines (D.Disk.seen self.disk) self lines
             → HasLines D.Disk.seen D.Disk.may_leave log lines) }
+        ensures end { IfOk result (λ log. IsTrue (D.Disk.is_clean log.file.disk) → (lines : List (List ℕ)) → HasReadLines (D.Disk.seen self.disk) self lines
+            → (mixes : Bool) → MixesIf D.Disk.is_mixing mixes → MayEnd mixes (tail_in (D.Disk.seen self.disk))) }
+        ensures justified { IfErr result (λ e. IsTrue (D.Disk.is_clean e.1) → (lines : List (List ℕ)) → HasReadLines (D.Disk.seen self.disk) self lines
+            → JustifiesFinish (D.Disk.is_mixing e.1) (D.Disk.seen self.disk) lines e.0) }
         ensures any_moment { IfOk result (λ log. IsTrue (D.Disk.is_clean log.file.disk) → (c : List ℕ) → D.Disk.may_leave log.file.disk c → KeepsLines D.Disk.is_mixing (D.Disk.seen self.disk) c) }
         ensures any_moment_err { IfErr result (λ e. IsTrue (D.Disk.is_clean e.1) → (c : List ℕ) → D.Disk.may_leave e.1 c → KeepsLines D.Disk.is_mixing (D.Disk.seen self.disk) c) }
     {
@@ -157,6 +154,10 @@ impl<D: Disk> LogReader<D> {
         ensures len { OnOk result (length (D.Disk.seen self.new.disk) ≡ self.old.at + 1) }
         ensures same { OnOk result (IsTrue (D.Disk.is_clean self.new.disk) → lines_in (D.Disk.seen self.new.disk) ≡ lines_in (D.Disk.seen self.old.disk)) }
         ensures all { OnOk result (IsTrue (D.Disk.is_clean self.new.disk) → lines_in (drop self.old.at (D.Disk.seen self.old.disk)) ≡ []) }
+        ensures end { OnOk result (IsTrue (D.Disk.is_clean self.new.disk) → (lines : List (List ℕ)) → HasReadLines (D.Disk.seen self.old.disk) self.old lines
+            → (mixes : Bool) → MixesIf D.Disk.is_mixing mixes → MayEnd mixes (tail_in (D.Disk.seen self.old.disk))) }
+        ensures justified { IfErr result (λ e. IsTrue (D.Disk.is_clean self.new.disk) → (lines : List (List ℕ)) → HasReadLines (D.Disk.seen self.old.disk) self.old lines
+            → JustifiesFinish (D.Disk.is_mixing self.new.disk) (D.Disk.seen self.old.disk) lines e) }
         ensures any_moment { IsTrue (D.Disk.is_clean self.new.disk) → (c : List ℕ) → D.Disk.may_leave self.new.disk c → KeepsLines D.Disk.is_mixing (D.Disk.seen self.old.disk) c }
     {
         self.look_past(alloc)?;
@@ -170,7 +171,7 @@ impl<D: Disk> LogReader<D> {
         Ok(())
     }
 
-    /// Looks whether a line is left to read, which is an error.
+    /// Looks whether a line is left to read, which is an error, or damage.
     fn look_past(&mut self, alloc: Global) -> Result<(), LogError>
         requires usable { IsTrue (D.Disk.is_usable self.old.disk) }
         ensures usable { IsTrue (D.Disk.is_usable self.new.disk) }
@@ -181,13 +182,41 @@ impl<D: Disk> LogReader<D> {
         ensures count { self.new.count ≡ self.old.count }
         ensures hasher { self.new.hasher ≡ self.old.hasher }
         ensures part { IsTrue (D.Disk.is_clean self.new.disk) → IsPartOf (D.Disk.seen self.old.disk) self.old → IsPartOf (D.Disk.seen self.old.disk) self.new }
-        ensures none { OnOk result (IsTrue (D.Disk.is_clean self.new.disk) → IsPartOf (D.Disk.seen self.old.disk) self.old → lines_in (drop self.old.at (D.Disk.seen self.old.disk)) ≡ []) }
+        ensures end { OnOk result (IsTrue (D.Disk.is_clean self.new.disk) → IsPartOf (D.Disk.seen self.old.disk) self.old → IsEnd (D.Disk.is_mixing self.new.disk) (drop self.old.at (D.Disk.seen self.old.disk))) }
         ensures held { OnOk result (IsTrue (D.Disk.is_clean self.new.disk) → IsPartOf (D.Disk.seen self.old.disk) self.old → self.new.at < length (D.Disk.seen self.old.disk) → 0 < length (held_by self.new)) }
+        ensures fault { IfErr result (λ e. IsTrue (D.Disk.is_clean self.new.disk) → IsPartOf (D.Disk.seen self.old.disk) self.old → IsPastFault (D.Disk.is_mixing self.new.disk) (D.Disk.seen self.old.disk) self.old e) }
+    {
+        match self.next_len(alloc)? {
+            Some(_) => Err(LogError::Unread),
+            None => Ok(()),
+        }
+    }
+
+    /// Returns the length of the next line, or nothing if no whole line follows. An end that no crash leaves is an error.
+    fn next_len(&mut self, alloc: Global) -> Result<Option<usize>, LogError>
+        requires usable { IsTrue (D.Disk.is_usable self.old.disk) }
+        ensures usable { IsTrue (D.Disk.is_usable self.new.disk) }
+        ensures clean { IsTrue (D.Disk.is_clean self.new.disk) → IsTrue (D.Disk.is_clean self.old.disk) }
+        ensures seen { D.Disk.seen self.new.disk ≡ D.Disk.seen self.old.disk }
+        ensures crash { (c : List ℕ) → D.Disk.may_leave self.new.disk c → D.Disk.may_leave self.old.disk c }
+        ensures at { self.new.at ≡ self.old.at }
+        ensures count { self.new.count ≡ self.old.count }
+        ensures hasher { self.new.hasher ≡ self.old.hasher }
+        ensures part { IsTrue (D.Disk.is_clean self.new.disk) → IsPartOf (D.Disk.seen self.old.disk) self.old → IsPartOf (D.Disk.seen self.old.disk) self.new }
+        ensures whole { IfOk result (λ next. IfSome next (λ len. (len < length (held_by self.new)) × BeginsAs (held_by self.new) (Whole len))) }
+        ensures end { IfOk result (λ next. IfNone next (IsTrue (D.Disk.is_clean self.new.disk) → IsPartOf (D.Disk.seen self.old.disk) self.old → IsEnd (D.Disk.is_mixing self.new.disk) (drop self.old.at (D.Disk.seen self.old.disk)))) }
+        ensures held { IfOk result (λ next. IfNone next (IsTrue (D.Disk.is_clean self.new.disk) → IsPartOf (D.Disk.seen self.old.disk) self.old → self.new.at < length (D.Disk.seen self.old.disk) → 0 < length (held_by self.new))) }
+        ensures fault { IfErr result (λ e. IsTrue (D.Disk.is_clean self.new.disk) → IsPartOf (D.Disk.seen self.old.disk) self.old → IsNextFault (D.Disk.is_mixing self.new.disk) (D.Disk.seen self.old.disk) self.old e) }
     {
         match self.look(alloc)? {
-            FirstLine::Whole(_) => Err(LogError::Unread),
-            FirstLine::Part => Ok(()),
-            FirstLine::Broken(_) => Ok(()),
+            FirstLine::Whole(len) => Ok(Some(len)),
+            FirstLine::Part => Ok(None),
+            FirstLine::Broken(len) => {
+                if !self.is_torn(len) {
+                    return Err(LogError::Damaged(self.count));
+                }
+                Ok(None)
+            }
         }
     }
 

@@ -1,6 +1,7 @@
 //! How does the file of a log get its end back after a crash?
 
-ghost use Rattle.std.specs.Prelude.{◌≡◌, ◌+◌, ◌<◌, ◌≤◌, ◌^◌, ℕ, Bool, false, List, length, slice_index, IsTrue, OnOk};
+ghost use Rattle.std.specs.Prelude.{◌≡◌, ◌+◌, ◌<◌, ◌≤◌, ◌^◌, ℕ, Bool, false, List, length, slice_index, IsTrue, IfErr, OnOk};
+ghost use Rattle.line_log.specs.WritingPrivate.{IsDiskFault};
 ghost use Rattle.sqlite_disk.specs.Disk.{Only};
 ghost use Rattle.line_log.specs.Lines.{lines_in, text_of};
 ghost use Rattle.line_log.specs.Log.{BeginsWith, IsAtRest, KeepsLines, IsShutAt};
@@ -23,6 +24,8 @@ pub(crate) fn shut_tail<D: Disk>(disk: &mut D, end: usize, is_open: bool) -> Res
     ensures durable { OnOk result (Only (D.Disk.seen disk.new) (D.Disk.may_leave disk.new)) }
     ensures front { OnOk result (IsTrue (D.Disk.is_clean disk.old) → BeginsWith (D.Disk.seen disk.new) (lines_in (D.Disk.seen disk.old)) end) }
     ensures shut { OnOk result (IsTrue (D.Disk.is_clean disk.old) → IsShutAt (D.Disk.seen disk.new) end) }
+    ensures justified { IfErr result (λ e. IsDiskFault (D.Disk.faults disk.old) (D.Disk.faults disk.new) e) }
+    ensures faults { OnOk result (D.Disk.faults disk.new ≡ D.Disk.faults disk.old) }
     ensures any_moment { IsTrue (D.Disk.is_clean disk.old) → (c : List ℕ) → D.Disk.may_leave disk.new c → KeepsLines D.Disk.is_mixing (D.Disk.seen disk.old) c }
 {
     if is_open {
@@ -45,6 +48,8 @@ pub(crate) fn cut_tail<D: Disk>(disk: &mut D, end: usize) -> Result<(), LogError
     ensures rest { OnOk result (IsTrue (D.Disk.is_clean disk.old) → IsAtRest (D.Disk.seen disk.new) end) }
     ensures len { OnOk result (length (D.Disk.seen disk.new) ≡ end + 1) }
     ensures same { OnOk result (IsTrue (D.Disk.is_clean disk.old) → lines_in (D.Disk.seen disk.new) ≡ lines_in (D.Disk.seen disk.old)) }
+    ensures justified { IfErr result (λ e. IsDiskFault (D.Disk.faults disk.old) (D.Disk.faults disk.new) e) }
+    ensures faults { OnOk result (D.Disk.faults disk.new ≡ D.Disk.faults disk.old) }
     ensures any_moment { IsTrue (D.Disk.is_clean disk.old) → (c : List ℕ) → D.Disk.may_leave disk.new c → KeepsLines D.Disk.is_mixing (D.Disk.seen disk.old) c }
 {
     disk.set_len(end + 1)?;

@@ -1,7 +1,7 @@
 //! How are lines added to a log file, so that a crash leaves whole lines?
 
 ghost use Rattle.std.specs.Prelude.{◌≡◌, ◌+◌, ◌<◌, ◌≤◌, ◌^◌, ◌++◌, ℕ, Bool, true, false, List, length, replicate, IsTrue, IfErr, IfOk, OnOk};
-ghost use Rattle.line_log.specs.Failures.{IsRefusal, IsWriteFault};
+ghost use Rattle.line_log.specs.Failures.{LeavesLog, IsWriteFault};
 ghost use Rattle.line_log.specs.WritingPrivate.{IsDiskFault};
 ghost use Rattle.line_log.specs.Lines.{IsText, lines_in};
 ghost use Rattle.line_log.specs.Log.{IsCrashed, IsSynced, MixesIf};
@@ -36,7 +36,7 @@ impl<D: Disk> LineFile<D> {
         ensures added { OnOk result (IsTrue (D.Disk.is_clean self.old.disk) → lines_in (D.Disk.seen self.new.disk) ≡ lines_in (D.Disk.seen self.old.disk) ++ lines_in text.now) }
         ensures any_moment { IsTrue (D.Disk.is_clean self.old.disk) → (mixes : Bool) → MixesIf D.Disk.is_mixing mixes → (c : List ℕ) → D.Disk.may_leave self.new.disk c
             → IsCrashed mixes (lines_in (D.Disk.seen self.old.disk)) (lines_in (D.Disk.seen self.old.disk) ++ lines_in text.now) c }
-        ensures refused { IfErr result (λ e. IsRefusal e → self.new ≡ self.old) }
+        ensures refused { IfErr result (λ e. LeavesLog e → self.new ≡ self.old) }
         ensures justified { IfErr result (λ e. IsWriteFault self.old.len (D.Disk.faults self.old.disk) (D.Disk.faults self.new.disk) e) }
     {
         self.make_room(alloc, text.len())?;
@@ -55,7 +55,7 @@ impl<D: Disk> LineFile<D> {
         ensures same { OnOk result (IsTrue (D.Disk.is_clean self.old.disk) → lines_in (D.Disk.seen self.new.disk) ≡ lines_in (D.Disk.seen self.old.disk)) }
         ensures any_moment { IsTrue (D.Disk.is_clean self.old.disk) → (c : List ℕ) → D.Disk.may_leave self.new.disk c
             → (lines_in c ≡ lines_in (D.Disk.seen self.old.disk)) × MayEnd true (tail_in c) }
-        ensures refused { IfErr result (λ e. IsRefusal e → self.new ≡ self.old) }
+        ensures refused { IfErr result (λ e. LeavesLog e → self.new ≡ self.old) }
         ensures justified { IfErr result (λ e. IsWriteFault self.old.len (D.Disk.faults self.old.disk) (D.Disk.faults self.new.disk) e) }
         ensures faults { OnOk result (D.Disk.faults self.new.disk ≡ D.Disk.faults self.old.disk) }
     {

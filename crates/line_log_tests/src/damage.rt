@@ -2,7 +2,7 @@
 
 use crate::torn_disk::TornDisk;
 use crate::wanted::{holds, holds_at};
-use line_log::{LogError, is_text, open_log};
+use line_log::{LogError, LogReader, is_text, open_log};
 use std::alloc::{AllocError, Global};
 use std::process::Abort;
 use std::test::Fail;
@@ -98,5 +98,25 @@ fn missing_and_moved_lines_are_found(rt: HostRuntime) -> Result<(), Fail> {
             "a missing or moved line",
         );
     }
+    Ok(())
+}
+
+#[test]
+fn damage_that_was_not_read_is_not_cut_off(rt: HostRuntime) -> Result<(), Fail> {
+    let file: &[u8] = b"{\"n\":\x01}\n{\"n\":2}\n\r\r";
+    let Ok(reader) = LogReader::new(rt.alloc(), TornDisk::new(rt.alloc(), file, true)?) else {
+        return Err(Fail::from("the file is not read"));
+    };
+    let Err((error, disk)) = reader.finish(rt.alloc()) else {
+        return Err(Fail::from("a damaged file opens"));
+    };
+    let LogError::Damaged(n) = error else {
+        return Err(Fail::from("another error"));
+    };
+    holds(
+        &rt,
+        n == 0 && disk.bytes() == file,
+        "the file stays as it is",
+    );
     Ok(())
 }

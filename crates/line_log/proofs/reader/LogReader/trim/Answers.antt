@@ -1,11 +1,15 @@
-use Rattle.std.proofs.Common.{◌≡◌, ◌<◌, ℕ, List, length, sym, ◌∙◌, ap, subst}
+use Rattle.std.proofs.Common.{◌≡◌, ◌<◌, ℕ, List, drop, length, sym, ◌∙◌, ap, subst}
 use Rattle.std.proofs.lemmas.Bool.{false≢true}
 use Rattle.std.proofs.lemmas.Bool.Decides.{Decides-eqb}
 use Rattle.std.specs.Prelude.{◌≢◌, IsTrue, slice_index}
 use Rattle.line_log.specs.Lines.{lines_in, text_of}
 use Rattle.line_log.specs.Log.{BeginsWith, IsAtRest, KeepsLines, IsShutAt}
-use Rattle.line_log.specs.Reading.{held_by}
-use Rattle.line_log.proofs.ReadLemmas.{gate_within, open_gate, read_end, shut_gate}
+use Rattle.line_log.specs.Damage.{JustifiesFinish}
+use Rattle.line_log.specs.Tails.{tail_in, MayEnd}
+use Rattle.line_log.specs.declared.error.LogError.{LogError}
+use Rattle.line_log.proofs.TailLemmas.{each_disk}
+use Rattle.line_log.specs.Reading.{HasReadLines, held_by}
+use Rattle.line_log.proofs.ReadLemmas.{disk_finish, gate_within, of_error, past_justified, open_gate, read_end, shut_gate}
 use Rattle.line_log.proofs.RecoverLemmas.{kept_on, kept_same}
 use Rattle.line_log.proofs.reader.LogReader.trim.Goals as goal
 
@@ -16,7 +20,7 @@ pub shut_tail-requires-clause-end : goal.shut_tail-requires-clause-end
 shut_tail-requires-clause-end g c clean =
     let file = g.D.Disk.seen c.args.self.now.disk in
     let (lines, has) = c.requires.read (c.look_past.ensures.clean clean) in
-    c.look_past.ensures.at ∙ read_end file c.args.self.now lines has (c.in_ok-look_past.ensures.none clean has.part) ∙ ap (λ (f : List ℕ). length (text_of (lines_in f))) (sym c.look_past.ensures.seen)
+    c.look_past.ensures.at ∙ read_end file c.args.self.now lines has ((c.in_ok-look_past.ensures.end clean has.part).none) ∙ ap (λ (f : List ℕ). length (text_of (lines_in f))) (sym c.look_past.ensures.seen)
 
 pub shut_tail-requires-clause-within : goal.shut_tail-requires-clause-within
 shut_tail-requires-clause-within g c clean is_open =
@@ -93,4 +97,39 @@ pub returns-clause-all : goal.returns-clause-all
 returns-clause-all g c clean =
     let after_look = subst IsTrue c.shut_tail.ensures.clean (subst IsTrue c.cut_tail.ensures.clean clean) in
     let (lines, has) = c.requires.read (c.look_past.ensures.clean after_look) in
-    c.in_ok-look_past.ensures.none after_look has.part
+    (c.in_ok-look_past.ensures.end after_look has.part).none
+
+pub returns-clause-end : goal.returns-clause-end
+returns-clause-end g c clean lines has mixes kind =
+    let file = g.D.Disk.seen c.args.self.now.disk in
+    let after_look = subst IsTrue c.shut_tail.ensures.clean (subst IsTrue c.cut_tail.ensures.clean clean) in
+    let disk = c.look_past.new.self.disk in
+    let end = (c.in_ok-look_past.ensures.end after_look has.part).end in
+    subst (MayEnd mixes) (sym has.tail) (each_disk (g.D.Disk.is_mixing disk) mixes (tail_in (drop c.args.self.now.at file)) (λ is. kind is disk) end)
+
+pub returns-in_err-look_past-clause-justified : goal.returns-in_err-look_past-clause-justified
+returns-in_err-look_past-clause-justified g c =
+    let file = g.D.Disk.seen c.args.self.now.disk in
+    let disk = c.look_past.new.self.disk in
+    of_error c.from_residual.result
+    (λ (e : LogError). IsTrue (g.D.Disk.is_clean disk) → (lines : List (List ℕ)) → HasReadLines file c.args.self.now lines → JustifiesFinish (g.D.Disk.is_mixing disk) file lines e)
+    c.in_err-look_past.field-0.0 c.from_residual.ensures.1
+    (λ clean lines has. past_justified (g.D.Disk.is_mixing disk) file c.args.self.now lines c.in_err-look_past.field-0.0 has (c.in_err-look_past.ensures.fault clean has.part))
+
+pub returns-in_err-shut_tail-clause-justified : goal.returns-in_err-shut_tail-clause-justified
+returns-in_err-shut_tail-clause-justified g c =
+    let file = g.D.Disk.seen c.args.self.now.disk in
+    let disk = c.shut_tail.new.disk in
+    of_error c.from_residual-in_err-shut_tail.result
+    (λ (e : LogError). IsTrue (g.D.Disk.is_clean disk) → (lines : List (List ℕ)) → HasReadLines file c.args.self.now lines → JustifiesFinish (g.D.Disk.is_mixing disk) file lines e)
+    c.in_err-shut_tail.field-0.0 c.from_residual-in_err-shut_tail.ensures.1
+    (λ clean lines has. disk_finish (g.D.Disk.is_mixing disk) file lines _ _ c.in_err-shut_tail.field-0.0 c.in_err-shut_tail.ensures.justified)
+
+pub returns-in_err-cut_tail-clause-justified : goal.returns-in_err-cut_tail-clause-justified
+returns-in_err-cut_tail-clause-justified g c =
+    let file = g.D.Disk.seen c.args.self.now.disk in
+    let disk = c.cut_tail.new.disk in
+    of_error c.from_residual-in_err-cut_tail.result
+    (λ (e : LogError). IsTrue (g.D.Disk.is_clean disk) → (lines : List (List ℕ)) → HasReadLines file c.args.self.now lines → JustifiesFinish (g.D.Disk.is_mixing disk) file lines e)
+    c.in_err-cut_tail.field-0.0 c.from_residual-in_err-cut_tail.ensures.1
+    (λ clean lines has. disk_finish (g.D.Disk.is_mixing disk) file lines _ _ c.in_err-cut_tail.field-0.0 c.in_err-cut_tail.ensures.justified)
