@@ -5,9 +5,9 @@ use Rattle.std.proofs.lemmas.Bool.{cases_eq, cases_lt}
 use Rattle.std.specs.Prelude.{◌≢◌, slice_index}
 use Rattle.std.specs.List.{AllByRecursion}
 use Rattle.line_log.specs.Lines.{lines_in, text_of, IsLogLine, IsBetween}
-use Rattle.line_log.specs.Tails.{tail_in, MayEnd}
+use Rattle.line_log.specs.Tails.{tail_in, IsTornRest, MayEnd}
 use Rattle.line_log.specs.Log.{IsCrashed}
-use Rattle.line_log.proofs.TailLemmas.{past_text, blank_first, any_first, any_disk, faded_tail, faded_text_at, IsFadedText}
+use Rattle.line_log.proofs.TailLemmas.{past_text, blank_first, any_first, any_disk, faded_tail, faded_text_at, torn_tail, IsFadedText}
 use Rattle.line_log.proofs.LineLemmas.{shut, lines_of_text, text_append, all_append, text_gate, IsFaded, faded_lines}
 
 pub split_front : (p c : List ℕ) → length p ≤ length c → ((i : ℕ) → i < length p → slice_index c i ≡ slice_index p i) → c ≡ p ++ drop (length p) c
@@ -116,15 +116,15 @@ module _ (ls : List (List ℕ)) (all : AllByRecursion IsLogLine ls) (end : ℕ) 
         no_more = (found.0, ap (λ (l : List (List ℕ)). l ++ found.0) read ∙ append_assoc ls (lines_in d) found.0 ∙ ap (λ (l : List (List ℕ)). ls ++ l) found.1);
       }
 
-  -- each byte of the text is there or blank, and a blank is behind it
+  -- each byte of the text is there or blank, a blank is behind it, and these are the bytes of a torn write
   pub faded_end : (c : List ℕ) → end + length g < length c → ((i : ℕ) → i < end → slice_index c i ≡ slice_index (text_of ls) i)
-      → ((i : ℕ) → i < length g → (slice_index c (end + i) ≡ 13) ⊎ (slice_index c (end + i) ≡ slice_index g i)) → slice_index c (end + length g) ≡ 13 → MayEnd true (tail_in c)
-  faded_end c within same each blank =
+      → ((i : ℕ) → i < length g → (slice_index c (end + i) ≡ 13) ⊎ (slice_index c (end + i) ≡ slice_index g i)) → slice_index c (end + length g) ≡ 13 → IsTornRest (drop end c) → MayEnd true (tail_in c)
+  faded_end c within same each blank torn =
       let d = drop end c in
       let faded : IsFadedText g d = faded_text_at g d (omega (arith, length-drop end c))
       (λ i low. elim (each i low) [ inl old ↦ inl (get_or-drop end c i 0 ∙ old) | inr new ↦ inr (get_or-drop end c i 0 ∙ new) ])
       (get_or-drop end c (length g) 0 ∙ blank) in
-      subst (MayEnd true) (sym (after_tail ls all end is c (omega arith) same)) (faded_tail gs d more (subst (λ (t : List ℕ). IsFadedText t d) (sym g_is) faded))
+      subst (MayEnd true) (sym (after_tail ls all end is c (omega arith) same)) (torn_tail d torn (faded_tail gs d more (subst (λ (t : List ℕ). IsFadedText t d) (sym g_is) faded)))
 
   -- all of the text is there but the gate, which has any byte, and a blank is behind it
   pub gate_after : (c : List ℕ) → 0 < length g → end + length g < length c → ((i : ℕ) → i < end → slice_index c i ≡ slice_index (text_of ls) i)

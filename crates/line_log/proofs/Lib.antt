@@ -8,3 +8,4 @@ pub mod HashLemmas
 pub mod ReadLemmas
 pub mod DigitLemmas
 pub mod RestartLemmas
+pub mod RestLemmas

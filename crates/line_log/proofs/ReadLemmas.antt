@@ -12,7 +12,7 @@ use Rattle.line_log.specs.Reading.{IsPartOf, HasReadLines, held_by}
 use Rattle.line_log.specs.ReadingPrivate.{BeginsAs, IsBreak, IsLookFault, IsNextFault, IsPastFault, IsTornAt, Tells}
 use Rattle.line_log.specs.WritingPrivate.{IsDiskFault}
 use Rattle.line_log.specs.Damage.{HasWrongEnd, JustifiesError, JustifiesFinish, IsLongLine, IsOutside}
-use Rattle.line_log.specs.Tails.{tail_in, unbroken, broken_by, shut_by, MayEnd}
+use Rattle.line_log.specs.Tails.{tail_in, unbroken, broken_by, shut_by, IsTornRest, MayEnd}
 use Rattle.line_log.specs.declared.error.LogError.{LogError}
 use Rattle.line_log.specs.declared.error.LogError.TheVariants.{NoMemory, Disk, TooLong, TooMuch, LineTooLong, Damaged, Unread}
 use Rattle.line_log.specs.declared.reader.LogReader.{LogReader}
@@ -66,14 +66,16 @@ module _ (file held : List ℕ) (at : ℕ) (within : at + length held ≤ length
     more_long first =
         omega (arith, first, low, within, len_is, length-append (drop (n + 1) held) (drop (length held) (drop at file)), length-drop (n + 1) held, length-drop (length held) (drop at file), length-drop at file)
 
-    broken : 0 < n → tail_in (drop at file) ≡ broken_by (slice_index held n)
-    broken some = ap tail_in held_first ∙ tail_broken held (drop (length held) (drop at file)) n low front other (omega (arith, some, long))
+    broken : 0 < n → tail_in (drop at file) ≡ broken_by (slice_index held n) (drop (at + (n + 1)) file)
+    broken some =
+        ap tail_in held_first ∙ tail_broken held (drop (length held) (drop at file)) n low front other (omega (arith, some, long))
+        ∙ ap (broken_by (slice_index held n)) (rest_after n low)
 
     shut : n ≡ 0 → tail_in (drop at file) ≡ shut_by (slice_index held n) (drop (n + 1) held ++ drop (length held) (drop at file))
     shut first = ap tail_in held_first ∙ tail_shut held (drop (length held) (drop at file)) n low front other (long ∙ first)
 
-    pub torn_may : IsTornAt mixes n (len - at) (slice_index held n) → MayEnd mixes (tail_in (drop at file))
-    torn_may torn = elim (cases_eq n 0) [
+    pub torn_may : IsTornAt mixes n (len - at) (slice_index held n) → (0 < n → IsTornRest (drop (at + (n + 1)) file)) → MayEnd mixes (tail_in (drop at file))
+    torn_may torn rest = elim (cases_eq n 0) [
       | inl first ↦
           let shut_may : MayEnd mixes (shut_by (slice_index held n) (drop (n + 1) held ++ drop (length held) (drop at file))) = elim torn [
             | inl blank ↦ inl blank
@@ -85,7 +87,7 @@ module _ (file held : List ℕ) (at : ℕ) (within : at + length held ≤ length
           subst (MayEnd mixes) (sym (shut first)) shut_may
       | inr later ↦
           let blank : slice_index held n ≡ 13 = elim torn [ inl is ↦ is | inr gate ↦ absurd (later gate.0) ] in
-          subst (MayEnd mixes) (sym (broken (omega arith))) blank
+          subst (MayEnd mixes) (sym (broken (omega arith))) (blank, rest (omega arith))
     ]
 
     pub torn_only : MayEnd mixes (tail_in (drop at file)) → IsTornAt mixes n (len - at) (slice_index held n)
@@ -99,8 +101,11 @@ module _ (file held : List ℕ) (at : ℕ) (within : at + length held ≤ length
               | inr none ↦ inr (first, inr (omega (arith, ap length none, more_long first)))
             ]
           ]
-      | inr later ↦ inl (subst (MayEnd mixes) (broken (omega arith)) may)
+      | inr later ↦ inl ((subst (MayEnd mixes) (broken (omega arith)) may).0)
     ]
+
+    pub torn_rest : 0 < n → MayEnd mixes (tail_in (drop at file)) → IsTornRest (drop (at + (n + 1)) file)
+    torn_rest some may = (subst (MayEnd mixes) (broken some) may).1
 
 -- one more line was read
 module _ (file : List ℕ) (lines : List (List ℕ)) (line : List ℕ) (n at : ℕ) (found rest : List ℕ) (is : found ≡ hashed_line (text_of lines) line) (long : length found ≡ n) (at_is : at ≡ length (text_of (hashed lines))) where
@@ -143,14 +148,18 @@ module _ {D : Type 0} {d : Ghosts D} (file : List ℕ) (r : LogReader D d) (part
   read_byte : (n : ℕ) → slice_index (held_by r) n ≡ slice_index r.block.items (r.from + n)
   read_byte n = get_or-drop r.from r.block.items n 0
 
-  pub end_torn : (mixes : Bool) (n : ℕ) → Tells r (Broken n) → IsTornAt mixes n (r.len - r.at) (slice_index r.block.items (r.from + n)) → MayEnd mixes (tail_in (drop r.at file))
-  end_torn mixes n tells torn =
+  pub end_torn : (mixes : Bool) (n : ℕ) → Tells r (Broken n) → IsTornAt mixes n (r.len - r.at) (slice_index r.block.items (r.from + n)) → (0 < n → IsTornRest (drop (r.at + (n + 1)) file)) → MayEnd mixes (tail_in (drop r.at file))
+  end_torn mixes n tells torn rest =
       torn_may file (held_by r) r.at part_within part.each n tells.begins.0 tells.begins.1 tells.begins.2 mixes r.len part.len
-      (subst (IsTornAt mixes n (r.len - r.at)) (sym (read_byte n)) torn)
+      (subst (IsTornAt mixes n (r.len - r.at)) (sym (read_byte n)) torn) rest
 
   pub end_wrong : (mixes : Bool) (n : ℕ) → Tells r (Broken n) → (IsTornAt mixes n (r.len - r.at) (slice_index r.block.items (r.from + n)) → ⊥) → MayEnd mixes (tail_in (drop r.at file)) → ⊥
   end_wrong mixes n tells other may =
       other (subst (IsTornAt mixes n (r.len - r.at)) (read_byte n) (torn_only file (held_by r) r.at part_within part.each n tells.begins.0 tells.begins.1 tells.begins.2 mixes r.len part.len may))
+
+  pub rest_wrong : (mixes : Bool) (n : ℕ) → Tells r (Broken n) → 0 < n → (IsTornRest (drop (r.at + (n + 1)) file) → ⊥) → MayEnd mixes (tail_in (drop r.at file)) → ⊥
+  rest_wrong mixes n tells some other may =
+      other (torn_rest file (held_by r) r.at part_within part.each n tells.begins.0 tells.begins.1 tells.begins.2 mixes r.len part.len some may)
 
   -- the next byte of the file, if it is in memory
   first_byte : 0 < length (held_by r) → slice_index file r.at ≡ slice_index (held_by r) 0
@@ -176,6 +185,17 @@ module _ {D : Type 0} {d : Ghosts D} (file : List ℕ) (r : LogReader D d) (part
       let first = held_first file (held_by r) r.at part_within part.each in
       let same : take 8388608 (drop r.at file) ≡ held_by r = ap (take 8388608) first ∙ take_at (held_by r) (drop (length (held_by r)) (drop r.at file)) 8388608 is in
       (omega (arith, is, more, part.len, length-drop r.at file), subst IsLineFront (sym same) front)
+
+-- the rest behind a front of a line, in the file as it was and as it is
+pub behind : {D : Type 0} {d : Ghosts D} (file : List ℕ) (r : LogReader D d) (n : ℕ) (now : List ℕ) → now ≡ file → IsTornRest (drop (r.at + n + 1) now) → IsTornRest (drop (r.at + (n + 1)) file)
+behind file r n now same torn =
+    let there : r.at + n + 1 ≡ r.at + (n + 1) = omega arith in
+    subst (λ (k : ℕ). IsTornRest (drop k file)) there (subst (λ (f : List ℕ). IsTornRest (drop (r.at + n + 1) f)) same torn)
+
+pub before : {D : Type 0} {d : Ghosts D} (file : List ℕ) (r : LogReader D d) (n : ℕ) (now : List ℕ) → now ≡ file → IsTornRest (drop (r.at + (n + 1)) file) → IsTornRest (drop (r.at + n + 1) now)
+before file r n now same torn =
+    let there : r.at + (n + 1) ≡ r.at + n + 1 = omega arith in
+    subst (λ (f : List ℕ). IsTornRest (drop (r.at + n + 1) f)) (sym same) (subst (λ (k : ℕ). IsTornRest (drop k file)) there torn)
 
 -- a reader that has read the same, with another part in memory
 pub looked : {D : Type 0} {d : Ghosts D} (file : List ℕ) (r s : LogReader D d) (lines : List (List ℕ)) → IsPartOf file s → s.at ≡ r.at → s.count ≡ r.count → s.hasher ≡ r.hasher

@@ -1,12 +1,12 @@
 -- What follows the whole lines of a file.
-use Rattle.std.proofs.Common.{◌≡◌, ◌⊎◌, inl, inr, Bool, true, false, ℕ, suc, ◌+◌, ◌<◌, ◌≤◌, List, [], ◌∷◌, ◌++◌, length, take, drop, refl, sym, ◌∙◌, ap, subst, arith, append_assoc}
-use Rattle.std.proofs.lemmas.List.{append-nil}
-use Rattle.std.proofs.lemmas.Bool.{cases_eq, false≢true}
+use Rattle.std.proofs.Common.{◌≡◌, ◌⊎◌, inl, inr, Bool, true, false, ℕ, zero, suc, ◌+◌, ◌^◌, ◌<◌, ◌≤◌, List, [], ◌∷◌, ◌++◌, length, take, drop, refl, sym, ◌∙◌, ap, subst, arith, append_assoc, length-append}
+use Rattle.std.proofs.lemmas.List.{append-nil, get_or_append_left}
+use Rattle.std.proofs.lemmas.Bool.{cases_eq, cases_lt, false≢true}
 use Rattle.std.proofs.lemmas.Bool.Decides.{nat_tests}
-use Rattle.std.specs.Prelude.{◌≢◌, slice_index, IsTrue}
+use Rattle.std.specs.Prelude.{◌≢◌, slice_index, IsTrue, ⊤}
 use Rattle.std.specs.List.{AllByRecursion}
-use Rattle.line_log.specs.Lines.{text_of, IsLogLine, IsLineFront}
-use Rattle.line_log.specs.Tails.{Tail, unbroken, broken_by, shut_by, tail_from, tail_in, MayEnd}
+use Rattle.line_log.specs.Lines.{lines_in, text_of, IsLogLine, IsLineFront}
+use Rattle.line_log.specs.Tails.{Tail, unbroken, broken_by, shut_by, tail_from, tail_in, IsTornRest, MayEnd}
 use Rattle.line_log.specs.ReadingPrivate.{IsBreak}
 use Rattle.line_log.proofs.LineLemmas.{IsInside}
 use Rattle.line_log.proofs.FirstLemmas.{no_bytes, past}
@@ -23,7 +23,7 @@ inside b bytes high = grind (arith, nat_tests)
 ends : (b : ℕ) (bytes : List ℕ) → b ≡ 10 → tail_from true (b ∷ bytes) ≡ tail_from false bytes
 ends b bytes is = grind (arith, nat_tests)
 
-breaks : (b : ℕ) (bytes : List ℕ) → b ≢ 10 → b < 32 → tail_from true (b ∷ bytes) ≡ broken_by b
+breaks : (b : ℕ) (bytes : List ℕ) → b ≢ 10 → b < 32 → tail_from true (b ∷ bytes) ≡ broken_by b bytes
 breaks b bytes other low = grind (arith, nat_tests)
 
 through : (r rest : List ℕ) → AllByRecursion IsInside r → tail_from true (r ++ rest) ≡ tail_from true rest
@@ -47,7 +47,7 @@ front_only [] front = refl
 front_only (b ∷ p) front = ap (λ (l : List ℕ). tail_in (b ∷ l)) (sym (append-nil p)) ∙ past_front b p [] front
 
 -- the byte that breaks a front
-pub broken_front : (p : List ℕ) (b : ℕ) (rest : List ℕ) → IsLineFront p → IsBreak p b → 0 < length p → tail_in (p ++ b ∷ rest) ≡ broken_by b
+pub broken_front : (p : List ℕ) (b : ℕ) (rest : List ℕ) → IsLineFront p → IsBreak p b → 0 < length p → tail_in (p ++ b ∷ rest) ≡ broken_by b rest
 broken_front [] b rest front other some = absurd (omega arith)
 broken_front (x ∷ p) b rest front other some = past_front x p (b ∷ rest) front ∙ breaks b rest other.0 other.1
 
@@ -61,7 +61,7 @@ shut_front (x ∷ p) b rest other none = absurd (omega arith)
 pub any_disk : (mixes : Bool) (t : Tail) → MayEnd true t → MayEnd mixes t
 any_disk true t may = may
 any_disk false unbroken may = tt
-any_disk false (broken_by b) may = may
+any_disk false (broken_by b rest) may = may
 any_disk false (shut_by b bytes) may = elim may [ inl blank ↦ inl blank | inr other ↦ inr (inl refl) ]
 
 -- what this disk may leave, disks may leave that mix only if this one does
@@ -121,28 +121,76 @@ IsFadedText [] d = 0 < length d → slice_index d 0 ≡ 13
 IsFadedText (b ∷ g) [] = ⊥
 IsFadedText (b ∷ g) (c ∷ d) = ((c ≡ 13) ⊎ (c ≡ b)) × IsFadedText g d
 
-faded_inside : (r : List ℕ) (gs : List (List ℕ)) (d : List ℕ) → AllByRecursion IsInside r → ((e : List ℕ) → IsFadedText (text_of gs) e → MayEnd true (tail_in e))
-    → IsFadedText (r ++ 10 ∷ text_of gs) d → MayEnd true (tail_from true d)
+-- a blank is what ends the lines
+abbrev pub IsBlankEnd : Tail → Type 0
+IsBlankEnd unbroken = ⊤
+IsBlankEnd (broken_by b rest) = b ≡ 13
+IsBlankEnd (shut_by b rest) = b ≡ 13
+
+-- what follows the byte that breaks a line is the rest of a torn write
+abbrev pub HasTornRest : Tail → Type 0
+HasTornRest unbroken = ⊤
+HasTornRest (broken_by b rest) = IsTornRest rest
+HasTornRest (shut_by b rest) = ⊤
+
+pub torn_end : (t : Tail) → IsBlankEnd t → HasTornRest t → MayEnd true t
+torn_end unbroken blank torn = tt
+torn_end (broken_by b rest) blank torn = (blank, torn)
+torn_end (shut_by b rest) blank torn = inl blank
+
+-- what is the rest of a torn write is so without its first byte
+torn_less : (b : ℕ) (d : List ℕ) → IsTornRest (b ∷ d) → IsTornRest d
+torn_less b d torn = elim torn [
+  | inl few ↦ inl (λ i high low. few (suc i) (omega arith) (omega arith))
+  | inr line ↦ inr (λ i j before low lf. line (suc i) (suc j) (omega arith) (omega arith) lf)
+]
+
+torn_from : (in_line : Bool) (d : List ℕ) → IsTornRest d → HasTornRest (tail_from in_line d)
+torn_from in_line [] torn = tt
+torn_from false (b ∷ d) torn = elim (cases_eq b 123) [
+  | inl is ↦ subst HasTornRest (sym (opens b d is)) (torn_from true d (torn_less b d torn))
+  | inr other ↦ subst HasTornRest (sym (shuts b d other)) tt
+]
+torn_from true (b ∷ d) torn = elim (cases_eq b 10) [
+  | inl lf ↦ subst HasTornRest (sym (ends b d lf)) (torn_from false d (torn_less b d torn))
+  | inr other ↦ elim (cases_lt b 32) [
+    | inl low ↦ subst HasTornRest (sym (breaks b d other low)) (torn_less b d torn)
+    | inr high ↦ subst HasTornRest (sym (inside b d high)) (torn_from true d (torn_less b d torn))
+  ]
+]
+
+-- the bytes are the rest of a torn write, and the lines end in a blank
+pub torn_tail : (d : List ℕ) → IsTornRest d → IsBlankEnd (tail_in d) → MayEnd true (tail_in d)
+torn_tail d torn blank = torn_end (tail_in d) blank (torn_from false d torn)
+
+blank_head : (d : List ℕ) → (0 < length d → slice_index d 0 ≡ 13) → IsBlankEnd (tail_in d)
+blank_head [] blank = tt
+blank_head (b ∷ d) blank =
+    let is : b ≡ 13 = blank (omega arith) in
+    subst IsBlankEnd (sym (shuts b d (λ (e : b ≡ 123). omega (arith, is, e)))) is
+
+faded_inside : (r : List ℕ) (gs : List (List ℕ)) (d : List ℕ) → AllByRecursion IsInside r → ((e : List ℕ) → IsFadedText (text_of gs) e → IsBlankEnd (tail_in e))
+    → IsFadedText (r ++ 10 ∷ text_of gs) d → IsBlankEnd (tail_from true d)
 faded_inside [] gs [] all later f = absurd f
 faded_inside [] gs (c ∷ d) all later f = elim (f.0) [
-  | inl blank ↦ subst (MayEnd true) (sym (breaks c d (λ (e : c ≡ 10). omega (arith, blank, e)) (omega (arith, blank)))) blank
-  | inr lf ↦ subst (MayEnd true) (sym (ends c d lf)) (later d f.1)
+  | inl blank ↦ subst IsBlankEnd (sym (breaks c d (λ (e : c ≡ 10). omega (arith, blank, e)) (omega (arith, blank)))) blank
+  | inr lf ↦ subst IsBlankEnd (sym (ends c d lf)) (later d f.1)
 ]
 faded_inside (b ∷ r) gs [] all later f = absurd f
 faded_inside (b ∷ r) gs (c ∷ d) all later f = elim (f.0) [
-  | inl blank ↦ subst (MayEnd true) (sym (breaks c d (λ (e : c ≡ 10). omega (arith, blank, e)) (omega (arith, blank)))) blank
+  | inl blank ↦ subst IsBlankEnd (sym (breaks c d (λ (e : c ≡ 10). omega (arith, blank, e)) (omega (arith, blank)))) blank
   | inr same ↦
       let high : 32 ≤ c = omega (arith, all.0, same) in
-      subst (MayEnd true) (sym (inside c d high)) (faded_inside r gs d all.1 later f.1)
+      subst IsBlankEnd (sym (inside c d high)) (faded_inside r gs d all.1 later f.1)
 ]
 
-pub faded_tail : (gs : List (List ℕ)) (d : List ℕ) → AllByRecursion IsLogLine gs → IsFadedText (text_of gs) d → MayEnd true (tail_in d)
-faded_tail [] d all f = blank_first d f
+pub faded_tail : (gs : List (List ℕ)) (d : List ℕ) → AllByRecursion IsLogLine gs → IsFadedText (text_of gs) d → IsBlankEnd (tail_in d)
+faded_tail [] d all f = blank_head d f
 faded_tail ([] ∷ gs) d all f = absurd (all.0)
 faded_tail ((b ∷ line) ∷ gs) [] all f = absurd f
 faded_tail ((b ∷ line) ∷ gs) (c ∷ d) all f = elim (f.0) [
-  | inl blank ↦ subst (MayEnd true) (sym (shuts c d (λ (e : c ≡ 123). omega (arith, blank, e)))) (inl blank)
-  | inr same ↦ subst (MayEnd true) (sym (opens c d (same ∙ all.0.0))) (faded_inside line gs d all.0.1 (λ (e : List ℕ) (g : IsFadedText (text_of gs) e). faded_tail gs e all.1 g) f.1)
+  | inl blank ↦ subst IsBlankEnd (sym (shuts c d (λ (e : c ≡ 123). omega (arith, blank, e)))) blank
+  | inr same ↦ subst IsBlankEnd (sym (opens c d (same ∙ all.0.0))) (faded_inside line gs d all.0.1 (λ (e : List ℕ) (g : IsFadedText (text_of gs) e). faded_tail gs e all.1 g) f.1)
 ]
 
 pub faded_text_at : (g d : List ℕ) → length g ≤ length d → ((i : ℕ) → i < length g → (slice_index d i ≡ 13) ⊎ (slice_index d i ≡ slice_index g i)) → slice_index d (length g) ≡ 13 → IsFadedText g d
@@ -162,8 +210,45 @@ module _ (bytes more : List ℕ) (n : ℕ) (low : n < length bytes) (front : IsL
   broken_at : bytes ++ more ≡ take n bytes ++ slice_index bytes n ∷ (drop (n + 1) bytes ++ more)
   broken_at = ap (λ (l : List ℕ). l ++ more) (past bytes n low) ∙ append_assoc (take n bytes) (slice_index bytes n ∷ drop (n + 1) bytes) more
 
-  pub tail_broken : 0 < length (take n bytes) → tail_in (bytes ++ more) ≡ broken_by (slice_index bytes n)
+  pub tail_broken : 0 < length (take n bytes) → tail_in (bytes ++ more) ≡ broken_by (slice_index bytes n) (drop (n + 1) bytes ++ more)
   tail_broken some = ap tail_in broken_at ∙ broken_front (take n bytes) (slice_index bytes n) (drop (n + 1) bytes ++ more) front other some
 
   pub tail_shut : length (take n bytes) ≡ 0 → tail_in (bytes ++ more) ≡ shut_by (slice_index bytes n) (drop (n + 1) bytes ++ more)
   tail_shut none = ap tail_in broken_at ∙ shut_front (take n bytes) (slice_index bytes n) (drop (n + 1) bytes ++ more) other none
+
+-- ---- a text of one line has one LF
+
+inside_bytes : (l : List ℕ) → AllByRecursion IsInside l → (i : ℕ) → i < length l → 32 ≤ slice_index l i
+inside_bytes [] all i low = absurd (omega arith)
+inside_bytes (b ∷ l) all zero low = all.0
+inside_bytes (b ∷ l) all (suc i) low = inside_bytes l all.1 i (omega arith)
+
+line_bytes : (l : List ℕ) → IsLogLine l → (i : ℕ) → i < length l → 32 ≤ slice_index l i
+line_bytes [] line i low = absurd line
+line_bytes (b ∷ l) line zero low = omega (arith, line.0)
+line_bytes (b ∷ l) line (suc i) low = inside_bytes l line.1 i (omega arith)
+
+one_lf : (ls : List (List ℕ)) → AllByRecursion IsLogLine ls → length ls ≤ 1 → (i : ℕ) → i < length (text_of ls) → slice_index (text_of ls) i ≡ 10 → i + 1 ≡ length (text_of ls)
+one_lf [] all one i low lf = absurd (omega arith)
+one_lf (l ∷ []) all one i low lf = elim (cases_lt i (length l)) [
+  | inl before ↦ absurd (omega (arith, line_bytes l all.0 i before, sym (get_or_append_left l (10 ∷ []) 0 i before) ∙ lf))
+  | inr there ↦ omega (arith, low, there, length-append l (10 ∷ []))
+]
+one_lf (l ∷ m ∷ ls) all one i low lf = absurd (omega arith)
+
+-- the text of a torn write that is short or one line, each byte as it was or blank, and blanks behind it
+pub torn_text : (g d : List ℕ) → text_of (lines_in g) ≡ g → AllByRecursion IsLogLine (lines_in g) → (length g ≤ 2 ^ 16) ⊎ (length (lines_in g) ≤ 1)
+    → ((i : ℕ) → i < length g → i < length d → (slice_index d i ≡ 13) ⊎ (slice_index d i ≡ slice_index g i)) → ((i : ℕ) → length g ≤ i → i < length d → slice_index d i ≡ 13) → IsTornRest d
+torn_text g d whole all small each blank = elim small [
+  | inl few ↦ inl (λ i high low. blank i (omega (arith, few, high)) low)
+  | inr one ↦ inr (λ i j before low lf. elim (cases_lt i (length g)) [
+    | inl inside_text ↦ elim (each i inside_text (omega (arith, before, low))) [
+      | inl is_blank ↦ absurd (omega (arith, is_blank, lf))
+      | inr same ↦
+          let at_lf : slice_index (text_of (lines_in g)) i ≡ 10 = ap (λ (t : List ℕ). slice_index t i) whole ∙ sym same ∙ lf in
+          let last = one_lf (lines_in g) all one i (omega (arith, inside_text, ap length whole)) at_lf in
+          blank j (omega (arith, last, ap length whole, before)) low
+    ]
+    | inr behind ↦ absurd (omega (arith, blank i (omega (arith, behind)) (omega (arith, before, low)), lf))
+  ])
+]

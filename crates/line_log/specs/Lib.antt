@@ -9,3 +9,4 @@ pub mod ReadingPrivate
 pub mod Laws
 pub mod Restarts
 pub mod WritingPrivate
+pub mod TornRestPrivate

@@ -53,6 +53,7 @@ fn put_line(hasher: &mut Sha256, line: &[u8], file: &mut Vec<u8>) -> Result<(), 
     ensures text { OnOk result ((before : List ℕ) → Holds256 hasher.old before → Holds256 hasher.new (before ++ line.now ++ 10 ∷ [])) }
     ensures put { OnOk result ((before : List ℕ) → Holds256 hasher.old before → lines_in file.new.items ≡ lines_in file.old.items ++ hashed_line before line.now ∷ []) }
     ensures lines { OnOk result (IsText file.new.items) }
+    ensures count { OnOk result (length (lines_in file.new.items) ≡ length (lines_in file.old.items) + 1) }
     ensures len { OnOk result (length file.new.items ≡ length file.old.items + length line.now + 34) }
 {
     let hash = hash_line(hasher, line)?;
@@ -83,6 +84,7 @@ pub(crate) fn with_hashes(
     ensures text { OnOk result ((before : List ℕ) → Holds256 hasher.old before → Holds256 hasher.new (before ++ text.now)) }
     ensures hashed { IfOk result (λ file. (before : List ℕ) → Holds256 hasher.old before → lines_in file.items ≡ hashed_after before (lines_in text.now)) }
     ensures lines { IfOk result (λ file. IsText file.items) }
+    ensures count { IfOk result (λ file. length (lines_in file.items) ≡ length (lines_in text.now)) }
     ensures len { IfOk result (λ file. length file.items ≡ size_in_file text.now) }
 {
     let mut file = Vec::new(alloc);

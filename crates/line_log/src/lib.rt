@@ -14,12 +14,12 @@
 //!
 //! The definitions are in `specs/`: `Lines` has the lines of a file, `Hashes` their hashes and what a crash may leave, `Tails` what may
 //! follow the lines, `Log` when a file is at rest and which lines an open log has, `Reading` what a reader has read, `Damage` when it
-//! may report damage, `Failures` when adding lines fails, `Laws` the theorems, `Restarts` what survives crashes. `ReadingPrivate` and
-//! `WritingPrivate` are for this crate's own contracts.
+//! may report damage, `Failures` when adding lines fails, `Laws` the theorems, `Restarts` what survives crashes. `ReadingPrivate`,
+//! `TornRestPrivate` and `WritingPrivate` are for this crate's own contracts.
 //!
 //! - `log`, `file`, `reader`: the types; `error`: their error.
 //! - `appending`, `hashing`: lines get their hashes and are added; `writing`: bytes are written so that a crash leaves whole lines.
-//! - `reading`, `first_line`: a file is read line by line; `tail`: it gets its end back; `opening`: a log is opened and read whole.
+//! - `reading`, `first_line`: a file is read line by line; `torn_rest`: what follows a broken line; `tail`: it gets its end back; `opening`: a log is opened and read whole.
 //! - `laws`: theorems about the definitions; `restart`: the theorem on crashes and restarts.
 //!
 //! `docs/GLOSSARY.md` explains the terms.
@@ -37,6 +37,7 @@ mod reader;
 mod reading;
 mod restart;
 mod tail;
+mod torn_rest;
 mod writing;
 
 pub use error::LogError;

@@ -18,15 +18,16 @@ use crate::hashing::take_line;
 use crate::log::LineLog;
 use crate::reader::LogReader;
 use crate::tail::{cut_tail, shut_tail};
+use crate::torn_rest::is_torn_rest;
 use sha2::{Digest, Sha256};
 use sqlite_disk::Disk;
 use std::alloc::Global;
 
 /// How many bytes of a file are read at once.
-const BLOCK: usize = 1 << 18;
+pub(crate) const BLOCK: usize = 1 << 18;
 
 /// Reads a part of a file.
-fn read_block<D: Disk>(
+pub(crate) fn read_block<D: Disk>(
     alloc: Global,
     disk: &mut D,
     at: usize,
@@ -211,8 +212,11 @@ impl<D: Disk> LogReader<D> {
         match self.look(alloc)? {
             FirstLine::Whole(len) => Ok(Some(len)),
             FirstLine::Part => Ok(None),
-            FirstLine::Broken(len) => {
-                if !self.is_torn(len) {
+            FirstLine::Broken(front) => {
+                if !is_torn_rest(alloc, &mut self.disk, self.at, front, self.len)? {
+                    return Err(LogError::Damaged(self.count));
+                }
+                if !self.is_torn(front) {
                     return Err(LogError::Damaged(self.count));
                 }
                 Ok(None)

@@ -2,7 +2,7 @@
 
 ghost use Rattle.std.specs.Prelude.{◌≡◌, ◌+◌, ◌<◌, ◌≤◌, ◌^◌, ◌++◌, ℕ, Bool, true, false, List, length, replicate, IsTrue, IfErr, IfOk, OnOk};
 ghost use Rattle.line_log.specs.Failures.{LeavesLog, IsWriteFault};
-ghost use Rattle.line_log.specs.WritingPrivate.{IsDiskFault};
+ghost use Rattle.line_log.specs.WritingPrivate.{IsDiskFault, IsSmallText};
 ghost use Rattle.line_log.specs.Lines.{IsText, lines_in};
 ghost use Rattle.line_log.specs.Log.{IsCrashed, IsSynced, MixesIf};
 ghost use Rattle.line_log.specs.Tails.{MayEnd, tail_in};
@@ -30,6 +30,7 @@ impl<D: Disk> LineFile<D> {
         requires synced { IsTrue (D.Disk.is_clean self.old.disk) → IsSynced D.Disk.seen D.Disk.may_leave self.old }
         requires text { IsText text.now }
         requires short { length text.now ≤ 2 ^ 23 }
+        requires small { IsSmallText text.now }
         ensures clean { D.Disk.is_clean self.new.disk ≡ D.Disk.is_clean self.old.disk }
         ensures usable { OnOk result (IsTrue (D.Disk.is_usable self.new.disk)) }
         ensures synced { OnOk result (IsTrue (D.Disk.is_clean self.old.disk) → IsSynced D.Disk.seen D.Disk.may_leave self.new) }
@@ -77,6 +78,7 @@ impl<D: Disk> LineFile<D> {
         requires usable { IsTrue (D.Disk.is_usable self.old.disk) }
         requires synced { IsTrue (D.Disk.is_clean self.old.disk) → IsSynced D.Disk.seen D.Disk.may_leave self.old }
         requires text { IsText text.now }
+        requires small { IsSmallText text.now }
         requires room { self.old.end + length text.now < self.old.len }
         ensures clean { D.Disk.is_clean self.new.disk ≡ D.Disk.is_clean self.old.disk }
         ensures usable { OnOk result (IsTrue (D.Disk.is_usable self.new.disk)) }
@@ -96,12 +98,14 @@ impl<D: Disk> LineFile<D> {
         }
     }
 
-    /// Writes lines with one sync. A torn write must leave each byte blank or new.
+    /// Writes lines with one sync. A torn write must leave each byte blank or new. A start takes a torn write of more than 64 KiB for one
+    /// only if it was of one line.
     fn write_at_once(&mut self, text: &[u8]) -> Result<(), LogError>
         requires usable { IsTrue (D.Disk.is_usable self.old.disk) }
         requires synced { IsTrue (D.Disk.is_clean self.old.disk) → IsSynced D.Disk.seen D.Disk.may_leave self.old }
         requires text { IsText text.now }
         requires some { 0 < length text.now }
+        requires small { IsSmallText text.now }
         requires room { self.old.end + length text.now < self.old.len }
         requires mixing { IsTrue (D.Disk.is_mixing self.old.disk) }
         ensures clean { D.Disk.is_clean self.new.disk ≡ D.Disk.is_clean self.old.disk }

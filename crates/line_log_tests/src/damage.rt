@@ -120,3 +120,54 @@ fn damage_that_was_not_read_is_not_cut_off(rt: HostRuntime) -> Result<(), Fail> 
     );
     Ok(())
 }
+
+/// Returns the bytes of a file with a short line and then two lines of 40 KiB, which were added one by one.
+fn long_file(alloc: Global) -> Result<Vec<u8>, AllocError> {
+    let mut line = Vec::new(alloc);
+    line.push(b'{')?;
+    line.resize(40 << 10, b'-')?;
+    line.push(b'\n')?;
+    let Ok((mut log, _)) = open_log(alloc, TornDisk::new(alloc, b"", true)?) else {
+        return Err(AllocError);
+    };
+    let first: &[u8] = b"{\"n-1\":1}\n";
+    if !is_text(first) || !is_text(&line) {
+        return Err(AllocError);
+    }
+    if log.append(alloc, first).is_err()
+        || log.append(alloc, &line).is_err()
+        || log.append(alloc, &line).is_err()
+    {
+        return Err(AllocError);
+    }
+    let mut bytes = Vec::new(alloc);
+    bytes.extend_from_slice(log.file.disk.bytes())?;
+    Ok(bytes)
+}
+
+/// Returns how many lines a file with these bytes has, or nothing if it doesn't open.
+fn count_lines(alloc: Global, file: &[u8]) -> Result<Option<usize>, AllocError> {
+    let Ok((_, text)) = open_log(alloc, TornDisk::new(alloc, file, true)?) else {
+        return Ok(None);
+    };
+    Ok(Some(text.iter().filter(|byte| **byte == b'\n').count()))
+}
+
+#[test]
+fn a_bit_that_makes_a_blank_is_found_before_64_kib_of_lines(rt: HostRuntime) -> Result<(), Fail> {
+    let mut file = long_file(rt.alloc())?;
+    flip(&mut file, 3, 32);
+    holds(
+        &rt,
+        count_lines(rt.alloc(), &file)?.is_none(),
+        "a dash in the first line",
+    );
+    flip(&mut file, 3, 32);
+    flip(&mut file, 50 << 10, 32);
+    holds(
+        &rt,
+        count_lines(rt.alloc(), &file)? == Some(2),
+        "a dash in the last line, which seems torn",
+    );
+    Ok(())
+}

@@ -9,7 +9,7 @@ use Rattle.line_log.proofs.hashing.with_hashes.Goals as goal
 
 pub lines-preserved : goal.lines-preserved
 lines-preserved c =
-    let (ls, all, is, held, long) = c.lines.invariant.read in
+    let (ls, all, is, held, long, count) = c.lines.invariant.read in
     let text = c.args.text.now in
     let rest = c.lines.rest.now in
     let n = c.in-Some.n in
@@ -31,26 +31,33 @@ lines-preserved c =
               more_hashed before ls l file new so_far.1 (c.in_ok-put_line.ensures.put (before ++ text_of ls) so_far.0),
             ),
         omega (arith, long, c.in_ok-put_line.ensures.len, ap length (text_more ls l), length-append (text_of ls) (l ++ 10 ∷ []), length-append l (10 ∷ []), length-append ls (l ∷ [])),
+        omega (arith, count, c.in_ok-put_line.ensures.count, length-append ls (l ∷ [])),
       );
       whole = c.in_ok-put_line.ensures.lines;
     }
 
 pub returns-clause-text : goal.returns-clause-text
 returns-clause-text c before start =
-    let (ls, all, is, held, long) = c.lines.invariant.read in
+    let (ls, all, is, held, long, count) = c.lines.invariant.read in
     let found : lines_in c.args.text.now ≡ ls = text_ended c.args.text.now c.lines.rest.now ls is all c.in_default.ensures.none in
     let whole : text_of ls ≡ c.args.text.now = ap text_of (sym found) ∙ c.requires in
     subst (λ (t : List ℕ). Holds256 c.lines.hasher (before ++ t)) whole (held before start).0
 
 pub returns-clause-hashed : goal.returns-clause-hashed
 returns-clause-hashed c before start =
-    let (ls, all, is, held, long) = c.lines.invariant.read in
+    let (ls, all, is, held, long, count) = c.lines.invariant.read in
     let found : lines_in c.args.text.now ≡ ls = text_ended c.args.text.now c.lines.rest.now ls is all c.in_default.ensures.none in
     (held before start).1 ∙ ap (hashed_after before) (sym found)
 
 pub returns-clause-len : goal.returns-clause-len
 returns-clause-len c =
-    let (ls, all, is, held, long) = c.lines.invariant.read in
+    let (ls, all, is, held, long, count) = c.lines.invariant.read in
     let found : lines_in c.args.text.now ≡ ls = text_ended c.args.text.now c.lines.rest.now ls is all c.in_default.ensures.none in
     let whole : text_of ls ≡ c.args.text.now = ap text_of (sym found) ∙ c.requires in
     omega (arith, long, ap length whole, ap length found)
+
+pub returns-clause-count : goal.returns-clause-count
+returns-clause-count c =
+    let (ls, all, is, held, long, count) = c.lines.invariant.read in
+    let found : lines_in c.args.text.now ≡ ls = text_ended c.args.text.now c.lines.rest.now ls is all c.in_default.ensures.none in
+    count ∙ ap length (sym found)

@@ -9,7 +9,7 @@ abbrev pub invariant-lines : goal.invariant-lines
 invariant-lines l = record {
   read : (ls : List (List ℕ)) × AllByRecursion IsLogLine ls × (l.text ≡ text_of ls ++ l.rest)
       × ((before : List ℕ) → Holds256 l.fn.hasher before → Holds256 l.hasher (before ++ text_of ls) × (lines_in l.file.items ≡ hashed_after before ls))
-      × (length l.file.items ≡ length (text_of ls) + 33 * length ls);
+      × (length l.file.items ≡ length (text_of ls) + 33 * length ls) × (length (lines_in l.file.items) ≡ length ls);
   whole : IsText l.file.items;
 }
 

@@ -1,8 +1,8 @@
-use Rattle.std.proofs.Common.{◌≡◌, [], ℕ, drop, subst}
+use Rattle.std.proofs.Common.{◌≡◌, ◌+◌, ◌<◌, [], ℕ, length, drop, sym, ◌∙◌, ap, subst, arith, length-drop}
 use Rattle.line_log.specs.Lines.{lines_in}
-use Rattle.line_log.specs.Tails.{tail_in, MayEnd}
+use Rattle.line_log.specs.Tails.{tail_in, IsTornRest, MayEnd}
 use Rattle.line_log.specs.ReadingPrivate.{IsEnd, Tells}
-use Rattle.line_log.proofs.ReadLemmas.{none_part, none_broken, end_part, end_torn, end_wrong}
+use Rattle.line_log.proofs.ReadLemmas.{none_part, none_broken, end_part, end_torn, end_wrong, rest_wrong, behind, before}
 use Rattle.line_log.proofs.reader.LogReader.next_len.Goals as goal
 
 pub returns-in-Part-clause-end : goal.returns-in-Part-clause-end
@@ -18,22 +18,46 @@ pub returns-else-not-is_torn-clause-end : goal.returns-else-not-is_torn-clause-e
 returns-else-not-is_torn-clause-end g c clean part =
     let file = g.D.Disk.seen c.args.self.now.disk in
     let s = c.look.new.self in
-    let mixes = g.D.Disk.is_mixing s.disk in
-    let here = c.look.ensures.part clean part in
+    let n = c.in-Broken.front in
+    let mixes = g.D.Disk.is_mixing c.is_torn_rest.new.disk in
+    let here = c.look.ensures.part (c.is_torn_rest.ensures.clean clean) part in
     let tells = subst (Tells s) c.in-Broken.is c.in_ok-len.ensures.tells in
     let torn = c.is_torn.ensures.torn c.if-not-is_torn.false in
-    subst (λ (n : ℕ). IsEnd mixes (drop n file)) c.look.ensures.at
-    (record { none = none_broken file s here c.in-Broken.len tells; end = end_torn file s here mixes c.in-Broken.len tells torn })
+    let rest : 0 < n → IsTornRest (drop (s.at + (n + 1)) file) = λ some. behind file s n (g.D.Disk.seen s.disk) c.look.ensures.seen
+    (c.in_ok-is_torn_rest-in-Broken.ensures.torn c.if-not-branch.false clean (here.len ∙ ap length (sym c.look.ensures.seen)) some) in
+    subst (λ (n : ℕ). IsEnd mixes (drop n file)) c.look.ensures.at (record { none = none_broken file s here n tells; end = end_torn file s here mixes n tells torn rest })
+
+pub returns-then-not-branch-clause-fault : goal.returns-then-not-branch-clause-fault
+returns-then-not-branch-clause-fault g c clean part =
+    let file = g.D.Disk.seen c.args.self.now.disk in
+    let s = c.look.new.self in
+    let n = c.in-Broken.front in
+    let mixes = g.D.Disk.is_mixing c.is_torn_rest.new.disk in
+    let here = c.look.ensures.part (c.is_torn_rest.ensures.clean clean) part in
+    let tells = subst (Tells s) c.in-Broken.is c.in_ok-len.ensures.tells in
+    let (some, not) = c.in_ok-is_torn_rest-in-Broken.ensures.other c.if-not-branch.true clean (here.len ∙ ap length (sym c.look.ensures.seen)) in
+    let other = rest_wrong file s here mixes n tells some (λ torn. not (before file s n (g.D.Disk.seen s.disk) c.look.ensures.seen torn)) in (
+      c.look.ensures.count,
+      subst (λ (n : ℕ). lines_in (drop n file) ≡ []) c.look.ensures.at (none_broken file s here n tells),
+      subst (λ (n : ℕ). MayEnd mixes (tail_in (drop n file)) → ⊥) c.look.ensures.at other,
+    )
 
 pub returns-then-not-is_torn-clause-fault : goal.returns-then-not-is_torn-clause-fault
 returns-then-not-is_torn-clause-fault g c clean part =
     let file = g.D.Disk.seen c.args.self.now.disk in
     let s = c.look.new.self in
-    let mixes = g.D.Disk.is_mixing s.disk in
-    let here = c.look.ensures.part clean part in
+    let n = c.in-Broken.front in
+    let mixes = g.D.Disk.is_mixing c.is_torn_rest.new.disk in
+    let here = c.look.ensures.part (c.is_torn_rest.ensures.clean clean) part in
     let tells = subst (Tells s) c.in-Broken.is c.in_ok-len.ensures.tells in
-    let other = end_wrong file s here mixes c.in-Broken.len tells (c.is_torn.ensures.other c.if-not-is_torn.true) in (
+    let other = end_wrong file s here mixes n tells (c.is_torn.ensures.other c.if-not-is_torn.true) in (
       c.look.ensures.count,
-      subst (λ (n : ℕ). lines_in (drop n file) ≡ []) c.look.ensures.at (none_broken file s here c.in-Broken.len tells),
+      subst (λ (n : ℕ). lines_in (drop n file) ≡ []) c.look.ensures.at (none_broken file s here n tells),
       subst (λ (n : ℕ). MayEnd mixes (tail_in (drop n file)) → ⊥) c.look.ensures.at other,
     )
+
+pub is_torn_rest-requires-clause-within : goal.is_torn_rest-requires-clause-within
+is_torn_rest-requires-clause-within g c =
+    let s = c.look.new.self in
+    let tells = subst (Tells s) c.in-Broken.is c.in_ok-len.ensures.tells in
+    omega (arith, tells.begins.0, s.room, s.inside, length-drop s.from s.block.items)
