@@ -247,6 +247,19 @@ past_justified mixes file r lines (LineTooLong n) read fault = next_justified mi
 past_justified mixes file r lines (Damaged n) read fault = next_justified mixes file r lines (Damaged n) read fault
 past_justified mixes file r lines Unread read fault = (fault.0, fault.1, read.read ∙ ap (λ (l : List (List ℕ)). hashed lines ++ l) fault.2)
 
+-- the same of a reader that has read as much of the same file
+pub next_past : {D : Type 0} {d : Ghosts D} (mixes : Bool) (file now : List ℕ) (r s : LogReader D d) (e : LogError) → now ≡ file → s.at ≡ r.at → s.count ≡ r.count → IsNextFault mixes now s e → IsPastFault mixes file r e
+next_past mixes file now r s NoMemory same at count fault = tt
+next_past mixes file now r s (Disk e) same at count fault = tt
+next_past mixes file now r s TooLong same at count fault = absurd fault
+next_past mixes file now r s TooMuch same at count fault = absurd fault
+next_past mixes file now r s (LineTooLong n) same at count fault =
+    (fault.0 ∙ count, subst (λ (k : ℕ). IsLongLine (drop k file)) at (subst (λ (f : List ℕ). IsLongLine (drop s.at f)) same fault.1))
+next_past mixes file now r s (Damaged n) same at count fault =
+    let here = λ (P : List ℕ → Type 0) (p : P (drop s.at now)). subst (λ (k : ℕ). P (drop k file)) at (subst (λ (f : List ℕ). P (drop s.at f)) same p) in
+    (fault.0 ∙ count, here (λ (b : List ℕ). lines_in b ≡ []) fault.1, here (λ (b : List ℕ). MayEnd mixes (tail_in b) → ⊥) fault.2)
+next_past mixes file now r s Unread same at count fault = absurd fault
+
 pub disk_finish : (mixes : Bool) (file : List ℕ) (lines : List (List ℕ)) (old new : ℕ) (e : LogError) → IsDiskFault old new e → JustifiesFinish mixes file lines e
 disk_finish mixes file lines old new NoMemory fault = absurd fault
 disk_finish mixes file lines old new (Disk e) fault = tt

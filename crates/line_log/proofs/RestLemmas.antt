@@ -3,6 +3,8 @@ use Rattle.std.proofs.Common.{◌≡◌, inl, inr, ℕ, ◌+◌, ◌-◌, ◌^�
 use Rattle.std.proofs.lemmas.Bool.{cases_lt}
 use Rattle.std.proofs.lemmas.List.{get_or-drop}
 use Rattle.std.specs.Prelude.{◌≢◌, slice_index}
+use Rattle.line_log.specs.Lines.{lines_in, text_of}
+use Rattle.line_log.specs.Log.{IsCut}
 use Rattle.line_log.specs.Tails.{IsTornRest}
 use Rattle.line_log.specs.TornRestPrivate.{HasEnd, HasLineEnd}
 
@@ -92,3 +94,12 @@ module _ (file : List ℕ) (from len end line : ℕ) (all : len ≡ length file)
             let lf : slice_index (drop from file) (line - 1 - from) ≡ 10 = at_rest (line - 1 - from) ∙ ap (slice_index file) here ∙ first.last found in
             other (sym is ∙ one (line - 1 - from) (end - 1 - from) (omega (arith, behind, first.above found)) low lf)
       ]
+
+-- what follows the lines of a file
+pub is_cut : (file : List ℕ) (at cut : ℕ) → at ≡ length (text_of (lines_in file)) → HasEnd file at (length file) (at + cut) → IsCut file cut
+is_cut file at cut at_is has = record {
+  blank = λ i past low. has.blank i (omega (arith, at_is, past)) low;
+  last = λ some is.
+      let here : at + cut - 1 ≡ length (text_of (lines_in file)) + cut - 1 = omega (arith, at_is) in
+      has.last (omega (arith, some)) (ap (slice_index file) here ∙ is);
+}

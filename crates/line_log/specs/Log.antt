@@ -1,5 +1,5 @@
 -- When a log is at rest.
-use Rattle.std.specs.Prelude.{◌≡◌, ◌≢◌, Bool, IsTrue, ℕ, ◌<◌, ◌≤◌, List, length, slice_index}
+use Rattle.std.specs.Prelude.{◌≡◌, ◌≢◌, Bool, IsTrue, ℕ, ◌+◌, ◌-◌, ◌<◌, ◌≤◌, List, length, slice_index}
 use Rattle.sqlite_disk.specs.Disk.{Only}
 use Rattle.sqlite_disk.specs.declared.Disk.{Ghosts}
 use Rattle.line_log.specs.Lines.{lines_in, text_of, IsBetween}
@@ -24,6 +24,11 @@ pub record IsAtRest (file : List ℕ) (end : ℕ) : Type 0 where
   pub end_is : end ≡ length (text_of (lines_in file))
   pub text : (i : ℕ) → i < end → slice_index file i ≡ slice_index (text_of (lines_in file)) i
   pub blank : (i : ℕ) → end ≤ i → i < length file → slice_index file i ≡ 13
+
+-- so many bytes follow the lines of the file, and then blanks to its end
+pub record IsCut (file : List ℕ) (cut : ℕ) : Type 0 where
+  pub blank : (i : ℕ) → length (text_of (lines_in file)) + cut ≤ i → i < length file → slice_index file i ≡ 13
+  pub last : 0 < cut → slice_index file (length (text_of (lines_in file)) + cut - 1) ≢ 13
 
 -- the file has the old lines and perhaps the first of the new ones, and it ends as a crash may leave it
 pub record IsCrashed (mixes : Bool) (old new : List (List ℕ)) (file : List ℕ) : Type 0 where

@@ -51,7 +51,7 @@ pub fn open_log<D: Disk>(alloc: Global, disk: D) -> Result<(LineLog<D>, Vec<u8>)
     let mut reader = LogReader::new(alloc, disk)?;
     match read_text(alloc, &mut reader) {
         Ok(text) => {
-            let log = reader.finish(alloc)?;
+            let (log, _) = reader.finish(alloc)?;
             Ok((log, text))
         }
         Err(error) => {

@@ -5,10 +5,11 @@ ghost use Rattle.sqlite_disk.specs.Disk.{Only};
 ghost use Rattle.line_log.specs.Damage.{JustifiesError, JustifiesFinish, IsOutside};
 ghost use Rattle.line_log.specs.Lines.{lines_in, IsLineFront};
 ghost use Rattle.line_log.specs.Hashes.{hashed};
-ghost use Rattle.line_log.specs.Log.{HasLines, IsAtRest, KeepsLines, MixesIf};
+ghost use Rattle.line_log.specs.Log.{HasLines, IsAtRest, IsCut, KeepsLines, MixesIf};
 ghost use Rattle.line_log.specs.Reading.{HasReadLines, IsPartOf, held_by};
 ghost use Rattle.line_log.specs.ReadingPrivate.{BeginsAs, IsEnd, IsLookFault, IsNextFault, IsPastFault, IsTornAt, Tells};
 ghost use Rattle.line_log.specs.Tails.{MayEnd, tail_in};
+ghost use Rattle.line_log.specs.TornRestPrivate.{HasEnd};
 ghost use Rattle.line_log.specs.declared.first_line.FirstLine.TheVariants.{Whole};
 
 use crate::error::LogError;
@@ -18,7 +19,7 @@ use crate::hashing::take_line;
 use crate::log::LineLog;
 use crate::reader::LogReader;
 use crate::tail::{cut_tail, shut_tail};
-use crate::torn_rest::is_torn_rest;
+use crate::torn_rest::{is_torn_rest, used_from};
 use sha2::{Digest, Sha256};
 use sqlite_disk::Disk;
 use std::alloc::Global;
@@ -102,22 +103,24 @@ impl<D: Disk> LogReader<D> {
 
     /// Opens the log whose lines were all read: cuts off what a crash left behind them, and leaves a blank there. It may crash too, and
     /// then the file has the same lines. An error hands the file back. Nothing is written if a line follows (`Unread`), whole or too long
-    /// (`LineTooLong`), or if the lines end in something that no crash leaves (`Damaged`).
-    pub fn finish(mut self, alloc: Global) -> Result<LineLog<D>, (LogError, D)>
+    /// (`LineTooLong`), or if the lines end in something that no crash leaves (`Damaged`). Also returns how many bytes were cut off, without
+    /// the blanks at the end.
+    pub fn finish(mut self, alloc: Global) -> Result<(LineLog<D>, usize), (LogError, D)>
         requires usable { IsTrue (D.Disk.is_usable self.disk) }
         // After a restart, what is read is what is on the disk.
         requires durable { Only (D.Disk.seen self.disk) (D.Disk.may_leave self.disk) }
         requires read { IsTrue (D.Disk.is_clean self.disk) → (lines : List (List ℕ)) × HasReadLines (D.Disk.seen self.disk) self lines }
-        ensures usable { IfOk result (λ log. IsTrue (D.Disk.is_usable log.file.disk)) }
-        ensures clean { IfOk result (λ log. IsTrue (D.Disk.is_clean log.file.disk) → IsTrue (D.Disk.is_clean self.disk)) }
+        ensures usable { IfOk result (λ r. IsTrue (D.Disk.is_usable r.0.file.disk)) }
+        ensures clean { IfOk result (λ r. IsTrue (D.Disk.is_clean r.0.file.disk) → IsTrue (D.Disk.is_clean self.disk)) }
         ensures clean_err { IfErr result (λ e. IsTrue (D.Disk.is_clean e.1) → IsTrue (D.Disk.is_clean self.disk)) }
-        ensures opened { IfOk result (λ log. IsTrue (D.Disk.is_clean log.file.disk) → (lines : List (List ℕ)) → HasReadLines (D.Disk.seen self.disk) self lines
-            → HasLines D.Disk.seen D.Disk.may_leave log lines) }
-        ensures end { IfOk result (λ log. IsTrue (D.Disk.is_clean log.file.disk) → (lines : List (List ℕ)) → HasReadLines (D.Disk.seen self.disk) self lines
+        ensures opened { IfOk result (λ r. IsTrue (D.Disk.is_clean r.0.file.disk) → (lines : List (List ℕ)) → HasReadLines (D.Disk.seen self.disk) self lines
+            → HasLines D.Disk.seen D.Disk.may_leave r.0 lines) }
+        ensures end { IfOk result (λ r. IsTrue (D.Disk.is_clean r.0.file.disk) → (lines : List (List ℕ)) → HasReadLines (D.Disk.seen self.disk) self lines
             → (mixes : Bool) → MixesIf D.Disk.is_mixing mixes → MayEnd mixes (tail_in (D.Disk.seen self.disk))) }
+        ensures cut { IfOk result (λ r. IsTrue (D.Disk.is_clean r.0.file.disk) → (lines : List (List ℕ)) → HasReadLines (D.Disk.seen self.disk) self lines → IsCut (D.Disk.seen self.disk) r.1) }
         ensures justified { IfErr result (λ e. IsTrue (D.Disk.is_clean e.1) → (lines : List (List ℕ)) → HasReadLines (D.Disk.seen self.disk) self lines
             → JustifiesFinish (D.Disk.is_mixing e.1) (D.Disk.seen self.disk) lines e.0) }
-        ensures any_moment { IfOk result (λ log. IsTrue (D.Disk.is_clean log.file.disk) → (c : List ℕ) → D.Disk.may_leave log.file.disk c → KeepsLines D.Disk.is_mixing (D.Disk.seen self.disk) c) }
+        ensures any_moment { IfOk result (λ r. IsTrue (D.Disk.is_clean r.0.file.disk) → (c : List ℕ) → D.Disk.may_leave r.0.file.disk c → KeepsLines D.Disk.is_mixing (D.Disk.seen self.disk) c) }
         ensures any_moment_err { IfErr result (λ e. IsTrue (D.Disk.is_clean e.1) → (c : List ℕ) → D.Disk.may_leave e.1 c → KeepsLines D.Disk.is_mixing (D.Disk.seen self.disk) c) }
     {
         let trimmed = self.trim(alloc);
@@ -128,20 +131,20 @@ impl<D: Disk> LogReader<D> {
             ..
         } = self;
         match trimmed {
-            Ok(()) => {
+            Ok(cut) => {
                 let file = LineFile {
                     disk,
                     end: at,
                     len: at + 1,
                 };
-                Ok(LineLog { file, hasher })
+                Ok((LineLog { file, hasher }, cut))
             }
             Err(error) => Err((error, disk)),
         }
     }
 
-    /// Cuts off what isn't a whole line, and leaves a blank behind the lines, all of which were read.
-    fn trim(&mut self, alloc: Global) -> Result<(), LogError>
+    /// Cuts off what isn't a whole line, and leaves a blank behind the lines, all of which were read. Returns how many bytes were cut off.
+    fn trim(&mut self, alloc: Global) -> Result<usize, LogError>
         requires usable { IsTrue (D.Disk.is_usable self.old.disk) }
         requires durable { Only (D.Disk.seen self.old.disk) (D.Disk.may_leave self.old.disk) }
         requires read { IsTrue (D.Disk.is_clean self.old.disk) → (lines : List (List ℕ)) × HasReadLines (D.Disk.seen self.old.disk) self.old lines }
@@ -157,11 +160,12 @@ impl<D: Disk> LogReader<D> {
         ensures all { OnOk result (IsTrue (D.Disk.is_clean self.new.disk) → lines_in (drop self.old.at (D.Disk.seen self.old.disk)) ≡ []) }
         ensures end { OnOk result (IsTrue (D.Disk.is_clean self.new.disk) → (lines : List (List ℕ)) → HasReadLines (D.Disk.seen self.old.disk) self.old lines
             → (mixes : Bool) → MixesIf D.Disk.is_mixing mixes → MayEnd mixes (tail_in (D.Disk.seen self.old.disk))) }
+        ensures cut { IfOk result (λ cut. IsTrue (D.Disk.is_clean self.new.disk) → (lines : List (List ℕ)) → HasReadLines (D.Disk.seen self.old.disk) self.old lines → IsCut (D.Disk.seen self.old.disk) cut) }
         ensures justified { IfErr result (λ e. IsTrue (D.Disk.is_clean self.new.disk) → (lines : List (List ℕ)) → HasReadLines (D.Disk.seen self.old.disk) self.old lines
             → JustifiesFinish (D.Disk.is_mixing self.new.disk) (D.Disk.seen self.old.disk) lines e) }
         ensures any_moment { IsTrue (D.Disk.is_clean self.new.disk) → (c : List ℕ) → D.Disk.may_leave self.new.disk c → KeepsLines D.Disk.is_mixing (D.Disk.seen self.old.disk) c }
     {
-        self.look_past(alloc)?;
+        let cut = self.look_past(alloc)?;
         let end = self.at;
         if end > MOST {
             return Err(LogError::TooLong);
@@ -169,11 +173,12 @@ impl<D: Disk> LogReader<D> {
         let is_open = self.begins_line();
         shut_tail(&mut self.disk, end, is_open)?;
         cut_tail(&mut self.disk, end)?;
-        Ok(())
+        Ok(cut)
     }
 
-    /// Looks whether a line is left to read, which is an error, or damage.
-    fn look_past(&mut self, alloc: Global) -> Result<(), LogError>
+    /// Looks whether a line is left to read, which is an error, or damage. Returns how many bytes follow the lines, without the blanks at the
+    /// end.
+    fn look_past(&mut self, alloc: Global) -> Result<usize, LogError>
         requires usable { IsTrue (D.Disk.is_usable self.old.disk) }
         ensures usable { IsTrue (D.Disk.is_usable self.new.disk) }
         ensures clean { IsTrue (D.Disk.is_clean self.new.disk) → IsTrue (D.Disk.is_clean self.old.disk) }
@@ -185,11 +190,14 @@ impl<D: Disk> LogReader<D> {
         ensures part { IsTrue (D.Disk.is_clean self.new.disk) → IsPartOf (D.Disk.seen self.old.disk) self.old → IsPartOf (D.Disk.seen self.old.disk) self.new }
         ensures end { OnOk result (IsTrue (D.Disk.is_clean self.new.disk) → IsPartOf (D.Disk.seen self.old.disk) self.old → IsEnd (D.Disk.is_mixing self.new.disk) (drop self.old.at (D.Disk.seen self.old.disk))) }
         ensures held { OnOk result (IsTrue (D.Disk.is_clean self.new.disk) → IsPartOf (D.Disk.seen self.old.disk) self.old → self.new.at < length (D.Disk.seen self.old.disk) → 0 < length (held_by self.new)) }
+        ensures cut { IfOk result (λ cut. IsTrue (D.Disk.is_clean self.new.disk) → IsPartOf (D.Disk.seen self.old.disk) self.old → HasEnd (D.Disk.seen self.old.disk) self.old.at (length (D.Disk.seen self.old.disk)) (self.old.at + cut)) }
         ensures fault { IfErr result (λ e. IsTrue (D.Disk.is_clean self.new.disk) → IsPartOf (D.Disk.seen self.old.disk) self.old → IsPastFault (D.Disk.is_mixing self.new.disk) (D.Disk.seen self.old.disk) self.old e) }
     {
+        let used = used_from(alloc, &mut self.disk, self.at, self.len)?;
+        let cut = used.end.saturating_sub(self.at);
         match self.next_len(alloc)? {
             Some(_) => Err(LogError::Unread),
-            None => Ok(()),
+            None => Ok(cut),
         }
     }
 

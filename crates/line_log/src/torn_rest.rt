@@ -74,7 +74,7 @@ fn next_line_end(end: usize, block: &[u8], at: usize, len: usize) -> usize
 }
 
 /// Returns what the bytes of a file of this length have from here on.
-fn used_from<D: Disk>(
+pub(crate) fn used_from<D: Disk>(
     alloc: Global,
     disk: &mut D,
     from: usize,

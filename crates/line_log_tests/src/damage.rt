@@ -171,3 +171,21 @@ fn a_bit_that_makes_a_blank_is_found_before_64_kib_of_lines(rt: HostRuntime) -> 
     );
     Ok(())
 }
+
+#[test]
+fn the_bytes_that_are_cut_off_are_counted(rt: HostRuntime) -> Result<(), Fail> {
+    let file: &[u8] = b"{\"n\":1\r\r\r";
+    let Ok(reader) = LogReader::new(rt.alloc(), TornDisk::new(rt.alloc(), file, true)?) else {
+        return Err(Fail::from("the file is not read"));
+    };
+    let Ok((log, cut)) = reader.finish(rt.alloc()) else {
+        return Err(Fail::from("a torn file doesn't open"));
+    };
+    holds(&rt, cut == 6, "six bytes are cut off");
+    holds(
+        &rt,
+        log.file.disk.bytes() == [b'\r'].as_slice(),
+        "one blank is left",
+    );
+    Ok(())
+}

@@ -11,6 +11,7 @@ use Rattle.line_log.proofs.TailLemmas.{each_disk}
 use Rattle.line_log.specs.Reading.{HasReadLines, held_by}
 use Rattle.line_log.proofs.ReadLemmas.{disk_finish, gate_within, of_error, past_justified, open_gate, read_end, shut_gate}
 use Rattle.line_log.proofs.RecoverLemmas.{kept_on, kept_same}
+use Rattle.line_log.proofs.RestLemmas.{is_cut}
 use Rattle.line_log.proofs.reader.LogReader.trim.Goals as goal
 
 pub shut_tail-requires-clause-durable : goal.shut_tail-requires-clause-durable
@@ -20,7 +21,7 @@ pub shut_tail-requires-clause-end : goal.shut_tail-requires-clause-end
 shut_tail-requires-clause-end g c clean =
     let file = g.D.Disk.seen c.args.self.now.disk in
     let (lines, has) = c.requires.read (c.look_past.ensures.clean clean) in
-    c.look_past.ensures.at ∙ read_end file c.args.self.now lines has ((c.in_ok-look_past.ensures.end clean has.part).none) ∙ ap (λ (f : List ℕ). length (text_of (lines_in f))) (sym c.look_past.ensures.seen)
+    c.look_past.ensures.at ∙ read_end file c.args.self.now lines has ((c.in_ok-cut.ensures.end clean has.part).none) ∙ ap (λ (f : List ℕ). length (text_of (lines_in f))) (sym c.look_past.ensures.seen)
 
 pub shut_tail-requires-clause-within : goal.shut_tail-requires-clause-within
 shut_tail-requires-clause-within g c clean is_open =
@@ -45,7 +46,7 @@ shut_tail-requires-clause-shut g c clean is_shut =
     let (lines, has) = c.requires.read (c.look_past.ensures.clean clean) in
     let other : slice_index (held_by s) 0 ≢ 123 = λ e. false≢true (sym is_shut ∙ c.begins_line-is_open.ensures ∙ (Decides-eqb (slice_index (held_by s) 0) 123).1 e) in
     subst (λ (f : List ℕ). IsShutAt f s.at) (sym c.look_past.ensures.seen)
-    (λ (within : s.at < length file). shut_gate file s (c.look_past.ensures.part clean has.part) (c.in_ok-look_past.ensures.held clean has.part within) other)
+    (λ (within : s.at < length file). shut_gate file s (c.look_past.ensures.part clean has.part) (c.in_ok-cut.ensures.held clean has.part within) other)
 
 pub cut_tail-requires-clause-front : goal.cut_tail-requires-clause-front
 cut_tail-requires-clause-front g c clean =
@@ -54,8 +55,8 @@ cut_tail-requires-clause-front g c clean =
     let kept = c.shut_tail.ensures.any_moment before (g.D.Disk.seen d) (g.met.D.Disk.seen_may_stay d) in
     subst (λ (ls : List (List ℕ)). BeginsWith (g.D.Disk.seen d) ls c.look_past.new.self.at) (sym kept.lines) (c.in_ok-shut_tail.ensures.front before)
 
-pub returns-in_err-look_past-clause-any_moment : goal.returns-in_err-look_past-clause-any_moment
-returns-in_err-look_past-clause-any_moment g c clean left may =
+pub returns-in_err-cut-clause-any_moment : goal.returns-in_err-cut-clause-any_moment
+returns-in_err-cut-clause-any_moment g c clean left may =
     kept_same g.D.Disk.is_mixing (g.D.Disk.seen c.args.self.now.disk) left (c.requires.durable left (c.look_past.ensures.crash left may))
 
 pub returns-then-end-gt-MOST-clause-any_moment : goal.returns-then-end-gt-MOST-clause-any_moment
@@ -97,24 +98,24 @@ pub returns-clause-all : goal.returns-clause-all
 returns-clause-all g c clean =
     let after_look = subst IsTrue c.shut_tail.ensures.clean (subst IsTrue c.cut_tail.ensures.clean clean) in
     let (lines, has) = c.requires.read (c.look_past.ensures.clean after_look) in
-    (c.in_ok-look_past.ensures.end after_look has.part).none
+    (c.in_ok-cut.ensures.end after_look has.part).none
 
 pub returns-clause-end : goal.returns-clause-end
 returns-clause-end g c clean lines has mixes kind =
     let file = g.D.Disk.seen c.args.self.now.disk in
     let after_look = subst IsTrue c.shut_tail.ensures.clean (subst IsTrue c.cut_tail.ensures.clean clean) in
     let disk = c.look_past.new.self.disk in
-    let end = (c.in_ok-look_past.ensures.end after_look has.part).end in
+    let end = (c.in_ok-cut.ensures.end after_look has.part).end in
     subst (MayEnd mixes) (sym has.tail) (each_disk (g.D.Disk.is_mixing disk) mixes (tail_in (drop c.args.self.now.at file)) (λ is. kind is disk) end)
 
-pub returns-in_err-look_past-clause-justified : goal.returns-in_err-look_past-clause-justified
-returns-in_err-look_past-clause-justified g c =
+pub returns-in_err-cut-clause-justified : goal.returns-in_err-cut-clause-justified
+returns-in_err-cut-clause-justified g c =
     let file = g.D.Disk.seen c.args.self.now.disk in
     let disk = c.look_past.new.self.disk in
     of_error c.from_residual.result
     (λ (e : LogError). IsTrue (g.D.Disk.is_clean disk) → (lines : List (List ℕ)) → HasReadLines file c.args.self.now lines → JustifiesFinish (g.D.Disk.is_mixing disk) file lines e)
-    c.in_err-look_past.field-0.0 c.from_residual.ensures.1
-    (λ clean lines has. past_justified (g.D.Disk.is_mixing disk) file c.args.self.now lines c.in_err-look_past.field-0.0 has (c.in_err-look_past.ensures.fault clean has.part))
+    c.in_err-cut.field-0.0 c.from_residual.ensures.1
+    (λ clean lines has. past_justified (g.D.Disk.is_mixing disk) file c.args.self.now lines c.in_err-cut.field-0.0 has (c.in_err-cut.ensures.fault clean has.part))
 
 pub returns-in_err-shut_tail-clause-justified : goal.returns-in_err-shut_tail-clause-justified
 returns-in_err-shut_tail-clause-justified g c =
@@ -133,3 +134,11 @@ returns-in_err-cut_tail-clause-justified g c =
     (λ (e : LogError). IsTrue (g.D.Disk.is_clean disk) → (lines : List (List ℕ)) → HasReadLines file c.args.self.now lines → JustifiesFinish (g.D.Disk.is_mixing disk) file lines e)
     c.in_err-cut_tail.field-0.0 c.from_residual-in_err-cut_tail.ensures.1
     (λ clean lines has. disk_finish (g.D.Disk.is_mixing disk) file lines _ _ c.in_err-cut_tail.field-0.0 c.in_err-cut_tail.ensures.justified)
+
+pub returns-clause-cut : goal.returns-clause-cut
+returns-clause-cut g c clean lines has =
+    let file = g.D.Disk.seen c.args.self.now.disk in
+    let r = c.args.self.now in
+    let after_look = subst IsTrue c.shut_tail.ensures.clean (subst IsTrue c.cut_tail.ensures.clean clean) in
+    let none = (c.in_ok-cut.ensures.end after_look has.part).none in
+    is_cut file r.at c.in_ok-cut.cut (read_end file r lines has none) (c.in_ok-cut.ensures.cut after_look has.part)
