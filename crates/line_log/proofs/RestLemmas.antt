@@ -4,7 +4,7 @@ use Rattle.std.proofs.lemmas.Bool.{cases_lt}
 use Rattle.std.proofs.lemmas.List.{get_or-drop}
 use Rattle.std.specs.Prelude.{◌≢◌, slice_index}
 use Rattle.line_log.specs.Lines.{lines_in, text_of}
-use Rattle.line_log.specs.Log.{IsCut}
+use Rattle.line_log.specs.Log.{IsCutOff}
 use Rattle.line_log.specs.Tails.{IsTornRest}
 use Rattle.line_log.specs.TornRestPrivate.{HasEnd, HasLineEnd}
 
@@ -96,7 +96,7 @@ module _ (file : List ℕ) (from len end line : ℕ) (all : len ≡ length file)
       ]
 
 -- what follows the lines of a file
-pub is_cut : (file : List ℕ) (at cut : ℕ) → at ≡ length (text_of (lines_in file)) → HasEnd file at (length file) (at + cut) → IsCut file cut
+pub is_cut : (file : List ℕ) (at cut : ℕ) → at ≡ length (text_of (lines_in file)) → HasEnd file at (length file) (at + cut) → IsCutOff file cut
 is_cut file at cut at_is has = record {
   blank = λ i past low. has.blank i (omega (arith, at_is, past)) low;
   last = λ some is.

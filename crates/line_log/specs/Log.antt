@@ -26,7 +26,7 @@ pub record IsAtRest (file : List ℕ) (end : ℕ) : Type 0 where
   pub blank : (i : ℕ) → end ≤ i → i < length file → slice_index file i ≡ 13
 
 -- so many bytes follow the lines of the file, and then blanks to its end
-pub record IsCut (file : List ℕ) (cut : ℕ) : Type 0 where
+pub record IsCutOff (file : List ℕ) (cut : ℕ) : Type 0 where
   pub blank : (i : ℕ) → length (text_of (lines_in file)) + cut ≤ i → i < length file → slice_index file i ≡ 13
   pub last : 0 < cut → slice_index file (length (text_of (lines_in file)) + cut - 1) ≢ 13
 

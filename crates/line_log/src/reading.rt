@@ -5,7 +5,7 @@ ghost use Rattle.sqlite_disk.specs.Disk.{Only};
 ghost use Rattle.line_log.specs.Damage.{JustifiesError, JustifiesFinish, IsOutside};
 ghost use Rattle.line_log.specs.Lines.{lines_in, IsLineFront};
 ghost use Rattle.line_log.specs.Hashes.{hashed};
-ghost use Rattle.line_log.specs.Log.{HasLines, IsAtRest, IsCut, KeepsLines, MixesIf};
+ghost use Rattle.line_log.specs.Log.{HasLines, IsAtRest, IsCutOff, KeepsLines, MixesIf};
 ghost use Rattle.line_log.specs.Reading.{HasReadLines, IsPartOf, held_by};
 ghost use Rattle.line_log.specs.ReadingPrivate.{BeginsAs, IsEnd, IsLookFault, IsNextFault, IsPastFault, IsTornAt, Tells};
 ghost use Rattle.line_log.specs.Tails.{MayEnd, tail_in};
@@ -117,7 +117,7 @@ impl<D: Disk> LogReader<D> {
             → HasLines D.Disk.seen D.Disk.may_leave r.0 lines) }
         ensures end { IfOk result (λ r. IsTrue (D.Disk.is_clean r.0.file.disk) → (lines : List (List ℕ)) → HasReadLines (D.Disk.seen self.disk) self lines
             → (mixes : Bool) → MixesIf D.Disk.is_mixing mixes → MayEnd mixes (tail_in (D.Disk.seen self.disk))) }
-        ensures cut { IfOk result (λ r. IsTrue (D.Disk.is_clean r.0.file.disk) → (lines : List (List ℕ)) → HasReadLines (D.Disk.seen self.disk) self lines → IsCut (D.Disk.seen self.disk) r.1) }
+        ensures cut { IfOk result (λ r. IsTrue (D.Disk.is_clean r.0.file.disk) → (lines : List (List ℕ)) → HasReadLines (D.Disk.seen self.disk) self lines → IsCutOff (D.Disk.seen self.disk) r.1) }
         ensures justified { IfErr result (λ e. IsTrue (D.Disk.is_clean e.1) → (lines : List (List ℕ)) → HasReadLines (D.Disk.seen self.disk) self lines
             → JustifiesFinish (D.Disk.is_mixing e.1) (D.Disk.seen self.disk) lines e.0) }
         ensures any_moment { IfOk result (λ r. IsTrue (D.Disk.is_clean r.0.file.disk) → (c : List ℕ) → D.Disk.may_leave r.0.file.disk c → KeepsLines D.Disk.is_mixing (D.Disk.seen self.disk) c) }
@@ -160,7 +160,7 @@ impl<D: Disk> LogReader<D> {
         ensures all { OnOk result (IsTrue (D.Disk.is_clean self.new.disk) → lines_in (drop self.old.at (D.Disk.seen self.old.disk)) ≡ []) }
         ensures end { OnOk result (IsTrue (D.Disk.is_clean self.new.disk) → (lines : List (List ℕ)) → HasReadLines (D.Disk.seen self.old.disk) self.old lines
             → (mixes : Bool) → MixesIf D.Disk.is_mixing mixes → MayEnd mixes (tail_in (D.Disk.seen self.old.disk))) }
-        ensures cut { IfOk result (λ cut. IsTrue (D.Disk.is_clean self.new.disk) → (lines : List (List ℕ)) → HasReadLines (D.Disk.seen self.old.disk) self.old lines → IsCut (D.Disk.seen self.old.disk) cut) }
+        ensures cut { IfOk result (λ cut. IsTrue (D.Disk.is_clean self.new.disk) → (lines : List (List ℕ)) → HasReadLines (D.Disk.seen self.old.disk) self.old lines → IsCutOff (D.Disk.seen self.old.disk) cut) }
         ensures justified { IfErr result (λ e. IsTrue (D.Disk.is_clean self.new.disk) → (lines : List (List ℕ)) → HasReadLines (D.Disk.seen self.old.disk) self.old lines
             → JustifiesFinish (D.Disk.is_mixing self.new.disk) (D.Disk.seen self.old.disk) lines e) }
         ensures any_moment { IsTrue (D.Disk.is_clean self.new.disk) → (c : List ℕ) → D.Disk.may_leave self.new.disk c → KeepsLines D.Disk.is_mixing (D.Disk.seen self.old.disk) c }
