@@ -31,3 +31,8 @@ IsWriteFault len old_faults new_faults other = ⊥
 abbrev pub JustifiesRefusal : List ℕ → ℕ → ℕ → ℕ → LogError → Type 0
 JustifiesRefusal text len old_faults new_faults TooMuch = IsTooMuch text
 JustifiesRefusal text len old_faults new_faults other = IsWriteFault len old_faults new_faults other
+
+-- If the error is one of the disk, a call of it failed, which the disk has counted.
+abbrev pub HasCause : ℕ → ℕ → LogError → Type 0
+HasCause old_faults new_faults (Disk e) = MoreFaults old_faults new_faults
+HasCause old_faults new_faults other = ⊤

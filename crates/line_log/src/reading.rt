@@ -3,6 +3,7 @@
 ghost use Rattle.std.specs.Prelude.{◌≡◌, ◌==◌, ◌+◌, ◌-◌, ◌^◌, ◌<◌, ◌≤◌, ◌++◌, ◌∷◌, [], ℕ, Bool, false, List, drop, length, min, slice_index, IsTrue, IfNone, IfOk, IfErr, IfSome, OnOk};
 ghost use Rattle.sqlite_disk.specs.Disk.{Only};
 ghost use Rattle.line_log.specs.Damage.{JustifiesError, JustifiesFinish, IsOutside};
+ghost use Rattle.line_log.specs.Failures.{HasCause};
 ghost use Rattle.line_log.specs.Lines.{lines_in, IsLineFront};
 ghost use Rattle.line_log.specs.Hashes.{hashed};
 ghost use Rattle.line_log.specs.Log.{HasLines, IsAtRest, IsCutOff, KeepsLines, MixesIf};
@@ -39,6 +40,8 @@ pub(crate) fn read_block<D: Disk>(
     ensures clean { IsTrue (D.Disk.is_clean disk.new) → IsTrue (D.Disk.is_clean disk.old) }
     ensures seen { D.Disk.seen disk.new ≡ D.Disk.seen disk.old }
     ensures crash { (c : List ℕ) → D.Disk.may_leave disk.new c → D.Disk.may_leave disk.old c }
+    ensures counted { IfErr result (λ e. (IsTrue (D.Disk.is_clean disk.old) → at + size ≤ length (D.Disk.seen disk.old)) → HasCause (D.Disk.faults disk.old) (D.Disk.faults disk.new) e) }
+    ensures faults { OnOk result (D.Disk.faults disk.new ≡ D.Disk.faults disk.old) }
     ensures outside { IfErr result (λ e. IsOutside e) }
     ensures size { IfOk result (λ block. length block.items ≡ size) }
     ensures bytes { IfOk result (λ block. IsTrue (D.Disk.is_clean disk.new) → (i : ℕ) → i < size → slice_index (D.Disk.seen disk.old) (at + i) ≡ slice_index block.items i) }
@@ -58,6 +61,8 @@ impl<D: Disk> LogReader<D> {
         ensures seen { IfOk result (λ r. D.Disk.seen r.disk ≡ D.Disk.seen disk) }
         ensures crash { IfOk result (λ r. (c : List ℕ) → D.Disk.may_leave r.disk c → D.Disk.may_leave disk c) }
         ensures crash_err { IfErr result (λ e. (c : List ℕ) → D.Disk.may_leave e.1 c → D.Disk.may_leave disk c) }
+        ensures faults { IfOk result (λ r. D.Disk.faults r.disk ≡ D.Disk.faults disk) }
+        ensures counted { IfErr result (λ e. HasCause (D.Disk.faults disk) (D.Disk.faults e.1) e.0) }
         ensures read { IfOk result (λ r. IsTrue (D.Disk.is_clean r.disk) → HasReadLines (D.Disk.seen r.disk) r []) }
     {
         match disk.len() {
@@ -91,6 +96,9 @@ impl<D: Disk> LogReader<D> {
             → HasReadLines (D.Disk.seen self.old.disk) self.new lines) }
         ensures end { IfOk result (λ any. any ≡ false → IsTrue (D.Disk.is_clean self.new.disk) → (lines : List (List ℕ)) → HasReadLines (D.Disk.seen self.old.disk) self.old lines
             → MayEnd (D.Disk.is_mixing self.new.disk) (tail_in (D.Disk.seen self.old.disk))) }
+        ensures counted { IfErr result (λ e. (IsTrue (D.Disk.is_clean self.old.disk) → (lines : List (List ℕ)) × HasReadLines (D.Disk.seen self.old.disk) self.old lines)
+            → HasCause (D.Disk.faults self.old.disk) (D.Disk.faults self.new.disk) e) }
+        ensures faults { OnOk result (D.Disk.faults self.new.disk ≡ D.Disk.faults self.old.disk) }
         ensures justified { IfErr result (λ e. IsTrue (D.Disk.is_clean self.new.disk) → (lines : List (List ℕ)) → HasReadLines (D.Disk.seen self.old.disk) self.old lines
             → JustifiesError (D.Disk.is_mixing self.new.disk) (D.Disk.seen self.old.disk) lines e) }
     {
@@ -118,6 +126,7 @@ impl<D: Disk> LogReader<D> {
         ensures end { IfOk result (λ r. IsTrue (D.Disk.is_clean r.0.file.disk) → (lines : List (List ℕ)) → HasReadLines (D.Disk.seen self.disk) self lines
             → (mixes : Bool) → MixesIf D.Disk.is_mixing mixes → MayEnd mixes (tail_in (D.Disk.seen self.disk))) }
         ensures cut { IfOk result (λ r. IsTrue (D.Disk.is_clean r.0.file.disk) → (lines : List (List ℕ)) → HasReadLines (D.Disk.seen self.disk) self lines → IsCutOff (D.Disk.seen self.disk) r.1) }
+        ensures counted { IfErr result (λ e. HasCause (D.Disk.faults self.disk) (D.Disk.faults e.1) e.0) }
         ensures justified { IfErr result (λ e. IsTrue (D.Disk.is_clean e.1) → (lines : List (List ℕ)) → HasReadLines (D.Disk.seen self.disk) self lines
             → JustifiesFinish (D.Disk.is_mixing e.1) (D.Disk.seen self.disk) lines e.0) }
         ensures any_moment { IfOk result (λ r. IsTrue (D.Disk.is_clean r.0.file.disk) → (c : List ℕ) → D.Disk.may_leave r.0.file.disk c → KeepsLines D.Disk.is_mixing (D.Disk.seen self.disk) c) }
@@ -161,6 +170,7 @@ impl<D: Disk> LogReader<D> {
         ensures end { OnOk result (IsTrue (D.Disk.is_clean self.new.disk) → (lines : List (List ℕ)) → HasReadLines (D.Disk.seen self.old.disk) self.old lines
             → (mixes : Bool) → MixesIf D.Disk.is_mixing mixes → MayEnd mixes (tail_in (D.Disk.seen self.old.disk))) }
         ensures cut { IfOk result (λ cut. IsTrue (D.Disk.is_clean self.new.disk) → (lines : List (List ℕ)) → HasReadLines (D.Disk.seen self.old.disk) self.old lines → IsCutOff (D.Disk.seen self.old.disk) cut) }
+        ensures counted { IfErr result (λ e. HasCause (D.Disk.faults self.old.disk) (D.Disk.faults self.new.disk) e) }
         ensures justified { IfErr result (λ e. IsTrue (D.Disk.is_clean self.new.disk) → (lines : List (List ℕ)) → HasReadLines (D.Disk.seen self.old.disk) self.old lines
             → JustifiesFinish (D.Disk.is_mixing self.new.disk) (D.Disk.seen self.old.disk) lines e) }
         ensures any_moment { IsTrue (D.Disk.is_clean self.new.disk) → (c : List ℕ) → D.Disk.may_leave self.new.disk c → KeepsLines D.Disk.is_mixing (D.Disk.seen self.old.disk) c }
@@ -187,6 +197,8 @@ impl<D: Disk> LogReader<D> {
         ensures at { self.new.at ≡ self.old.at }
         ensures count { self.new.count ≡ self.old.count }
         ensures hasher { self.new.hasher ≡ self.old.hasher }
+        ensures counted { IfErr result (λ e. (IsTrue (D.Disk.is_clean self.old.disk) → IsPartOf (D.Disk.seen self.old.disk) self.old) → HasCause (D.Disk.faults self.old.disk) (D.Disk.faults self.new.disk) e) }
+        ensures faults { OnOk result (D.Disk.faults self.new.disk ≡ D.Disk.faults self.old.disk) }
         ensures part { IsTrue (D.Disk.is_clean self.new.disk) → IsPartOf (D.Disk.seen self.old.disk) self.old → IsPartOf (D.Disk.seen self.old.disk) self.new }
         ensures end { OnOk result (IsTrue (D.Disk.is_clean self.new.disk) → IsPartOf (D.Disk.seen self.old.disk) self.old → IsEnd (D.Disk.is_mixing self.new.disk) (drop self.old.at (D.Disk.seen self.old.disk))) }
         ensures held { OnOk result (IsTrue (D.Disk.is_clean self.new.disk) → IsPartOf (D.Disk.seen self.old.disk) self.old → self.new.at < length (D.Disk.seen self.old.disk) → 0 < length (held_by self.new)) }
@@ -211,6 +223,8 @@ impl<D: Disk> LogReader<D> {
         ensures at { self.new.at ≡ self.old.at }
         ensures count { self.new.count ≡ self.old.count }
         ensures hasher { self.new.hasher ≡ self.old.hasher }
+        ensures counted { IfErr result (λ e. (IsTrue (D.Disk.is_clean self.old.disk) → IsPartOf (D.Disk.seen self.old.disk) self.old) → HasCause (D.Disk.faults self.old.disk) (D.Disk.faults self.new.disk) e) }
+        ensures faults { OnOk result (D.Disk.faults self.new.disk ≡ D.Disk.faults self.old.disk) }
         ensures part { IsTrue (D.Disk.is_clean self.new.disk) → IsPartOf (D.Disk.seen self.old.disk) self.old → IsPartOf (D.Disk.seen self.old.disk) self.new }
         ensures whole { IfOk result (λ next. IfSome next (λ len. (len < length (held_by self.new)) × BeginsAs (held_by self.new) (Whole len))) }
         ensures end { IfOk result (λ next. IfNone next (IsTrue (D.Disk.is_clean self.new.disk) → IsPartOf (D.Disk.seen self.old.disk) self.old → IsEnd (D.Disk.is_mixing self.new.disk) (drop self.old.at (D.Disk.seen self.old.disk)))) }
@@ -238,6 +252,7 @@ impl<D: Disk> LogReader<D> {
         requires line { BeginsAs (held_by self.old) (Whole len) }
         ensures disk { self.new.disk ≡ self.old.disk }
         ensures taken { OnOk result ((lines : List (List ℕ)) → (file : List ℕ) → HasReadLines file self.old lines → HasReadLines file self.new (lines ++ line.new.items ∷ [])) }
+        ensures counted { IfErr result (λ e. (old new : ℕ) → HasCause old new e) }
         ensures justified { IfErr result (λ e. (mixes : Bool) → (lines : List (List ℕ)) → (file : List ℕ) → HasReadLines file self.old lines → JustifiesError mixes file lines e) }
     {
         let (_, held) = self.block.split_at(self.from);
@@ -289,6 +304,8 @@ impl<D: Disk> LogReader<D> {
         ensures at { self.new.at ≡ self.old.at }
         ensures count { self.new.count ≡ self.old.count }
         ensures hasher { self.new.hasher ≡ self.old.hasher }
+        ensures counted { IfErr result (λ e. (IsTrue (D.Disk.is_clean self.old.disk) → IsPartOf (D.Disk.seen self.old.disk) self.old) → HasCause (D.Disk.faults self.old.disk) (D.Disk.faults self.new.disk) e) }
+        ensures faults { OnOk result (D.Disk.faults self.new.disk ≡ D.Disk.faults self.old.disk) }
         ensures part { IsTrue (D.Disk.is_clean self.new.disk) → IsPartOf (D.Disk.seen self.old.disk) self.old → IsPartOf (D.Disk.seen self.old.disk) self.new }
         ensures tells { IfOk result (λ found. Tells self.new found) }
         ensures fault { IfErr result (λ e. IsTrue (D.Disk.is_clean self.new.disk) → IsPartOf (D.Disk.seen self.old.disk) self.old → IsLookFault (D.Disk.seen self.old.disk) self.old e) }
@@ -330,6 +347,8 @@ impl<D: Disk> LogReader<D> {
         ensures at { self.new.at ≡ self.old.at }
         ensures count { self.new.count ≡ self.old.count }
         ensures hasher { self.new.hasher ≡ self.old.hasher }
+        ensures counted { IfErr result (λ e. (IsTrue (D.Disk.is_clean self.old.disk) → IsPartOf (D.Disk.seen self.old.disk) self.old) → HasCause (D.Disk.faults self.old.disk) (D.Disk.faults self.new.disk) e) }
+        ensures faults { OnOk result (D.Disk.faults self.new.disk ≡ D.Disk.faults self.old.disk) }
         ensures part { IsTrue (D.Disk.is_clean self.new.disk) → IsPartOf (D.Disk.seen self.old.disk) self.old → IsPartOf (D.Disk.seen self.old.disk) self.new }
         ensures len { self.new.len ≡ self.old.len }
         ensures size { OnOk result (length (held_by self.new) ≡ min size (self.old.len - self.old.at)) }

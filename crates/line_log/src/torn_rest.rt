@@ -2,6 +2,7 @@
 
 ghost use Rattle.std.specs.Prelude.{◌≡◌, ◌≢◌, ◌⊎◌, ◌+◌, ◌-◌, ◌<◌, ◌≤◌, ℕ, false, List, drop, length, slice_index, IsTrue, IfErr, IfNone, IfOk, IfSome, OnOk};
 ghost use Rattle.line_log.specs.Damage.{IsOutside};
+ghost use Rattle.line_log.specs.Failures.{HasCause};
 ghost use Rattle.line_log.specs.Tails.{IsTornRest};
 ghost use Rattle.line_log.specs.TornRestPrivate.{HasEnd, HasLineEnd, HasUsed};
 
@@ -86,6 +87,8 @@ pub(crate) fn used_from<D: Disk>(
     ensures clean { IsTrue (D.Disk.is_clean disk.new) → IsTrue (D.Disk.is_clean disk.old) }
     ensures seen { D.Disk.seen disk.new ≡ D.Disk.seen disk.old }
     ensures crash { (c : List ℕ) → D.Disk.may_leave disk.new c → D.Disk.may_leave disk.old c }
+    ensures counted { IfErr result (λ e. (IsTrue (D.Disk.is_clean disk.old) → len ≡ length (D.Disk.seen disk.old)) → HasCause (D.Disk.faults disk.old) (D.Disk.faults disk.new) e) }
+    ensures faults { OnOk result (D.Disk.faults disk.new ≡ D.Disk.faults disk.old) }
     ensures outside { IfErr result (λ e. IsOutside e) }
     ensures used { IfOk result (λ used. IsTrue (D.Disk.is_clean disk.new) → HasUsed (D.Disk.seen disk.old) from len len used) }
 {
@@ -117,6 +120,8 @@ pub(crate) fn is_torn_rest<D: Disk>(
     ensures clean { IsTrue (D.Disk.is_clean disk.new) → IsTrue (D.Disk.is_clean disk.old) }
     ensures seen { D.Disk.seen disk.new ≡ D.Disk.seen disk.old }
     ensures crash { (c : List ℕ) → D.Disk.may_leave disk.new c → D.Disk.may_leave disk.old c }
+    ensures counted { IfErr result (λ e. (IsTrue (D.Disk.is_clean disk.old) → len ≡ length (D.Disk.seen disk.old)) → HasCause (D.Disk.faults disk.old) (D.Disk.faults disk.new) e) }
+    ensures faults { OnOk result (D.Disk.faults disk.new ≡ D.Disk.faults disk.old) }
     ensures outside { IfErr result (λ e. IsOutside e) }
     ensures torn { IfOk result (λ torn. IsTrue torn → IsTrue (D.Disk.is_clean disk.new) → len ≡ length (D.Disk.seen disk.old) → 0 < front → IsTornRest (drop (at + front + 1) (D.Disk.seen disk.old))) }
     ensures other { IfOk result (λ torn. torn ≡ false → IsTrue (D.Disk.is_clean disk.new) → len ≡ length (D.Disk.seen disk.old) → (0 < front) × (IsTornRest (drop (at + front + 1) (D.Disk.seen disk.old)) → ⊥)) }

@@ -1,5 +1,9 @@
 use Rattle.std.proofs.Common.{rules, ◌≡◌, ◌++◌, ◌∷◌, [], ℕ, List, sym, ◌∙◌, ap, subst, append_assoc}
+use Rattle.std.specs.Prelude.{IsTrue}
+use Rattle.line_log.specs.Failures.{HasCause}
 use Rattle.line_log.specs.Reading.{HasReadLines}
+use Rattle.line_log.specs.declared.error.LogError.{LogError}
+use Rattle.line_log.proofs.ReadLemmas.{of_error}
 use Rattle.line_log.proofs.HashLemmas.{text_more}
 use Rattle.line_log.proofs.opening.read_text.Goals as goal
 
@@ -12,6 +16,7 @@ lines-preserved g c =
       clean = λ clean. i.clean (c.next_line.ensures.clean clean);
       seen = c.next_line.ensures.seen ∙ i.seen;
       crash = λ left may. i.crash left (c.next_line.ensures.crash left may);
+      faults = c.in_ok-next_line.ensures.faults ∙ i.faults;
       read = λ clean start.
           let (lines, has, is) = i.read (c.next_line.ensures.clean clean) start in
           let here = subst (λ (file : List ℕ). HasReadLines file c.lines.reader lines) (sym i.seen) has in
@@ -22,3 +27,15 @@ lines-preserved g c =
             grown ∙ append_assoc c.lines.text.items line (10 ∷ []) ∙ ap (λ (t : List ℕ). t ++ (line ++ 10 ∷ [])) is ∙ sym (text_more lines line),
           );
     }
+
+pub returns-in_err-next_line-clause-counted : goal.returns-in_err-next_line-clause-counted
+returns-in_err-next_line-clause-counted g c =
+    let file = g.D.Disk.seen c.args.reader.now.disk in
+    let i = c.lines.invariant in
+    of_error c.from_residual.result
+    (λ (e : LogError). (IsTrue (g.D.Disk.is_clean c.args.reader.now.disk) → HasReadLines file c.args.reader.now []) → HasCause (g.D.Disk.faults c.args.reader.now.disk) (g.D.Disk.faults c.next_line.new.self.disk) e)
+    c.in_err-next_line.field-0.0 c.from_residual.ensures.1
+    (λ start. subst (λ (n : ℕ). HasCause n (g.D.Disk.faults c.next_line.new.self.disk) c.in_err-next_line.field-0.0) i.faults
+    (c.in_err-next_line.ensures.counted (λ clean.
+    let (lines, has, is) = i.read clean (start (i.clean clean)) in
+    (lines, subst (λ (f : List ℕ). HasReadLines f c.lines.reader lines) (sym i.seen) has))))

@@ -16,6 +16,7 @@ rest-preserved g c =
       clean = λ clean. i.clean (c.read_block.ensures.clean clean);
       seen = c.read_block.ensures.seen ∙ i.seen;
       crash = λ left may. i.crash left (c.read_block.ensures.crash left may);
+      faults = c.in_ok-block.ensures.faults ∙ i.faults;
       within = omega (arith, c.rest-test.true, c.min-size.ensures);
       end = λ clean.
           let same : (k : ℕ) → k < length c.deref.result.now → slice_index file (c.rest.at + k) ≡ slice_index c.deref.result.now k = λ k low.
