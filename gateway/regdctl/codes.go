@@ -330,11 +330,10 @@ var codes = map[string]code{
 		"use fewer, or other gateways",
 	},
 	"G5": {
-		"the gateway is busy: too many changes or long lines wait, or the replies to all callers " +
-			"take too much room, or the retained tokens do and the change has another one. Or the reply " +
-			"to a query is larger than its share of `-limit-reply-bytes`, is not there after 10 seconds, " +
-			"or was being made when `regd` ended: such a query isn't asked again, since it may be the " +
-			"reason",
+		"the gateway is busy: too many changes or long lines wait, the replies to all callers take " +
+			"too much room, or the retained tokens do and the change has another one. Or the reply to a " +
+			"query is larger than its share of `-limit-reply-bytes`, is not there after 10 seconds, or " +
+			"was being made when `regd` ended. Such a query isn't asked again, since it may be the reason",
 		"",
 		"send the line again later, or to another gateway; divide a large query, such as by `page`",
 	},
