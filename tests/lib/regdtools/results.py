@@ -127,14 +127,24 @@ def files(what, folder=FOLDER):
     return sorted(pathlib.Path(folder).glob(f"????-??-??-{what}.tsv"), reverse=True)
 
 
-def latest(what, where, folder=FOLDER):
-    """Returns the newest row that has the values of `where` in these columns, and the file that has the row."""
+def newest(what, wanted, folder=FOLDER):
+    """Returns rows, the table that has them and its file: the newest table that has all that is wanted.
+
+    `wanted` is a list of pairs: the values that select a row, and the columns in which it needs a text. The row that was written last counts.
+    """
     for path in files(what, folder):
         for table in reversed(read(path)):
-            for row in reversed(table.rows):
-                if where.items() <= row.items():
-                    return row, path
-    raise LookupError(f"no result of {what} with {where}")
+            found = [next((row for row in reversed(table.rows) if where.items() <= row.items() and all(map(row.get, columns))), None)
+                     for where, columns in wanted]
+            if all(found):
+                return found, table, path
+    raise LookupError(f"no result of {what} with {' and '.join(f'{where} and texts in {list(columns)}' for where, columns in wanted)}")
+
+
+def latest(what, where, columns=(), folder=FOLDER):
+    """Returns the newest row that has the values of `where` and a text in each of these columns, and the file that has the row."""
+    (row,), _, path = newest(what, [(where, columns)], folder)
+    return row, path
 
 
 # ---- the common part of the scripts
