@@ -17,11 +17,11 @@ SIZES = {"title": 16, "name": 13, "tick": 12, "caption": 11}
 WIDE = 0.6  # the width of a character of a sans-serif font, of its size: seldom more on average
 # the colours on a light and on a dark page; those of the lines have numbers
 COLOURS = {"background": ("#ffffff", "#0d1117"), "text": ("#1f2328", "#f0f6fc"), "quiet": ("#59636e", "#9198a1"), "grid": ("#d1d9e0", "#3d444d")}
-LINES = [("#0550ae", "#58a6ff"), ("#bc4c00", "#f0883e"), ("#59636e", "#9198a1"), ("#8250df", "#bc8cff"), ("#bf3989", "#f778ba"),
-         ("#1a7f37", "#3fb950")]
+LINES = [("#0550ae", "#58a6ff"), ("#bc4c00", "#f0883e"), ("#59636e", "#9198a1"), ("#1a7f37", "#3fb950"), ("#8250df", "#bc8cff"),
+         ("#bf3989", "#f778ba")]
 
-# a line: its name, the number of its colour, and its points
-Line = collections.namedtuple("Line", "name colour points")
+# a line: its name, the number of its colour, its points, and whether it is dashed
+Line = collections.namedtuple("Line", "name colour points is_dashed", defaults=[False])
 # an axis: its title, and the values with a tick, from its low end to its high end; the ticks have `texts` in place of the values, if given
 Axis = collections.namedtuple("Axis", "title ticks is_log texts", defaults=[False, None])
 
@@ -34,7 +34,7 @@ def ticks_from_zero(highest):
 
 
 def ticks_of_log(lowest, highest):
-    """Returns ticks of 1, 2 and 5 times a power of ten: the last one that is not above a positive value, to the first one that is not below another."""
+    """Returns the ticks of 1, 2 and 5 times a power of ten around two positive values, from the last one that is not above the lower value."""
     every = [factor * 10.0**power for power in range(-9, 13) for factor in (1, 2, 5)]
     first, last = max(tick for tick in every if tick <= lowest), min(tick for tick in every if tick >= highest)
     return [tick for tick in every if first <= tick <= last]
@@ -86,13 +86,15 @@ def apart(places, low, high):
 def style():
     """Returns the rules for both colour schemes."""
     def rules(scheme):
-        fills = {name: colours[scheme] for name, colours in COLOURS.items()} | {f"fill{n}": colours[scheme] for n, colours in enumerate(LINES)}
-        strokes = {"axis": COLOURS["quiet"][scheme], "rule": COLOURS["grid"][scheme]} | {f"line{n}": colours[scheme] for n, colours in enumerate(LINES)}
+        one = {name: colours[scheme] for name, colours in COLOURS.items()}
+        lines = [colours[scheme] for colours in LINES]
+        fills = {name: one[name] for name in ("background", "text", "quiet")} | {f"fill{at}": colour for at, colour in enumerate(lines)}
+        strokes = {"axis": one["quiet"], "rule": one["grid"]} | {f"line{at}": colour for at, colour in enumerate(lines)}
         return " ".join([*(f".{name}{{fill:{colour}}}" for name, colour in fills.items()),
                          *(f".{name}{{stroke:{colour}}}" for name, colour in strokes.items())])
     sizes = " ".join(f".{name}{{font-size:{size}px}}" for name, size in SIZES.items())
     return ["<style>", "text{font-family:system-ui,-apple-system,'Segoe UI',Helvetica,Arial,sans-serif} path{fill:none} "
-            ".line{stroke-width:2} .title,.name{font-weight:600}",
+            ".axis,.rule{shape-rendering:crispEdges} .line{stroke-width:2} .dashed{stroke-dasharray:6 4} .title,.name{font-weight:600}",
             sizes, rules(0), f"@media (prefers-color-scheme:dark){{{rules(1)}}}", "</style>"]
 
 
@@ -113,7 +115,7 @@ def draw(title, x_axis, y_axis, lines, caption):
         return bottom - share(y_axis, value) * HEIGHT
 
     drawn = [f'<rect class="background" width="{WIDTH}" height="{height}"/>', text_of(MARGIN, MARGIN + 14, title, "title", "text"),
-             text_of(MARGIN, MARGIN + 38, y_axis.title, "tick", "quiet")]
+             text_of(MARGIN, MARGIN + 38, y_axis.title + " (logarithmic)" * y_axis.is_log)]
     for value, text in zip(y_axis.ticks, ticks[1]):
         drawn.append(path_of([(left, up(value)), (right, up(value))], "rule"))
         drawn.append(text_of(left - 8, up(value) + 4, text, anchor="end"))
@@ -122,13 +124,13 @@ def draw(title, x_axis, y_axis, lines, caption):
         drawn.append(path_of([(across(value), bottom), (across(value), bottom + 5)], "axis"))
         drawn.append(text_of(across(value), bottom + 20, text, anchor="middle"))
     drawn.append(text_of((left + right) / 2, bottom + 40, x_axis.title, anchor="middle"))
-    placed = sorted((([(across(x), up(y)) for x, y in line.points], line.colour, line.name) for line in lines), key=lambda one: one[0][-1][1])
-    for points, colour, _ in placed:
-        drawn.append(path_of(points, f"line{colour} line"))
-        drawn += [f'<circle class="fill{colour}" cx="{x:.1f}" cy="{y:.1f}" r="4"/>' for x, y in points]
-    for (points, colour, name), y in zip(placed, apart([points[-1][1] for points, *_ in placed], top, bottom)):
-        drawn.append(path_of([(points[-1][0] + 7, points[-1][1]), (right + 8, y)], f"line{colour}"))
-        drawn.append(text_of(right + 12, y + 4, name, "name", f"fill{colour}"))
+    placed = sorted((line._replace(points=[(across(x), up(y)) for x, y in line.points]) for line in lines), key=lambda line: line.points[-1][1])
+    for line in placed:
+        drawn.append(path_of(line.points, f"line{line.colour} line" + " dashed" * line.is_dashed))
+        drawn += [f'<circle class="fill{line.colour}" cx="{x:.1f}" cy="{y:.1f}" r="4"/>' for x, y in line.points]
+    for line, y in zip(placed, apart([line.points[-1][1] for line in placed], top, bottom)):
+        drawn.append(path_of([(line.points[-1][0] + 7, line.points[-1][1]), (right + 8, y)], f"line{line.colour}"))
+        drawn.append(text_of(right + 12, y + 4, line.name, "name", f"fill{line.colour}"))
     drawn += [text_of(MARGIN, bottom + 66 + 15 * at, row, "caption") for at, row in enumerate(rows)]
     head = (f'<svg xmlns="http://www.w3.org/2000/svg" width="{WIDTH}" height="{height}" viewBox="0 0 {WIDTH} {height}" role="img" '
             f'aria-labelledby="title">')

@@ -116,7 +116,7 @@ def items(prefix):
         else:
             found.append(Item(f"share/regd/deploy/{path.name}", text, os.access(path, os.X_OK)))
     examples = [path for folder in (EXAMPLES, *(it for it in sorted(EXAMPLES.iterdir()) if it.is_dir())) for path in regular(folder)]
-    for path in [*sorted({*guides.pages(), ROOT / "LICENSE", *regular(DOCS)}), *examples]:
+    for path in [*sorted({*guides.pages(), ROOT / "LICENSE", *regular(DOCS), *regular(DOCS / "charts")}), *examples]:
         found.append(Item(f"share/doc/regd/{path.relative_to(ROOT)}", path.read_bytes(), os.access(path, os.X_OK)))
     for name in ("NOTICE", "copyright"):  # of the code of others that regdctl contains
         found.append(Item(f"share/doc/regd/yaml.v3/{name}", (YAML / name).read_bytes(), False))
