@@ -45,6 +45,11 @@ def number(value):
     return f"{value:,.0f}" if value == round(value) else f"{value:g}"
 
 
+def title_of(axis):
+    """Returns the title of an axis as it is shown."""
+    return axis.title + " (logarithmic)" * axis.is_log
+
+
 def share(axis, value):
     """Returns where a value is on an axis, from 0 to 1."""
     low, high = axis.ticks[0], axis.ticks[-1]
@@ -115,7 +120,7 @@ def draw(title, x_axis, y_axis, lines, caption):
         return bottom - share(y_axis, value) * HEIGHT
 
     drawn = [f'<rect class="background" width="{WIDTH}" height="{height}"/>', text_of(MARGIN, MARGIN + 14, title, "title", "text"),
-             text_of(MARGIN, MARGIN + 38, y_axis.title + " (logarithmic)" * y_axis.is_log)]
+             text_of(MARGIN, MARGIN + 38, title_of(y_axis))]
     for value, text in zip(y_axis.ticks, ticks[1]):
         drawn.append(path_of([(left, up(value)), (right, up(value))], "rule"))
         drawn.append(text_of(left - 8, up(value) + 4, text, anchor="end"))
@@ -123,7 +128,7 @@ def draw(title, x_axis, y_axis, lines, caption):
     for value, text in zip(x_axis.ticks, ticks[0]):
         drawn.append(path_of([(across(value), bottom), (across(value), bottom + 5)], "axis"))
         drawn.append(text_of(across(value), bottom + 20, text, anchor="middle"))
-    drawn.append(text_of((left + right) / 2, bottom + 40, x_axis.title, anchor="middle"))
+    drawn.append(text_of((left + right) / 2, bottom + 40, title_of(x_axis), anchor="middle"))
     placed = sorted((line._replace(points=[(across(x), up(y)) for x, y in line.points]) for line in lines), key=lambda line: line.points[-1][1])
     for line in placed:
         drawn.append(path_of(line.points, f"line{line.colour} line" + " dashed" * line.is_dashed))
