@@ -274,6 +274,20 @@ pub of_error : {T : Type 0} (r : Result T LogError) (P : LogError → Type 0) (e
 of_error (Ok x) P e gives p = absurd gives
 of_error (Err y) P e gives p = subst P (sym gives) p
 
+pub of_any_error : {T E : Type 0} (r : Result T E) (P : E → Type 0) (e : E) → IsErrAnd r (λ x. x ≡ e) → P e → IfErr r P
+of_any_error (Ok x) P e gives p = absurd gives
+of_any_error (Err y) P e gives p = subst P (sym gives) p
+
+-- what is wrong with the next line keeps a log from being opened
+pub error_finish : (mixes : Bool) (file : List ℕ) (lines : List (List ℕ)) (e : LogError) → JustifiesError mixes file lines e → JustifiesFinish mixes file lines e
+error_finish mixes file lines NoMemory fault = tt
+error_finish mixes file lines (Disk e) fault = tt
+error_finish mixes file lines TooLong fault = absurd fault
+error_finish mixes file lines TooMuch fault = absurd fault
+error_finish mixes file lines (LineTooLong n) fault = fault
+error_finish mixes file lines (Damaged n) fault = fault
+error_finish mixes file lines Unread fault = absurd fault
+
 -- an error from outside is no fault of the next line
 pub outside_fault : {D : Type 0} {d : Ghosts D} (file : List ℕ) (r : LogReader D d) (e : LogError) → IsOutside e → IsLookFault file r e
 outside_fault file r NoMemory outside = tt

@@ -1,6 +1,7 @@
 //! How is a log opened and read whole?
 
 ghost use Rattle.std.specs.Prelude.{◌≡◌, ℕ, List, [], IsTrue, IfOk, IfErr, OnOk};
+ghost use Rattle.line_log.specs.Damage.{JustifiesError, JustifiesFinish};
 ghost use Rattle.line_log.specs.Failures.{HasCause};
 ghost use Rattle.sqlite_disk.specs.Disk.{Only};
 ghost use Rattle.line_log.specs.Lines.{lines_in, text_of};
@@ -23,6 +24,7 @@ fn read_text<D: Disk>(alloc: Global, reader: &mut LogReader<D>) -> Result<Vec<u8
     ensures crash { (c : List ℕ) → D.Disk.may_leave reader.new.disk c → D.Disk.may_leave reader.old.disk c }
     ensures counted { IfErr result (λ e. (IsTrue (D.Disk.is_clean reader.old.disk) → HasReadLines (D.Disk.seen reader.old.disk) reader.old []) → HasCause (D.Disk.faults reader.old.disk) (D.Disk.faults reader.new.disk) e) }
     ensures faults { OnOk result (D.Disk.faults reader.new.disk ≡ D.Disk.faults reader.old.disk) }
+    ensures justified { IfErr result (λ e. IsTrue (D.Disk.is_clean reader.new.disk) → HasReadLines (D.Disk.seen reader.old.disk) reader.old [] → (lines : List (List ℕ)) × JustifiesError (D.Disk.is_mixing reader.new.disk) (D.Disk.seen reader.old.disk) lines e) }
     ensures text { IfOk result (λ text. IsTrue (D.Disk.is_clean reader.new.disk) → HasReadLines (D.Disk.seen reader.old.disk) reader.old [] → (lines : List (List ℕ)) × HasReadLines (D.Disk.seen reader.old.disk) reader.new lines × (text.items ≡ text_of lines)) }
 {
     let mut text = Vec::new(alloc);
@@ -49,6 +51,7 @@ pub fn open_log<D: Disk>(alloc: Global, disk: D) -> Result<(LineLog<D>, Vec<u8>)
     ensures synced { IfOk result (λ r. IsTrue (D.Disk.is_clean r.0.file.disk) → IsSynced D.Disk.seen D.Disk.may_leave r.0.file) }
     ensures opened { IfOk result (λ r. IsTrue (D.Disk.is_clean r.0.file.disk) → (lines : List (List ℕ)) × HasLines D.Disk.seen D.Disk.may_leave r.0 lines × (lines_in (D.Disk.seen disk) ≡ hashed lines) × (r.1.items ≡ text_of lines)) }
     ensures counted { IfErr result (λ e. HasCause (D.Disk.faults disk) (D.Disk.faults e.1) e.0) }
+    ensures justified { IfErr result (λ e. IsTrue (D.Disk.is_clean e.1) → (lines : List (List ℕ)) × JustifiesFinish (D.Disk.is_mixing e.1) (D.Disk.seen disk) lines e.0) }
     ensures any_moment { IfOk result (λ r. IsTrue (D.Disk.is_clean r.0.file.disk) → (c : List ℕ) → D.Disk.may_leave r.0.file.disk c → KeepsLines D.Disk.is_mixing (D.Disk.seen disk) c) }
     ensures any_moment_err { IfErr result (λ e. IsTrue (D.Disk.is_clean e.1) → (c : List ℕ) → D.Disk.may_leave e.1 c → KeepsLines D.Disk.is_mixing (D.Disk.seen disk) c) }
 {

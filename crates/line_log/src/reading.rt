@@ -62,6 +62,7 @@ impl<D: Disk> LogReader<D> {
         ensures crash { IfOk result (λ r. (c : List ℕ) → D.Disk.may_leave r.disk c → D.Disk.may_leave disk c) }
         ensures crash_err { IfErr result (λ e. (c : List ℕ) → D.Disk.may_leave e.1 c → D.Disk.may_leave disk c) }
         ensures faults { IfOk result (λ r. D.Disk.faults r.disk ≡ D.Disk.faults disk) }
+        ensures outside { IfErr result (λ e. IsOutside e.0) }
         ensures counted { IfErr result (λ e. HasCause (D.Disk.faults disk) (D.Disk.faults e.1) e.0) }
         ensures read { IfOk result (λ r. IsTrue (D.Disk.is_clean r.disk) → HasReadLines (D.Disk.seen r.disk) r []) }
     {

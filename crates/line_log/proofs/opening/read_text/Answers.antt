@@ -1,5 +1,6 @@
 use Rattle.std.proofs.Common.{rules, ◌≡◌, ◌++◌, ◌∷◌, [], ℕ, List, sym, ◌∙◌, ap, subst, append_assoc}
 use Rattle.std.specs.Prelude.{IsTrue}
+use Rattle.line_log.specs.Damage.{JustifiesError}
 use Rattle.line_log.specs.Failures.{HasCause}
 use Rattle.line_log.specs.Reading.{HasReadLines}
 use Rattle.line_log.specs.declared.error.LogError.{LogError}
@@ -39,3 +40,17 @@ returns-in_err-next_line-clause-counted g c =
     (c.in_err-next_line.ensures.counted (λ clean.
     let (lines, has, is) = i.read clean (start (i.clean clean)) in
     (lines, subst (λ (f : List ℕ). HasReadLines f c.lines.reader lines) (sym i.seen) has))))
+
+pub returns-in_err-next_line-clause-justified : goal.returns-in_err-next_line-clause-justified
+returns-in_err-next_line-clause-justified g c =
+    let file = g.D.Disk.seen c.args.reader.now.disk in
+    let disk = c.next_line.new.self.disk in
+    let mixes = g.D.Disk.is_mixing disk in
+    let error = c.in_err-next_line.field-0.0 in
+    let i = c.lines.invariant in
+    of_error c.from_residual.result
+    (λ (e : LogError). IsTrue (g.D.Disk.is_clean disk) → HasReadLines file c.args.reader.now [] → (lines : List (List ℕ)) × JustifiesError mixes file lines e) error c.from_residual.ensures.1
+    (λ clean start.
+    let (lines, has, is) = i.read (c.next_line.ensures.clean clean) start in
+    let here = subst (λ (f : List ℕ). HasReadLines f c.lines.reader lines) (sym i.seen) has in
+    (lines, subst (λ (f : List ℕ). JustifiesError mixes f lines error) i.seen (c.in_err-next_line.ensures.justified clean lines here)))
