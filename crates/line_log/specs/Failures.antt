@@ -1,5 +1,5 @@
 -- When a log refuses to add lines, and when adding them fails.
-use Rattle.std.specs.Prelude.{◌⊎◌, ℕ, ◌+◌, ◌*◌, ◌^◌, ◌<◌, List, length, ⊤}
+use Rattle.std.specs.Prelude.{◌≡◌, ◌⊎◌, ℕ, ◌+◌, ◌*◌, ◌^◌, ◌<◌, List, length, ⊤}
 use Rattle.sqlite_disk.specs.Disk.{MoreFaults}
 use Rattle.line_log.specs.Lines.{lines_in}
 use Rattle.line_log.specs.declared.error.LogError.{LogError}
@@ -36,3 +36,13 @@ JustifiesRefusal text len old_faults new_faults other = IsWriteFault len old_fau
 abbrev pub HasCause : ℕ → ℕ → LogError → Type 0
 HasCause old_faults new_faults (Disk e) = MoreFaults old_faults new_faults
 HasCause old_faults new_faults other = ⊤
+
+-- Nothing was written before an error, if it isn't one of the disk.
+abbrev pub LeavesFile : LogError → Type 0
+LeavesFile (Disk e) = ⊥
+LeavesFile other = ⊤
+
+-- the file is as it was, and a crash leaves nothing that it wouldn't have left before
+pub record KeepsFile {D : Type 0} (seen : D → List ℕ) (may_leave : D → List ℕ → Type 0) (old new : D) : Type 0 where
+  pub same : seen new ≡ seen old
+  pub crash : (c : List ℕ) → may_leave new c → may_leave old c

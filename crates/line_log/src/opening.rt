@@ -2,7 +2,7 @@
 
 ghost use Rattle.std.specs.Prelude.{◌≡◌, ℕ, List, [], IsTrue, IfOk, IfErr, OnOk};
 ghost use Rattle.line_log.specs.Damage.{JustifiesError, JustifiesFinish};
-ghost use Rattle.line_log.specs.Failures.{HasCause};
+ghost use Rattle.line_log.specs.Failures.{HasCause, KeepsFile, LeavesFile};
 ghost use Rattle.sqlite_disk.specs.Disk.{Only};
 ghost use Rattle.line_log.specs.Lines.{lines_in, text_of};
 ghost use Rattle.line_log.specs.Hashes.{hashed};
@@ -50,6 +50,7 @@ pub fn open_log<D: Disk>(alloc: Global, disk: D) -> Result<(LineLog<D>, Vec<u8>)
     ensures clean_err { IfErr result (λ e. IsTrue (D.Disk.is_clean e.1) → IsTrue (D.Disk.is_clean disk)) }
     ensures synced { IfOk result (λ r. IsTrue (D.Disk.is_clean r.0.file.disk) → IsSynced D.Disk.seen D.Disk.may_leave r.0.file) }
     ensures opened { IfOk result (λ r. IsTrue (D.Disk.is_clean r.0.file.disk) → (lines : List (List ℕ)) × HasLines D.Disk.seen D.Disk.may_leave r.0 lines × (lines_in (D.Disk.seen disk) ≡ hashed lines) × (r.1.items ≡ text_of lines)) }
+    ensures kept { IfErr result (λ e. LeavesFile e.0 → KeepsFile D.Disk.seen D.Disk.may_leave disk e.1) }
     ensures counted { IfErr result (λ e. HasCause (D.Disk.faults disk) (D.Disk.faults e.1) e.0) }
     ensures justified { IfErr result (λ e. IsTrue (D.Disk.is_clean e.1) → (lines : List (List ℕ)) × JustifiesFinish (D.Disk.is_mixing e.1) (D.Disk.seen disk) lines e.0) }
     ensures any_moment { IfOk result (λ r. IsTrue (D.Disk.is_clean r.0.file.disk) → (c : List ℕ) → D.Disk.may_leave r.0.file.disk c → KeepsLines D.Disk.is_mixing (D.Disk.seen disk) c) }

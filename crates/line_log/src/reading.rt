@@ -3,7 +3,7 @@
 ghost use Rattle.std.specs.Prelude.{◌≡◌, ◌==◌, ◌+◌, ◌-◌, ◌^◌, ◌<◌, ◌≤◌, ◌++◌, ◌∷◌, [], ℕ, Bool, false, List, drop, length, min, slice_index, IsTrue, IfNone, IfOk, IfErr, IfSome, OnOk};
 ghost use Rattle.sqlite_disk.specs.Disk.{Only};
 ghost use Rattle.line_log.specs.Damage.{JustifiesError, JustifiesFinish, IsOutside};
-ghost use Rattle.line_log.specs.Failures.{HasCause};
+ghost use Rattle.line_log.specs.Failures.{HasCause, KeepsFile, LeavesFile};
 ghost use Rattle.line_log.specs.Lines.{lines_in, IsLineFront};
 ghost use Rattle.line_log.specs.Hashes.{hashed};
 ghost use Rattle.line_log.specs.Log.{HasLines, IsAtRest, IsCutOff, KeepsLines, MixesIf};
@@ -61,6 +61,7 @@ impl<D: Disk> LogReader<D> {
         ensures seen { IfOk result (λ r. D.Disk.seen r.disk ≡ D.Disk.seen disk) }
         ensures crash { IfOk result (λ r. (c : List ℕ) → D.Disk.may_leave r.disk c → D.Disk.may_leave disk c) }
         ensures crash_err { IfErr result (λ e. (c : List ℕ) → D.Disk.may_leave e.1 c → D.Disk.may_leave disk c) }
+        ensures seen_err { IfErr result (λ e. D.Disk.seen e.1 ≡ D.Disk.seen disk) }
         ensures faults { IfOk result (λ r. D.Disk.faults r.disk ≡ D.Disk.faults disk) }
         ensures outside { IfErr result (λ e. IsOutside e.0) }
         ensures counted { IfErr result (λ e. HasCause (D.Disk.faults disk) (D.Disk.faults e.1) e.0) }
@@ -127,6 +128,7 @@ impl<D: Disk> LogReader<D> {
         ensures end { IfOk result (λ r. IsTrue (D.Disk.is_clean r.0.file.disk) → (lines : List (List ℕ)) → HasReadLines (D.Disk.seen self.disk) self lines
             → (mixes : Bool) → MixesIf D.Disk.is_mixing mixes → MayEnd mixes (tail_in (D.Disk.seen self.disk))) }
         ensures cut { IfOk result (λ r. IsTrue (D.Disk.is_clean r.0.file.disk) → (lines : List (List ℕ)) → HasReadLines (D.Disk.seen self.disk) self lines → IsCutOff (D.Disk.seen self.disk) r.1) }
+        ensures kept { IfErr result (λ e. LeavesFile e.0 → KeepsFile D.Disk.seen D.Disk.may_leave self.disk e.1) }
         ensures counted { IfErr result (λ e. HasCause (D.Disk.faults self.disk) (D.Disk.faults e.1) e.0) }
         ensures justified { IfErr result (λ e. IsTrue (D.Disk.is_clean e.1) → (lines : List (List ℕ)) → HasReadLines (D.Disk.seen self.disk) self lines
             → JustifiesFinish (D.Disk.is_mixing e.1) (D.Disk.seen self.disk) lines e.0) }
@@ -171,6 +173,7 @@ impl<D: Disk> LogReader<D> {
         ensures end { OnOk result (IsTrue (D.Disk.is_clean self.new.disk) → (lines : List (List ℕ)) → HasReadLines (D.Disk.seen self.old.disk) self.old lines
             → (mixes : Bool) → MixesIf D.Disk.is_mixing mixes → MayEnd mixes (tail_in (D.Disk.seen self.old.disk))) }
         ensures cut { IfOk result (λ cut. IsTrue (D.Disk.is_clean self.new.disk) → (lines : List (List ℕ)) → HasReadLines (D.Disk.seen self.old.disk) self.old lines → IsCutOff (D.Disk.seen self.old.disk) cut) }
+        ensures kept { IfErr result (λ e. LeavesFile e → KeepsFile D.Disk.seen D.Disk.may_leave self.old.disk self.new.disk) }
         ensures counted { IfErr result (λ e. HasCause (D.Disk.faults self.old.disk) (D.Disk.faults self.new.disk) e) }
         ensures justified { IfErr result (λ e. IsTrue (D.Disk.is_clean self.new.disk) → (lines : List (List ℕ)) → HasReadLines (D.Disk.seen self.old.disk) self.old lines
             → JustifiesFinish (D.Disk.is_mixing self.new.disk) (D.Disk.seen self.old.disk) lines e) }
