@@ -51,7 +51,7 @@ module _ (file held : List ℕ) (at : ℕ) (within : at + length held ≤ length
   pub rest_part : IsLineFront held → at + length held ≡ length file → lines_in (drop at file) ≡ []
   rest_part front all = ap lines_in (all_held all) ∙ begun_none held front
 
-  pub part_tail : IsLineFront held → at + length held ≡ length file → tail_in (drop at file) ≡ unbroken
+  pub part_tail : IsLineFront held → at + length held ≡ length file → tail_in (drop at file) ≡ unbroken (length held)
   part_tail front all = ap tail_in (all_held all) ∙ front_only held front
 
   pub rest_broken : (n : ℕ) → n < length held → IsLineFront (take n held) → IsBreak (take n held) (slice_index held n) → lines_in (drop at file) ≡ []
@@ -142,8 +142,19 @@ module _ {D : Type 0} {d : Ghosts D} (file : List ℕ) (r : LogReader D d) (part
   pub whole_next : (n : ℕ) → n < length (held_by r) → BeginsAs (held_by r) (Whole n) → lines_in (drop r.at file) ≡ take n (held_by r) ∷ lines_in (drop (r.at + (n + 1)) file)
   whole_next n low begins = rest_whole file (held_by r) r.at part_within part.each n low begins.1 begins.2
 
-  pub end_part : (mixes : Bool) → Tells r Part → MayEnd mixes (tail_in (drop r.at file))
-  end_part mixes tells = subst (MayEnd mixes) (sym (part_tail file (held_by r) r.at part_within part.each tells.begins (tells.whole refl ∙ part.len))) tt
+  part_end : Tells r Part → tail_in (drop r.at file) ≡ unbroken (length (held_by r))
+  part_end tells = part_tail file (held_by r) r.at part_within part.each tells.begins (tells.whole refl ∙ part.len)
+
+  -- the file ends in the front of a line
+  pub end_part : (mixes : Bool) → Tells r Part → r.len - r.at ≤ 1 → MayEnd mixes (tail_in (drop r.at file))
+  end_part mixes tells short =
+      let few : length (held_by r) ≤ 1 = omega (arith, short, tells.whole refl) in
+      subst (MayEnd mixes) (sym (part_end tells)) few
+
+  pub part_wrong : (mixes : Bool) → Tells r Part → 1 < r.len - r.at → MayEnd mixes (tail_in (drop r.at file)) → ⊥
+  part_wrong mixes tells long may =
+      let few : length (held_by r) ≤ 1 = subst (MayEnd mixes) (part_end tells) may in
+      omega (arith, long, few, tells.whole refl)
 
   read_byte : (n : ℕ) → slice_index (held_by r) n ≡ slice_index r.block.items (r.from + n)
   read_byte n = get_or-drop r.from r.block.items n 0

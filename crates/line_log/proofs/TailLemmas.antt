@@ -11,45 +11,47 @@ use Rattle.line_log.specs.ReadingPrivate.{IsBreak}
 use Rattle.line_log.proofs.LineLemmas.{IsInside}
 use Rattle.line_log.proofs.FirstLemmas.{no_bytes, past}
 
-opens : (b : ℕ) (bytes : List ℕ) → b ≡ 123 → tail_from false (b ∷ bytes) ≡ tail_from true bytes
+opens : (b : ℕ) (bytes : List ℕ) → b ≡ 123 → tail_from 0 (b ∷ bytes) ≡ tail_from 1 bytes
 opens b bytes is = grind (arith, nat_tests)
 
-shuts : (b : ℕ) (bytes : List ℕ) → b ≢ 123 → tail_from false (b ∷ bytes) ≡ shut_by b bytes
+shuts : (b : ℕ) (bytes : List ℕ) → b ≢ 123 → tail_from 0 (b ∷ bytes) ≡ shut_by b bytes
 shuts b bytes other = grind (arith, nat_tests)
 
-inside : (b : ℕ) (bytes : List ℕ) → 32 ≤ b → tail_from true (b ∷ bytes) ≡ tail_from true bytes
-inside b bytes high = grind (arith, nat_tests)
+inside : (n b : ℕ) (bytes : List ℕ) → 32 ≤ b → tail_from (suc n) (b ∷ bytes) ≡ tail_from (suc (suc n)) bytes
+inside n b bytes high = grind (arith, nat_tests)
 
-ends : (b : ℕ) (bytes : List ℕ) → b ≡ 10 → tail_from true (b ∷ bytes) ≡ tail_from false bytes
-ends b bytes is = grind (arith, nat_tests)
+ends : (n b : ℕ) (bytes : List ℕ) → b ≡ 10 → tail_from (suc n) (b ∷ bytes) ≡ tail_from 0 bytes
+ends n b bytes is = grind (arith, nat_tests)
 
-breaks : (b : ℕ) (bytes : List ℕ) → b ≢ 10 → b < 32 → tail_from true (b ∷ bytes) ≡ broken_by b bytes
-breaks b bytes other low = grind (arith, nat_tests)
+breaks : (n b : ℕ) (bytes : List ℕ) → b ≢ 10 → b < 32 → tail_from (suc n) (b ∷ bytes) ≡ broken_by b bytes
+breaks n b bytes other low = grind (arith, nat_tests)
 
-through : (r rest : List ℕ) → AllByRecursion IsInside r → tail_from true (r ++ rest) ≡ tail_from true rest
-through [] rest all = refl
-through (b ∷ r) rest all = inside b (r ++ rest) all.0 ∙ through r rest all.1
+through : (n m : ℕ) (r rest : List ℕ) → m ≡ n + length r → AllByRecursion IsInside r → tail_from (suc n) (r ++ rest) ≡ tail_from (suc m) rest
+through n m [] rest long all =
+    let same : n ≡ m = omega (arith, long) in
+    ap (λ (k : ℕ). tail_from (suc k) rest) same
+through n m (b ∷ r) rest long all = inside n b (r ++ rest) all.0 ∙ through (suc n) m r rest (omega (arith, long)) all.1
 
-past_front : (b : ℕ) (p rest : List ℕ) → IsLogLine (b ∷ p) → tail_in (b ∷ (p ++ rest)) ≡ tail_from true rest
-past_front b p rest line = opens b (p ++ rest) line.0 ∙ through p rest line.1
+past_front : (b : ℕ) (p rest : List ℕ) → IsLogLine (b ∷ p) → tail_in (b ∷ (p ++ rest)) ≡ tail_from (suc (length p)) rest
+past_front b p rest line = opens b (p ++ rest) line.0 ∙ through 0 (length p) p rest (omega arith) line.1
 
 -- a whole line, and a text, have no tail of their own
 pub past_line : (p rest : List ℕ) → IsLogLine p → tail_in (p ++ 10 ∷ rest) ≡ tail_in rest
 past_line [] rest line = absurd line
-past_line (b ∷ p) rest line = past_front b p (10 ∷ rest) line ∙ ends 10 rest refl
+past_line (b ∷ p) rest line = past_front b p (10 ∷ rest) line ∙ ends (length p) 10 rest refl
 
 pub past_text : (ls : List (List ℕ)) (rest : List ℕ) → AllByRecursion IsLogLine ls → tail_in (text_of ls ++ rest) ≡ tail_in rest
 past_text [] rest all = refl
 past_text (l ∷ ls) rest all = ap tail_in (append_assoc l (10 ∷ text_of ls) rest) ∙ past_line l (text_of ls ++ rest) all.0 ∙ past_text ls rest all.1
 
-pub front_only : (p : List ℕ) → IsLineFront p → tail_in p ≡ unbroken
+pub front_only : (p : List ℕ) → IsLineFront p → tail_in p ≡ unbroken (length p)
 front_only [] front = refl
 front_only (b ∷ p) front = ap (λ (l : List ℕ). tail_in (b ∷ l)) (sym (append-nil p)) ∙ past_front b p [] front
 
 -- the byte that breaks a front
 pub broken_front : (p : List ℕ) (b : ℕ) (rest : List ℕ) → IsLineFront p → IsBreak p b → 0 < length p → tail_in (p ++ b ∷ rest) ≡ broken_by b rest
 broken_front [] b rest front other some = absurd (omega arith)
-broken_front (x ∷ p) b rest front other some = past_front x p (b ∷ rest) front ∙ breaks b rest other.0 other.1
+broken_front (x ∷ p) b rest front other some = past_front x p (b ∷ rest) front ∙ breaks (length p) b rest other.0 other.1
 
 pub shut_front : (p : List ℕ) (b : ℕ) (rest : List ℕ) → IsBreak p b → length p ≡ 0 → tail_in (p ++ b ∷ rest) ≡ shut_by b rest
 shut_front [] b rest other none = shuts b rest other
@@ -60,7 +62,7 @@ shut_front (x ∷ p) b rest other none = absurd (omega arith)
 -- what a disk that mixes may leave, any disk may
 pub any_disk : (mixes : Bool) (t : Tail) → MayEnd true t → MayEnd mixes t
 any_disk true t may = may
-any_disk false unbroken may = tt
+any_disk false (unbroken n) may = may
 any_disk false (broken_by b rest) may = may
 any_disk false (shut_by b bytes) may = elim may [ inl blank ↦ inl blank | inr other ↦ inr (inl refl) ]
 
@@ -73,21 +75,23 @@ each_disk false false t same may = may
 
 -- the bytes begin with a blank, if there are any
 pub blank_first : (d : List ℕ) → (0 < length d → slice_index d 0 ≡ 13) → MayEnd true (tail_in d)
-blank_first [] blank = tt
+blank_first [] blank = omega arith
 blank_first (b ∷ d) blank =
     let is : b ≡ 13 = blank (omega arith) in
     subst (MayEnd true) (sym (shuts b d (λ (e : b ≡ 123). omega (arith, is, e)))) (inl is)
 
 -- the bytes begin no line, on a disk that may leave any byte there
 pub any_first : (d : List ℕ) → slice_index d 0 ≢ 123 → MayEnd false (tail_in d)
-any_first [] other = tt
+any_first [] other = omega arith
 any_first (b ∷ d) other = subst (MayEnd false) (sym (shuts b d other)) (inr (inl refl))
 
 -- at most one byte
 pub short_tail : (mixes : Bool) (d : List ℕ) → length d ≤ 1 → MayEnd mixes (tail_in d)
-short_tail mixes [] short = tt
+short_tail mixes [] short = omega arith
 short_tail mixes (b ∷ []) short = elim (cases_eq b 123) [
-  | inl is ↦ subst (MayEnd mixes) (sym (opens b [] is)) tt
+  | inl is ↦
+      let one : 1 ≤ 1 = omega arith in
+      subst (MayEnd mixes) (sym (opens b [] is)) one
   | inr other ↦ subst (MayEnd mixes) (sym (shuts b [] other)) (inr (inr refl))
 ]
 short_tail mixes (b ∷ c ∷ d) short = absurd (omega arith)
@@ -121,20 +125,20 @@ IsFadedText [] d = 0 < length d → slice_index d 0 ≡ 13
 IsFadedText (b ∷ g) [] = ⊥
 IsFadedText (b ∷ g) (c ∷ d) = ((c ≡ 13) ⊎ (c ≡ b)) × IsFadedText g d
 
--- a blank is what ends the lines
+-- a blank is what ends the lines, or the file ends there
 abbrev pub IsBlankEnd : Tail → Type 0
-IsBlankEnd unbroken = ⊤
+IsBlankEnd (unbroken n) = n ≤ 1
 IsBlankEnd (broken_by b rest) = b ≡ 13
 IsBlankEnd (shut_by b rest) = b ≡ 13
 
 -- what follows the byte that breaks a line is the rest of a torn write
 abbrev pub HasTornRest : Tail → Type 0
-HasTornRest unbroken = ⊤
+HasTornRest (unbroken n) = ⊤
 HasTornRest (broken_by b rest) = IsTornRest rest
 HasTornRest (shut_by b rest) = ⊤
 
 pub torn_end : (t : Tail) → IsBlankEnd t → HasTornRest t → MayEnd true t
-torn_end unbroken blank torn = tt
+torn_end (unbroken n) blank torn = blank
 torn_end (broken_by b rest) blank torn = (blank, torn)
 torn_end (shut_by b rest) blank torn = inl blank
 
@@ -145,43 +149,43 @@ torn_less b d torn = elim torn [
   | inr line ↦ inr (λ i j before low lf. line (suc i) (suc j) (omega arith) (omega arith) lf)
 ]
 
-torn_from : (in_line : Bool) (d : List ℕ) → IsTornRest d → HasTornRest (tail_from in_line d)
-torn_from in_line [] torn = tt
-torn_from false (b ∷ d) torn = elim (cases_eq b 123) [
-  | inl is ↦ subst HasTornRest (sym (opens b d is)) (torn_from true d (torn_less b d torn))
+torn_from : (n : ℕ) (d : List ℕ) → IsTornRest d → HasTornRest (tail_from n d)
+torn_from n [] torn = tt
+torn_from zero (b ∷ d) torn = elim (cases_eq b 123) [
+  | inl is ↦ subst HasTornRest (sym (opens b d is)) (torn_from 1 d (torn_less b d torn))
   | inr other ↦ subst HasTornRest (sym (shuts b d other)) tt
 ]
-torn_from true (b ∷ d) torn = elim (cases_eq b 10) [
-  | inl lf ↦ subst HasTornRest (sym (ends b d lf)) (torn_from false d (torn_less b d torn))
+torn_from (suc n) (b ∷ d) torn = elim (cases_eq b 10) [
+  | inl lf ↦ subst HasTornRest (sym (ends n b d lf)) (torn_from 0 d (torn_less b d torn))
   | inr other ↦ elim (cases_lt b 32) [
-    | inl low ↦ subst HasTornRest (sym (breaks b d other low)) (torn_less b d torn)
-    | inr high ↦ subst HasTornRest (sym (inside b d high)) (torn_from true d (torn_less b d torn))
+    | inl low ↦ subst HasTornRest (sym (breaks n b d other low)) (torn_less b d torn)
+    | inr high ↦ subst HasTornRest (sym (inside n b d high)) (torn_from (suc (suc n)) d (torn_less b d torn))
   ]
 ]
 
 -- the bytes are the rest of a torn write, and the lines end in a blank
 pub torn_tail : (d : List ℕ) → IsTornRest d → IsBlankEnd (tail_in d) → MayEnd true (tail_in d)
-torn_tail d torn blank = torn_end (tail_in d) blank (torn_from false d torn)
+torn_tail d torn blank = torn_end (tail_in d) blank (torn_from 0 d torn)
 
 blank_head : (d : List ℕ) → (0 < length d → slice_index d 0 ≡ 13) → IsBlankEnd (tail_in d)
-blank_head [] blank = tt
+blank_head [] blank = omega arith
 blank_head (b ∷ d) blank =
     let is : b ≡ 13 = blank (omega arith) in
     subst IsBlankEnd (sym (shuts b d (λ (e : b ≡ 123). omega (arith, is, e)))) is
 
-faded_inside : (r : List ℕ) (gs : List (List ℕ)) (d : List ℕ) → AllByRecursion IsInside r → ((e : List ℕ) → IsFadedText (text_of gs) e → IsBlankEnd (tail_in e))
-    → IsFadedText (r ++ 10 ∷ text_of gs) d → IsBlankEnd (tail_from true d)
-faded_inside [] gs [] all later f = absurd f
-faded_inside [] gs (c ∷ d) all later f = elim (f.0) [
-  | inl blank ↦ subst IsBlankEnd (sym (breaks c d (λ (e : c ≡ 10). omega (arith, blank, e)) (omega (arith, blank)))) blank
-  | inr lf ↦ subst IsBlankEnd (sym (ends c d lf)) (later d f.1)
+faded_inside : (n : ℕ) (r : List ℕ) (gs : List (List ℕ)) (d : List ℕ) → AllByRecursion IsInside r → ((e : List ℕ) → IsFadedText (text_of gs) e → IsBlankEnd (tail_in e))
+    → IsFadedText (r ++ 10 ∷ text_of gs) d → IsBlankEnd (tail_from (suc n) d)
+faded_inside n [] gs [] all later f = absurd f
+faded_inside n [] gs (c ∷ d) all later f = elim (f.0) [
+  | inl blank ↦ subst IsBlankEnd (sym (breaks n c d (λ (e : c ≡ 10). omega (arith, blank, e)) (omega (arith, blank)))) blank
+  | inr lf ↦ subst IsBlankEnd (sym (ends n c d lf)) (later d f.1)
 ]
-faded_inside (b ∷ r) gs [] all later f = absurd f
-faded_inside (b ∷ r) gs (c ∷ d) all later f = elim (f.0) [
-  | inl blank ↦ subst IsBlankEnd (sym (breaks c d (λ (e : c ≡ 10). omega (arith, blank, e)) (omega (arith, blank)))) blank
+faded_inside n (b ∷ r) gs [] all later f = absurd f
+faded_inside n (b ∷ r) gs (c ∷ d) all later f = elim (f.0) [
+  | inl blank ↦ subst IsBlankEnd (sym (breaks n c d (λ (e : c ≡ 10). omega (arith, blank, e)) (omega (arith, blank)))) blank
   | inr same ↦
       let high : 32 ≤ c = omega (arith, all.0, same) in
-      subst IsBlankEnd (sym (inside c d high)) (faded_inside r gs d all.1 later f.1)
+      subst IsBlankEnd (sym (inside n c d high)) (faded_inside (suc n) r gs d all.1 later f.1)
 ]
 
 pub faded_tail : (gs : List (List ℕ)) (d : List ℕ) → AllByRecursion IsLogLine gs → IsFadedText (text_of gs) d → IsBlankEnd (tail_in d)
@@ -190,7 +194,7 @@ faded_tail ([] ∷ gs) d all f = absurd (all.0)
 faded_tail ((b ∷ line) ∷ gs) [] all f = absurd f
 faded_tail ((b ∷ line) ∷ gs) (c ∷ d) all f = elim (f.0) [
   | inl blank ↦ subst IsBlankEnd (sym (shuts c d (λ (e : c ≡ 123). omega (arith, blank, e)))) blank
-  | inr same ↦ subst IsBlankEnd (sym (opens c d (same ∙ all.0.0))) (faded_inside line gs d all.0.1 (λ (e : List ℕ) (g : IsFadedText (text_of gs) e). faded_tail gs e all.1 g) f.1)
+  | inr same ↦ subst IsBlankEnd (sym (opens c d (same ∙ all.0.0))) (faded_inside 0 line gs d all.0.1 (λ (e : List ℕ) (g : IsFadedText (text_of gs) e). faded_tail gs e all.1 g) f.1)
 ]
 
 pub faded_text_at : (g d : List ℕ) → length g ≤ length d → ((i : ℕ) → i < length g → (slice_index d i ≡ 13) ⊎ (slice_index d i ≡ slice_index g i)) → slice_index d (length g) ≡ 13 → IsFadedText g d

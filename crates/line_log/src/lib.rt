@@ -5,8 +5,9 @@
 //! each with its LF and without its hash. The theorems on crashes rest on no hash, only on what a disk promises
 //! (`sqlite_disk::Disk`).
 //!
-//! A file that ends early is a log with fewer lines: a lost end can't be told from lines that were never added. A caller who must know
-//! keeps the number of the last line and its hash elsewhere. `docs/DECISIONS.md` lists what else looks as after a crash.
+//! A file that was cut short inside a line is damaged. One that ends behind a line is a log with fewer lines, and so is one whose last lines
+//! became blanks: these can't be told from lines that were never added. A caller who must know keeps the number of the last line and its
+//! hash elsewhere. `docs/DECISIONS.md` lists what else looks as after a crash.
 //!
 //! - [`LogReader`] reads a file line by line, in memory bounded by a line, tests the hashes, and opens the log at the end.
 //! - [`LineLog`] is an open log: `append` adds whole lines, syncs, and keeps what was there before over a crash at any moment.

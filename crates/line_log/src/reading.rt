@@ -237,7 +237,13 @@ impl<D: Disk> LogReader<D> {
     {
         match self.look(alloc)? {
             FirstLine::Whole(len) => Ok(Some(len)),
-            FirstLine::Part => Ok(None),
+            FirstLine::Part => {
+                let left = self.len - self.at;
+                if left > 1 {
+                    return Err(LogError::Damaged(self.count));
+                }
+                Ok(None)
+            }
             FirstLine::Broken(front) => {
                 if !is_torn_rest(alloc, &mut self.disk, self.at, front, self.len)? {
                     return Err(LogError::Damaged(self.count));

@@ -80,6 +80,26 @@ fn each_changed_bit_is_found(rt: HostRuntime) -> Result<(), Fail> {
 }
 
 #[test]
+fn a_file_that_was_cut_short_inside_a_line_is_found(rt: HostRuntime) -> Result<(), Fail> {
+    let file = written(rt.alloc())?;
+    for end in 0..file.len() {
+        let (left, _) = file.split_at(end);
+        let seems_torn = end < 2
+            || left
+                .iter()
+                .skip(end.saturating_sub(2))
+                .any(|byte| *byte == b'\n');
+        holds_at(
+            &rt,
+            opens(rt.alloc(), left)? == seems_torn,
+            "a file that was cut short",
+            end as u64,
+        );
+    }
+    Ok(())
+}
+
+#[test]
 fn missing_and_moved_lines_are_found(rt: HostRuntime) -> Result<(), Fail> {
     let file = written(rt.alloc())?;
     let (first, rest) = file.split_at(50.min(file.len()));

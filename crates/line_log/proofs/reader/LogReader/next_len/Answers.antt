@@ -2,17 +2,29 @@ use Rattle.std.proofs.Common.{◌≡◌, ◌+◌, ◌<◌, [], ℕ, length, drop
 use Rattle.line_log.specs.Lines.{lines_in}
 use Rattle.line_log.specs.Tails.{tail_in, IsTornRest, MayEnd}
 use Rattle.line_log.specs.ReadingPrivate.{IsEnd, Tells}
-use Rattle.line_log.proofs.ReadLemmas.{none_part, none_broken, end_part, end_torn, end_wrong, rest_wrong, behind, before}
+use Rattle.line_log.proofs.ReadLemmas.{none_part, none_broken, end_part, part_wrong, end_torn, end_wrong, rest_wrong, behind, before}
 use Rattle.line_log.proofs.reader.LogReader.next_len.Goals as goal
 
-pub returns-in-Part-clause-end : goal.returns-in-Part-clause-end
-returns-in-Part-clause-end g c clean part =
+pub returns-else-left-gt1-clause-end : goal.returns-else-left-gt1-clause-end
+returns-else-left-gt1-clause-end g c clean part =
     let file = g.D.Disk.seen c.args.self.now.disk in
     let s = c.look.new.self in
     let mixes = g.D.Disk.is_mixing s.disk in
     let here = c.look.ensures.part clean part in
     let tells = subst (Tells s) c.in-Part.is c.in_ok-len.ensures.tells in
-    subst (λ (n : ℕ). IsEnd mixes (drop n file)) c.look.ensures.at (record { none = none_part file s here tells; end = end_part file s here mixes tells })
+    subst (λ (n : ℕ). IsEnd mixes (drop n file)) c.look.ensures.at (record { none = none_part file s here tells; end = end_part file s here mixes tells (omega (arith, c.if-left-gt1.false)) })
+
+pub returns-then-left-gt1-clause-fault : goal.returns-then-left-gt1-clause-fault
+returns-then-left-gt1-clause-fault g c clean part =
+    let file = g.D.Disk.seen c.args.self.now.disk in
+    let s = c.look.new.self in
+    let mixes = g.D.Disk.is_mixing s.disk in
+    let here = c.look.ensures.part clean part in
+    let tells = subst (Tells s) c.in-Part.is c.in_ok-len.ensures.tells in (
+      c.look.ensures.count,
+      subst (λ (n : ℕ). lines_in (drop n file) ≡ []) c.look.ensures.at (none_part file s here tells),
+      subst (λ (n : ℕ). MayEnd mixes (tail_in (drop n file)) → ⊥) c.look.ensures.at (part_wrong file s here mixes tells (omega (arith, c.if-left-gt1.true))),
+    )
 
 pub returns-else-not-is_torn-clause-end : goal.returns-else-not-is_torn-clause-end
 returns-else-not-is_torn-clause-end g c clean part =
