@@ -16,10 +16,12 @@ use Rattle.entry_book.specs.Limits.{limit_passed}
 use Rattle.entry_book.specs.Batches.{Batch, IsMadeFor, is_query, past_place}
 use Rattle.entry_book.specs.History.{last_book, place_of, batch_writes, book_for, kept_under, adds_within, is_committed, Verdict, refuses, answers, adds, repeats, verdict, verdict_when, verdict_run, reply_with, reply_to, books_with, books_after, books_from, IsHistory}
 use Rattle.entry_book.specs.Lawful.{Lawful}
-use Rattle.entry_book.specs.Laws.{ArePagesAlone, ReadLastBook, CommittedOnce}
+use Rattle.entry_book.specs.Order.{Within, first as first_row}
+use Rattle.entry_book.specs.Laws.{ArePagesAlone, ReadLastBook, CommittedOnce, first_reply, stored_batch}
 use Rattle.entry_book.specs.Tokens.{token_key}
+use Rattle.entry_book.proofs.Alike.{last_there}
 use Rattle.entry_book.proofs.Faults.{asks_last, not_refused}
-use Rattle.entry_book.proofs.Keys.{at_row}
+use Rattle.entry_book.proofs.Keys.{at_row, row_alone}
 use Rattle.entry_book.proofs.Histories.{asks_with, history_extends, history_some, last-snoc, lawful_history}
 use Rattle.entry_book.proofs.OfVerdict.{of_verdict}
 use Rattle.entry_book.proofs.PastPages.{past_asks, IsPastPage, past_page}
@@ -32,25 +34,17 @@ use Rattle.entry_book.proofs.Verdicts.{repeat_answered, reuse_refused}
 some_is : {X : Type 0} (x y : X) → Some x ≡ Some y → x ≡ y
 some_is x y e = cc
 
-get_last : (books : List Book) → 0 < length books → slice_get books (place_of books) ≡ Some (last_book books)
-get_last [] h = absurd (omega arith)
-get_last (b ∷ books) h = last_at empty_book b books
-  where
-    last_at : (a b : Book) (bs : List Book) → slice_get (b ∷ bs) (length (b ∷ bs) - 1) ≡ Some (last_book (b ∷ bs))
-    last_at a b [] = refl
-    last_at a b (c ∷ cs) = let q : length (b ∷ c ∷ cs) - 1 ≡ suc (length (c ∷ cs) - 1) = omega arith in ap (slice_get (b ∷ c ∷ cs)) q ∙ last_at b c cs
-
 -- the row of the token in the last book
 abbrev HasKept : Bytes → Option KeptBatch → List Book → Type 0
 HasKept token r books = token_at token (last_book books) ≡ r
 
-record Keeps (own_domain token : Bytes) (r : KeptBatch) (books : List Book) : Type 0 where
-  history : IsHistory own_domain books
+record Keeps (first : List Book) (own_domain token : Bytes) (r : KeptBatch) (books : List Book) : Type 0 where
+  history : IsHistory first own_domain books
   some : 0 < length books
   kept : HasKept token (Some r) books
 
-in_order_after : (own_domain : Bytes) (books : List Book) → IsHistory own_domain books → 0 < length books → AscendingBook (last_book books)
-in_order_after own_domain books h s = let l : Lawful own_domain (64 * place_of books) (last_book books) = lawful_history own_domain books h (place_of books) (last_book books) (get_last books s) in l.ascending
+in_order_after : (first : List Book) (own_domain : Bytes) (books : List Book) → IsHistory first own_domain books → 0 < length books → AscendingBook (last_book books)
+in_order_after first own_domain books h s = let l : Lawful own_domain (64 * place_of books) (last_book books) = lawful_history first own_domain books h (place_of books) (last_book books) (last_there books s) in l.ascending
 
 -- ---- the effect of a batch on the row of a token
 
@@ -80,11 +74,11 @@ is_unchanged_when token r false batch n books b (Ok t) e a k u h =
     let c = after (batch_writes batch (n + 1) t) b in
     is_unchanged_within token r books c t.replies (limit_passed n c) h (others_stay batch token (n + 1) t b q.order (other_token batch token r b u k) q.leaves ∙ k)
 
-is_unchanged_run : (own_domain token : Bytes) (r : KeptBatch) (batch : Batch) (books : List Book) (b : Book) (o : Option ℕ) → Keeps own_domain token r books → IsMadeFor own_domain batch → past_place batch.ops ≡ o → book_for o books ≡ Some b → kept_under batch.token b ≡ None → HasKept token (Some r) (books_with books (verdict_run batch (place_of books) b))
-is_unchanged_run own_domain token r batch books b None k m p e u =
+is_unchanged_run : (first : List Book) (own_domain token : Bytes) (r : KeptBatch) (batch : Batch) (books : List Book) (b : Book) (o : Option ℕ) → Keeps first own_domain token r books → IsMadeFor own_domain batch → past_place batch.ops ≡ o → book_for o books ≡ Some b → kept_under batch.token b ≡ None → HasKept token (Some r) (books_with books (verdict_run batch (place_of books) b))
+is_unchanged_run first own_domain token r batch books b None k m p e u =
     let q : last_book books ≡ b = some_is (last_book books) b e in
-    is_unchanged_when token r (is_query batch.ops) batch (place_of books) books b (run batch.domain batch.ops b) refl (subst AscendingBook q (in_order_after own_domain books k.history k.some)) (sym (ap (token_at token) q) ∙ k.kept) u k.kept
-is_unchanged_run own_domain token r batch books b (Some n) k m p e u = asks_with (HasKept token (Some r)) books (is_query batch.ops) batch (place_of books) b (run batch.domain batch.ops b) (past_asks own_domain batch n m p) k.kept
+    is_unchanged_when token r (is_query batch.ops) batch (place_of books) books b (run batch.domain batch.ops b) refl (subst AscendingBook q (in_order_after first own_domain books k.history k.some)) (sym (ap (token_at token) q) ∙ k.kept) u k.kept
+is_unchanged_run first own_domain token r batch books b (Some n) k m p e u = asks_with (HasKept token (Some r)) books (is_query batch.ops) batch (place_of books) b (run batch.domain batch.ops b) (past_asks own_domain batch n m p) k.kept
 
 some_with : (books : List Book) (v : Verdict) → 0 < length books → 0 < length (books_with books v)
 some_with books (refuses r) h = h
@@ -92,16 +86,16 @@ some_with books (answers rs) h = h
 some_with books (adds rs b) h = let n = length-append books (b ∷ []) in omega arith
 some_with books (repeats n rs) h = h
 
-is_unchanged : (own_domain token : Bytes) (r : KeptBatch) (batch : Batch) (books : List Book) → Keeps own_domain token r books → IsMadeFor own_domain batch → Keeps own_domain token r (books_after batch books)
-is_unchanged own_domain token r batch books k m = record {
-  history = history_extends own_domain batch books k.history m;
+is_unchanged : (first : List Book) (own_domain token : Bytes) (r : KeptBatch) (batch : Batch) (books : List Book) → Keeps first own_domain token r books → IsMadeFor own_domain batch → Keeps first own_domain token r (books_after batch books)
+is_unchanged first own_domain token r batch books k m = record {
+  history = history_extends first own_domain batch books k.history m;
   some = some_with books (verdict batch (place_of books) (book_for (past_place batch.ops) books)) k.some;
-  kept = of_verdict (λ v. HasKept token (Some r) (books_with books v)) batch (place_of books) (λ f. k.kept) (λ n rs. k.kept) (book_for (past_place batch.ops) books) (λ b e u. is_unchanged_run own_domain token r batch books b (past_place batch.ops) k m refl e u);
+  kept = of_verdict (λ v. HasKept token (Some r) (books_with books v)) batch (place_of books) (λ f. k.kept) (λ n rs. k.kept) (book_for (past_place batch.ops) books) (λ b e u. is_unchanged_run first own_domain token r batch books b (past_place batch.ops) k m refl e u);
 }
 
-is_unchanged_all : (own_domain token : Bytes) (r : KeptBatch) (books : List Book) (batches : List Batch) → Keeps own_domain token r books → AllByRecursion (IsMadeFor own_domain) batches → Keeps own_domain token r (books_from books batches)
-is_unchanged_all own_domain token r books [] k m = k
-is_unchanged_all own_domain token r books (x ∷ xs) k m = is_unchanged_all own_domain token r (books_after x books) xs (is_unchanged own_domain token r x books k m.0) m.1
+is_unchanged_all : (first : List Book) (own_domain token : Bytes) (r : KeptBatch) (books : List Book) (batches : List Batch) → Keeps first own_domain token r books → AllByRecursion (IsMadeFor own_domain) batches → Keeps first own_domain token r (books_from books batches)
+is_unchanged_all first own_domain token r books [] k m = k
+is_unchanged_all first own_domain token r books (x ∷ xs) k m = is_unchanged_all first own_domain token r (books_after x books) xs (is_unchanged first own_domain token r x books k m.0) m.1
 
 -- ---- the batch that is committed
 
@@ -138,13 +132,13 @@ newest own_domain token batch m e = of_place (past_place batch.ops) refl
     of_place None q = q
     of_place (Some n) q = let p : IsPastPage batch n = past_page own_domain batch n m q in let r : Some token ≡ None = sym e ∙ p.token in cc
 
-kept_run : (own_domain token : Bytes) (batch : Batch) (books : List Book) (b : Book) → IsHistory own_domain books → 0 < length books → IsMadeFor own_domain batch → batch.token ≡ Some token → book_for (past_place batch.ops) books ≡ Some b → kept_under batch.token b ≡ None → IfCommitted batch token books (verdict_run batch (place_of books) b)
-kept_run own_domain token batch books b h s m k e u =
+kept_run : (first : List Book) (own_domain token : Bytes) (batch : Batch) (books : List Book) (b : Book) → IsHistory first own_domain books → 0 < length books → IsMadeFor own_domain batch → batch.token ≡ Some token → book_for (past_place batch.ops) books ≡ Some b → kept_under batch.token b ≡ None → IfCommitted batch token books (verdict_run batch (place_of books) b)
+kept_run first own_domain token batch books b h s m k e u =
     let q : last_book books ≡ b = some_is (last_book books) b (sym (ap (λ o. book_for o books) (newest own_domain token batch m k)) ∙ e) in
-    kept_when batch token (is_query batch.ops) books b (run batch.domain batch.ops b) refl (subst AscendingBook q (in_order_after own_domain books h s)) k u
+    kept_when batch token (is_query batch.ops) books b (run batch.domain batch.ops b) refl (subst AscendingBook q (in_order_after first own_domain books h s)) k u
 
-committed_keeps : (own_domain token : Bytes) (batch : Batch) (books : List Book) → IsHistory own_domain books → 0 < length books → IsMadeFor own_domain batch → batch.token ≡ Some token → IfCommitted batch token books (verdict batch (place_of books) (book_for (past_place batch.ops) books))
-committed_keeps own_domain token batch books h s m k = of_verdict (IfCommitted batch token books) batch (place_of books) (λ f rs e. cc) (λ n rs' rs e. cc) (book_for (past_place batch.ops) books) (λ b e u. kept_run own_domain token batch books b h s m k e u)
+committed_keeps : (first : List Book) (own_domain token : Bytes) (batch : Batch) (books : List Book) → IsHistory first own_domain books → 0 < length books → IsMadeFor own_domain batch → batch.token ≡ Some token → IfCommitted batch token books (verdict batch (place_of books) (book_for (past_place batch.ops) books))
+committed_keeps first own_domain token batch books h s m k = of_verdict (IfCommitted batch token books) batch (place_of books) (λ f rs e. cc) (λ n rs' rs e. cc) (book_for (past_place batch.ops) books) (λ b e u. kept_run first own_domain token batch books b h s m k e u)
 
 -- ---- each later batch with the token
 
@@ -162,11 +156,11 @@ not_committed n batch o h = of_verdict (λ v. is_committed (reply_with n v).outc
 books_left : (books : List Book) (batch : Batch) (o : Option Book) → ((b : Book) → o ≡ Some b → kept_under batch.token b ≡ None → ⊥) → books_with books (verdict batch (place_of books) o) ≡ books
 books_left books batch o h = of_verdict (λ v. books_with books v ≡ books) batch (place_of books) (λ r. refl) (λ k rs. refl) o (λ b e u. absurd (h b e u))
 
-later_again : (own_domain token : Bytes) (first : Reply) (replies : List OpReply) (batch other : Batch) (n : ℕ) (books : List Book) → Keeps own_domain token (row batch token n replies) books → IsMadeFor own_domain other → other.token ≡ Some token → first.place ≡ n → CommittedOnce first replies batch other books
-later_again own_domain token first replies batch other n books k m e p =
+later_again : (first : List Book) (own_domain token : Bytes) (reply : Reply) (replies : List OpReply) (batch other : Batch) (n : ℕ) (books : List Book) → Keeps first own_domain token (row batch token n replies) books → IsMadeFor own_domain other → other.token ≡ Some token → reply.place ≡ n → CommittedOnce reply replies batch other books
+later_again first own_domain token reply replies batch other n books k m e p =
     let r : KeptBatch = row batch token n replies in
     let now = newest own_domain token other m e in
-    let order = in_order_after own_domain books k.history k.some in
+    let order = in_order_after first own_domain books k.history k.some in
     let within = (at_row token_key token (last_book books).tokens r k.kept).0 in
     let last = asks_only_last own_domain other m (newest own_domain token other m e) in
     let found : kept_under other.token (last_book books) ≡ Some r = ap (λ x. kept_under x (last_book books)) e ∙ k.kept in
@@ -181,9 +175,27 @@ later_again own_domain token first replies batch other n books k m e p =
       reused = λ t s. (reuse_refused other books r order t last within e (λ q. s (sym q))).0;
     }
 
-pub exactly_once : (own_domain token : Bytes) (batch other : Batch) (between : List Batch) (books : List Book) (replies : List OpReply) → IsHistory own_domain books → IsMadeFor own_domain batch → IsMadeFor own_domain other → AllByRecursion (IsMadeFor own_domain) between → batch.token ≡ Some token → other.token ≡ Some token → (reply_to batch books).outcome ≡ Committed replies → CommittedOnce (reply_to batch books) replies batch other (books_from (books_after batch books) between)
-exactly_once own_domain token batch other between books replies h m o a e f c =
-    let s = history_some own_domain books h in
-    let k : IsKept batch token books replies (verdict batch (place_of books) (book_for (past_place batch.ops) books)) = committed_keeps own_domain token batch books h s m e replies c in
-    let first : Keeps own_domain token (row batch token (place_of books + 1) replies) (books_after batch books) = record { history = history_extends own_domain batch books h m; some = some_with books (verdict batch (place_of books) (book_for (past_place batch.ops) books)) s; kept = k.kept } in
-    later_again own_domain token (reply_to batch books) replies batch other (place_of books + 1) (books_from (books_after batch books) between) (is_unchanged_all own_domain token (row batch token (place_of books + 1) replies) (books_after batch books) between first a) o f k.place
+pub exactly_once : (first : List Book) (own_domain token : Bytes) (batch other : Batch) (between : List Batch) (books : List Book) (replies : List OpReply) → IsHistory first own_domain books → IsMadeFor own_domain batch → IsMadeFor own_domain other → AllByRecursion (IsMadeFor own_domain) between → batch.token ≡ Some token → other.token ≡ Some token → (reply_to batch books).outcome ≡ Committed replies → CommittedOnce (reply_to batch books) replies batch other (books_from (books_after batch books) between)
+exactly_once first own_domain token batch other between books replies h m o a e f c =
+    let s = history_some first own_domain books h in
+    let k : IsKept batch token books replies (verdict batch (place_of books) (book_for (past_place batch.ops) books)) = committed_keeps first own_domain token batch books h s m e replies c in
+    let stored : Keeps first own_domain token (row batch token (place_of books + 1) replies) (books_after batch books) = record { history = history_extends first own_domain batch books h m; some = some_with books (verdict batch (place_of books) (book_for (past_place batch.ops) books)) s; kept = k.kept } in
+    later_again first own_domain token (reply_to batch books) replies batch other (place_of books + 1) (books_from (books_after batch books) between) (is_unchanged_all first own_domain token (row batch token (place_of books + 1) replies) (books_after batch books) between stored a) o f k.place
+
+-- ---- a batch that is stored
+
+keeps_stored : (first : List Book) (own_domain : Bytes) (k : KeptBatch) (books : List Book) → IsHistory first own_domain books → Within (last_book books).tokens k → Keeps first own_domain k.token k books
+keeps_stored first own_domain k books h w =
+    let s = history_some first own_domain books h in
+    let order = in_order_after first own_domain books h s in
+    record { history = h; some = s; kept = ap first_row (row_alone token_key k.token (last_book books).tokens k order.tokens w refl) }
+
+pub kept_stays : (first : List Book) (own_domain : Bytes) (books : List Book) (k : KeptBatch) (batches : List Batch) → IsHistory first own_domain books → Within (last_book books).tokens k → AllByRecursion (IsMadeFor own_domain) batches → Within (last_book (books_from books batches)).tokens k
+kept_stays first own_domain books k batches h w a =
+    let later : Keeps first own_domain k.token k (books_from books batches) = is_unchanged_all first own_domain k.token k books batches (keeps_stored first own_domain k books h w) a in
+    (at_row token_key k.token (last_book (books_from books batches)).tokens k later.kept).0
+
+pub stored_once : (first : List Book) (own_domain : Bytes) (k : KeptBatch) (other : Batch) (between : List Batch) (books : List Book) → IsHistory first own_domain books → Within (last_book books).tokens k → IsMadeFor own_domain other → AllByRecursion (IsMadeFor own_domain) between → other.token ≡ Some k.token → CommittedOnce (first_reply k) k.replies (stored_batch own_domain k) other (books_from books between)
+stored_once first own_domain k other between books h w m a e =
+    later_again first own_domain k.token (first_reply k) k.replies (stored_batch own_domain k) other k.place (books_from books between)
+    (is_unchanged_all first own_domain k.token k books between (keeps_stored first own_domain k books h w) a) m e refl

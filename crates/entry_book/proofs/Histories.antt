@@ -1,6 +1,7 @@
 -- How the list of all books grows, and that each of them is lawful.
 use Rattle.std.proofs.Common.{◌≡◌, ℕ, zero, suc, ◌+◌, ◌-◌, ◌*◌, ◌<◌, ◌≤◌, Bool, true, false, List, [], ◌∷◌, ◌++◌, length, Option, Some, None, Ok, Err, refl, sym, ap, subst, ◌∙◌, ⊎_elim, IfOk, arith, length-append}
-use Rattle.std.specs.Prelude.{slice_get, ◌↔◌, ◌^◌}
+use Rattle.std.specs.Prelude.{slice_get, ◌↔◌, ◌^◌, replicate}
+use Rattle.std.proofs.lemmas.List.{length-replicate}
 use Rattle.std.specs.List.{AllByRecursion}
 use Rattle.std.proofs.lemmas.Bool.{cases_Bool}
 use Rattle.entry_book.specs.declared.limit.Limit.{Limit}
@@ -9,9 +10,9 @@ use Rattle.entry_book.specs.Rows.{Bytes}
 use Rattle.entry_book.specs.Book.{Book, empty_book}
 use Rattle.entry_book.specs.Writes.{after}
 use Rattle.entry_book.specs.Runs.{RunEffect, RunResult, run}
-use Rattle.entry_book.specs.Limits.{limit_passed}
+use Rattle.entry_book.specs.Limits.{limit_passed, IsWithinLimits}
 use Rattle.entry_book.specs.Batches.{Batch, IsMadeFor, is_query, op_fault, past_place}
-use Rattle.entry_book.specs.History.{last_book, last_or, place_of, batch_writes, book_for, is_repeated, Verdict, refuses, answers, adds, repeats, adds_within, verdict_when, verdict_run, verdict, reply_with, books_with, reply_to, books_after, books_from, books_of, first_books, is_committed, commits, CommitAll, LeadToBooks, IsHistory, PlainState, RepresentsBooks}
+use Rattle.entry_book.specs.History.{last_book, last_or, place_of, batch_writes, book_for, is_repeated, Verdict, refuses, answers, adds, repeats, adds_within, verdict_when, verdict_run, verdict, reply_with, books_with, reply_to, books_after, books_from, first_books, starting_at, is_committed, commits, CommitAll, IsFirst, LeadToBooks, IsHistory, PlainState, RepresentsFrom}
 use Rattle.entry_book.specs.Lawful.{Lawful}
 use Rattle.entry_book.proofs.Keeps.{run_keeps}
 use Rattle.entry_book.proofs.LawfulRows.{wider}
@@ -21,7 +22,7 @@ use Rattle.entry_book.proofs.OfVerdict.{of_verdict}
 use Rattle.entry_book.proofs.PastPages.{past_asks}
 use Rattle.entry_book.proofs.TokenRows.{writes_keep}
 use Rattle.entry_book.proofs.Sets.{All-more}
-use Rattle.entry_book.proofs.WithinLimits.{none_is_passed}
+use Rattle.entry_book.proofs.WithinLimits.{all_within_limits, empty_within, none_is_passed}
 
 -- ---- one batch
 
@@ -75,8 +76,8 @@ books_from-snoc : (books : List Book) (batches : List Batch) (batch : Batch) →
 books_from-snoc books [] batch = refl
 books_from-snoc books (x ∷ xs) batch = books_from-snoc (books_after x books) xs batch
 
-pub one_more : (batches : List Batch) (batch : Batch) → books_of (batches ++ batch ∷ []) ≡ books_after batch (books_of batches)
-one_more batches batch = books_from-snoc first_books batches batch
+pub one_more : (first : List Book) (batches : List Batch) (batch : Batch) → books_from first (batches ++ batch ∷ []) ≡ books_after batch (books_from first batches)
+one_more = books_from-snoc
 
 commit_snoc : (books : List Book) (batches : List Batch) (batch : Batch) → CommitAll books batches → commits batch (books_from books batches) ≡ true → CommitAll books (batches ++ batch ∷ [])
 commit_snoc books [] batch h k = (k, tt)
@@ -86,8 +87,8 @@ from_commit_snoc : (books : List Book) (batches : List Batch) (batch : Batch) �
 from_commit_snoc books [] batch h = (tt, h.0)
 from_commit_snoc books (x ∷ xs) batch h = let r = from_commit_snoc (books_after x books) xs batch h.1 in ((h.0, r.0), r.1)
 
-pub one_more_commits : (batches : List Batch) (batch : Batch) → CommitAll first_books (batches ++ batch ∷ []) ↔ (CommitAll first_books batches × (commits batch (books_of batches) ≡ true))
-one_more_commits batches batch = (from_commit_snoc first_books batches batch, λ h. commit_snoc first_books batches batch h.0 h.1)
+pub one_more_commits : (first : List Book) (batches : List Batch) (batch : Batch) → CommitAll first (batches ++ batch ∷ []) ↔ (CommitAll first batches × (commits batch (books_from first batches) ≡ true))
+one_more_commits first batches batch = (from_commit_snoc first batches batch, λ h. commit_snoc first batches batch h.0 h.1)
 
 count_from : (books : List Book) (batches : List Batch) → 0 < length books → CommitAll books batches → length (books_from books batches) ≡ length books + length batches
 count_from books [] l h = omega arith
@@ -97,24 +98,25 @@ count_from books (x ∷ xs) l h =
     let k = count_from (books_after x books) xs (omega arith) h.1 in
     omega arith
 
-pub count_of_books : (batches : List Batch) → CommitAll first_books batches → length (books_of batches) ≡ length batches + 1
-count_of_books batches h = let k = count_from first_books batches (omega arith) h in omega arith
+pub count_of_books : (first : List Book) (batches : List Batch) → 0 < length first → CommitAll first batches → length (books_from first batches) ≡ length batches + length first
+count_of_books first batches s h = let k = count_from first batches s h in omega arith
 
 -- ---- histories
 
-pub history_extends : (own_domain : Bytes) (batch : Batch) (books : List Book) → IsHistory own_domain books → IsMadeFor own_domain batch → IsHistory own_domain (books_after batch books)
-history_extends own_domain batch books h m =
-    let leads : LeadToBooks own_domain h.0 books = h.1 in
+pub history_extends : (first : List Book) (own_domain : Bytes) (batch : Batch) (books : List Book) → IsHistory first own_domain books → IsMadeFor own_domain batch → IsHistory first own_domain (books_after batch books)
+history_extends first own_domain batch books h m =
+    let leads : LeadToBooks first own_domain h.0 books = h.1 in
     ⊎_elim
     (λ t. (
       h.0 ++ batch ∷ [],
       record {
+        is_first = leads.is_first;
         made = All-more (IsMadeFor own_domain) h.0 batch leads.made m;
-        committed = commit_snoc first_books h.0 batch leads.committed (subst (λ l. commits batch l ≡ true) leads.books_are t);
-        books_are = ap (books_after batch) leads.books_are ∙ sym (one_more h.0 batch);
+        committed = commit_snoc first h.0 batch leads.committed (subst (λ l. commits batch l ≡ true) leads.books_are t);
+        books_are = ap (books_after batch) leads.books_are ∙ sym (one_more first h.0 batch);
       },
     ))
-    (λ t. subst (IsHistory own_domain) (sym (others_leave batch books t).0) h)
+    (λ t. subst (IsHistory first own_domain) (sym (others_leave batch books t).0) h)
     (cases_Bool (commits batch books))
 
 -- ---- a history is bounded
@@ -139,10 +141,11 @@ few_from : (books : List Book) (batches : List Batch) → length books ≤ 2 ^ 4
 few_from books [] l = l
 few_from books (x ∷ xs) l = few_from (books_after x books) xs (few_after books x l)
 
-pub history_bounded : (own_domain : Bytes) (books : List Book) → IsHistory own_domain books → length books ≤ 2 ^ 48 + 1
-history_bounded own_domain books h =
-    let leads : LeadToBooks own_domain h.0 books = h.1 in
-    let few = few_from first_books h.0 (omega arith) in
+pub history_bounded : (first : List Book) (own_domain : Bytes) (books : List Book) → IsHistory first own_domain books → length books ≤ 2 ^ 48 + 1
+history_bounded first own_domain books h =
+    let leads : LeadToBooks first own_domain h.0 books = h.1 in
+    let begins : IsFirst own_domain first = leads.is_first in
+    let few = few_from first h.0 begins.few in
     let same = ap length leads.books_are in
     omega arith
 
@@ -241,19 +244,65 @@ good_from : (own_domain : Bytes) (books : List Book) (batches : List Batch) → 
 good_from own_domain books [] m g = g
 good_from own_domain books (x ∷ xs) m g = good_from own_domain (books_after x books) xs m.1 (good_after own_domain x books m.0 g)
 
-pub lawful_history : (own_domain : Bytes) (books : List Book) → IsHistory own_domain books → (n : ℕ) (b : Book) → slice_get books n ≡ Some b → Lawful own_domain (64 * n) b
-lawful_history own_domain books h n b e =
-    let leads : LeadToBooks own_domain h.0 books = h.1 in
-    let g : Good own_domain (books_of h.0) = good_from own_domain first_books h.0 leads.made (record { some = omega arith; lawful = (empty_lawful own_domain, tt) }) in
-    let q : 0 + n ≡ n = omega arith in
-    subst (λ k. Lawful own_domain (64 * k) b) q (lawful_at own_domain 0 (books_of h.0) n b g.lawful (sym (ap (λ l. slice_get l n) leads.books_are) ∙ e))
+-- the books of a list from number n on, each lawful at its number
+lawful_by_number : (own_domain : Bytes) (n : ℕ) (bs : List Book) → ((k : ℕ) (b : Book) → slice_get bs k ≡ Some b → Lawful own_domain (64 * (n + k)) b) → LawfulFrom own_domain n bs
+lawful_by_number own_domain n [] h = tt
+lawful_by_number own_domain n (b ∷ bs) h = (
+  let q : n + 0 ≡ n = omega arith in subst (λ m. Lawful own_domain (64 * m) b) q (h zero b refl),
+  lawful_by_number own_domain (n + 1) bs (λ k c e. let q : n + suc k ≡ n + 1 + k = omega arith in subst (λ m. Lawful own_domain (64 * m) c) q (h (suc k) c e)),
+)
 
-pub all_lawful : (state : PlainState) (books : List Book) → RepresentsBooks state books → (n : ℕ) (b : Book) → slice_get books n ≡ Some b → Lawful state.domain (64 * n) b
-all_lawful state books s n b e = lawful_history state.domain books s.history n b e
+good_first : (own_domain : Bytes) (first : List Book) → IsFirst own_domain first → Good own_domain first
+good_first own_domain first begins = record {
+  some = begins.some;
+  lawful = lawful_by_number own_domain 0 first (λ k b e. let q : k ≡ 0 + k = omega arith in subst (λ m. Lawful own_domain (64 * m) b) q (begins.lawful k b e));
+}
+
+good_history : (first : List Book) (own_domain : Bytes) (batches : List Batch) (books : List Book) → LeadToBooks first own_domain batches books → Good own_domain books
+good_history first own_domain batches books leads = subst (Good own_domain) (sym leads.books_are) (good_from own_domain first batches leads.made (good_first own_domain first leads.is_first))
+
+pub lawful_history : (first : List Book) (own_domain : Bytes) (books : List Book) → IsHistory first own_domain books → (n : ℕ) (b : Book) → slice_get books n ≡ Some b → Lawful own_domain (64 * n) b
+lawful_history first own_domain books h n b e =
+    let g : Good own_domain books = good_history first own_domain h.0 books h.1 in
+    let q : 0 + n ≡ n = omega arith in
+    subst (λ k. Lawful own_domain (64 * k) b) q (lawful_at own_domain 0 books n b g.lawful e)
+
+pub all_lawful : (first : List Book) (state : PlainState) (books : List Book) → RepresentsFrom first state books → (n : ℕ) (b : Book) → slice_get books n ≡ Some b → Lawful state.domain (64 * n) b
+all_lawful first state books s n b e = lawful_history first state.domain books s.history n b e
 
 -- a history has a first book
-pub history_some : (own_domain : Bytes) (books : List Book) → IsHistory own_domain books → 0 < length books
-history_some own_domain books h =
-    let leads : LeadToBooks own_domain h.0 books = h.1 in
-    let g : Good own_domain (books_of h.0) = good_from own_domain first_books h.0 leads.made (record { some = omega arith; lawful = (empty_lawful own_domain, tt) }) in
-    subst (λ l. 0 < length l) (sym leads.books_are) g.some
+pub history_some : (first : List Book) (own_domain : Bytes) (books : List Book) → IsHistory first own_domain books → 0 < length books
+history_some first own_domain books h = let g : Good own_domain books = good_history first own_domain h.0 books h.1 in g.some
+
+-- ---- what a history may begin with
+
+-- each book of a list that begins with empty books and ends with b has the property of its number
+starts_with : (P : ℕ → Book → Type 0) (k q : ℕ) (b : Book) → ((n : ℕ) → P n empty_book) → P (k + q) b → (n : ℕ) (c : Book) → slice_get (starting_at q b) n ≡ Some c → P (k + n) c
+starts_with P k zero b empties last zero c e = let s : b ≡ c = cc in subst (P (k + 0)) s last
+starts_with P k zero b empties last (suc n) c e = cc
+starts_with P k (suc q) b empties last zero c e = let s : empty_book ≡ c = cc in subst (P (k + 0)) s (empties (k + 0))
+starts_with P k (suc q) b empties last (suc n) c e =
+    let here : k + suc q ≡ k + 1 + q = omega arith in
+    let there : k + 1 + n ≡ k + suc n = omega arith in
+    subst (λ m. P m c) there (starts_with P (k + 1) q b empties (subst (λ m. P m b) here last) n c e)
+
+pub start_is_first : (own_domain : Bytes) (q : ℕ) (b : Book) → q ≤ 2 ^ 48 → Lawful own_domain (64 * q) b → IsWithinLimits b → IsFirst own_domain (starting_at q b)
+start_is_first own_domain q b few lawful within =
+    let many : length (starting_at q b) ≡ q + 1 = length-append (replicate q empty_book) (b ∷ []) ∙ ap (λ n. n + 1) (length-replicate q empty_book) in
+    record {
+      some = omega arith;
+      few = omega arith;
+      lawful = λ n c e. let s : 0 + n ≡ n = omega arith in subst (λ m. Lawful own_domain (64 * m) c) s (starts_with (λ m. Lawful own_domain (64 * m)) 0 q b (λ m. wider (64 * m) (omega arith) (empty_lawful own_domain)) (let z : q ≡ 0 + q = omega arith in subst (λ m. Lawful own_domain (64 * m) b) z lawful) n c e);
+      within = starts_with (λ m. IsWithinLimits) 0 q b (λ m. empty_within) within;
+    }
+
+pub empty_is_first : (own_domain : Bytes) → IsFirst own_domain first_books
+empty_is_first own_domain = start_is_first own_domain 0 empty_book (omega arith) (empty_lawful own_domain) empty_within
+
+pub history_is_first : (first : List Book) (own_domain : Bytes) (books : List Book) → IsHistory first own_domain books → IsFirst own_domain books
+history_is_first first own_domain books h = record {
+  some = history_some first own_domain books h;
+  few = history_bounded first own_domain books h;
+  lawful = lawful_history first own_domain books h;
+  within = all_within_limits first own_domain books h;
+}

@@ -1,5 +1,5 @@
 -- What a commit with a token adds to the tokens, and that each stored batch was committed.
-use Rattle.std.proofs.Common.{◌≡◌, ◌⊎◌, ℕ, ◌+◌, Bool, true, false, List, [], ◌∷◌, ◌++◌, length, Option, Some, None, Ok, Err, refl, sym, ap, subst, ◌∙◌, inl, inr, ⊎_elim, IfOk, arith}
+use Rattle.std.proofs.Common.{◌≡◌, ◌⊎◌, ℕ, ◌+◌, ◌<◌, Bool, true, false, List, [], ◌∷◌, ◌++◌, length, Option, Some, None, Ok, Err, refl, sym, ap, subst, ◌∙◌, inl, inr, ⊎_elim, IfOk, arith}
 use Rattle.std.specs.Prelude.{map, option_to_list}
 use Rattle.std.specs.List.{AllByRecursion}
 use Rattle.entry_book.specs.declared.kept.KeptBatch.{KeptBatch}
@@ -16,8 +16,8 @@ use Rattle.entry_book.specs.NamedRows.{row_written, token_of}
 use Rattle.entry_book.specs.Runs.{RunEffect, RunResult, run}
 use Rattle.entry_book.specs.Limits.{limit_passed}
 use Rattle.entry_book.specs.Batches.{Batch, IsMadeFor, is_query, past_place}
-use Rattle.entry_book.specs.History.{last_book, place_of, batch_writes, token_writes, book_for, adds_within, Verdict, verdict, verdict_when, verdict_run, reply_with, reply_to, books_with, books_after, books_from, books_of, first_books, CommitAll, LeadToBooks}
-use Rattle.entry_book.specs.Laws.{IsTokenFree, TokenWritten, WasCommitted}
+use Rattle.entry_book.specs.History.{last_book, place_of, batch_writes, token_writes, book_for, adds_within, Verdict, verdict, verdict_when, verdict_run, reply_with, reply_to, books_with, books_after, books_from, CommitAll, IsFirst, LeadToBooks, first_books}
+use Rattle.entry_book.specs.Laws.{AllCommitted, IsTokenFree, TokenWritten, WasCommitted}
 use Rattle.entry_book.proofs.Changed.{after-append}
 use Rattle.entry_book.proofs.Histories.{count_of_books, last-snoc}
 use Rattle.entry_book.proofs.Keys.{from_with_row, new_with_row, within_with_row}
@@ -155,18 +155,24 @@ came_from : (own_domain : Bytes) (books : List Book) (batches : List Batch) (k :
 came_from own_domain books [] k m w = was_there w
 came_from own_domain books (x ∷ xs) k m w = later x books xs k (λ v ys. first_or x books ys k (from_batch own_domain x books m.0 k v)) (came_from own_domain (books_after x books) xs k m.1 w)
 
-place_count : (batches : List Batch) → CommitAll first_books batches → place_of (books_of batches) ≡ length batches
-place_count batches h = let n = count_of_books batches h in omega arith
+place_count : (first : List Book) (batches : List Batch) → 0 < length first → CommitAll first batches → place_of (books_from first batches) + 1 ≡ length batches + length first
+place_count first batches s h = let n = count_of_books first batches s h in omega arith
 
 committed_front : (books : List Book) (front : List Batch) (batch : Batch) (rest : List Batch) → CommitAll books (front ++ batch ∷ rest) → CommitAll books front
 committed_front books [] batch rest h = tt
 committed_front books (x ∷ xs) batch rest h = (h.0, committed_front (books_after x books) xs batch rest h.1)
 
-was_committed : (batches : List Batch) (k : KeptBatch) → CommitAll first_books batches → CameFrom first_books batches k → WasCommitted batches k
-was_committed batches k c (was_there w) = absurd w
-was_committed batches k c (came front batch rest e t o p r) =
-    let n = place_count front (committed_front first_books front batch rest (subst (CommitAll first_books) e c)) in
-    record { before = front; batch = batch; later = rest; split = e; token = t; ops = o; place = p ∙ ap (λ x. x + 1) n; replied = r }
+was_committed : (first : List Book) (batches : List Batch) (k : KeptBatch) → 0 < length first → CommitAll first batches → CameFrom first batches k → Within (last_book first).tokens k ⊎ WasCommitted first batches k
+was_committed first batches k s c (was_there w) = inl w
+was_committed first batches k s c (came front batch rest e t o p r) =
+    let n = place_count first front s (committed_front first front batch rest (subst (CommitAll first) e c)) in
+    inr (record { before = front; batch = batch; later = rest; split = e; token = t; ops = o; place = p ∙ n; replied = r })
 
-pub kept_committed : (own_domain : Bytes) (batches : List Batch) (books : List Book) (k : KeptBatch) → LeadToBooks own_domain batches books → Within (last_book books).tokens k → WasCommitted batches k
-kept_committed own_domain batches books k leads w = was_committed batches k leads.committed (came_from own_domain first_books batches k leads.made (subst (λ l. Within (last_book l).tokens k) leads.books_are w))
+pub kept_committed : (first : List Book) (own_domain : Bytes) (batches : List Batch) (books : List Book) (k : KeptBatch) → LeadToBooks first own_domain batches books → Within (last_book books).tokens k → Within (last_book first).tokens k ⊎ WasCommitted first batches k
+kept_committed first own_domain batches books k leads w =
+    let begins : IsFirst own_domain first = leads.is_first in
+    was_committed first batches k begins.some leads.committed (came_from own_domain first batches k leads.made (subst (λ l. Within (last_book l).tokens k) leads.books_are w))
+
+-- the empty book stores none
+pub all_committed : AllCommitted
+all_committed own_domain batches books k leads w = ⊎_elim (λ (v : Within (last_book first_books).tokens k). absurd v) (λ (c : WasCommitted first_books batches k). c) (kept_committed first_books own_domain batches books k leads w)

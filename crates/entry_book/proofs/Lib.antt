@@ -1,4 +1,5 @@
 pub mod Aliases
+pub mod Alike
 pub mod Chains
 pub mod Changed
 pub mod Determined

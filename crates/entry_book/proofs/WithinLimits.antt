@@ -10,10 +10,10 @@ use Rattle.entry_book.specs.Rows.{Bytes}
 use Rattle.entry_book.specs.Book.{Book, empty_book}
 use Rattle.entry_book.specs.Writes.{after}
 use Rattle.entry_book.specs.Runs.{RunResult, run}
-use Rattle.entry_book.specs.Limits.{limit_passed}
+use Rattle.entry_book.specs.Limits.{limit_passed, IsWithinLimits}
 use Rattle.entry_book.specs.Batches.{Batch, is_query, past_place}
-use Rattle.entry_book.specs.History.{place_of, batch_writes, book_for, adds_within, verdict_when, books_with, books_after, books_from, first_books, LeadToBooks, IsHistory}
-use Rattle.entry_book.specs.Laws.{IsFirstPassed, IsWithinLimits}
+use Rattle.entry_book.specs.History.{place_of, batch_writes, book_for, adds_within, verdict_when, books_with, books_after, books_from, IsFirst, LeadToBooks, IsHistory}
+use Rattle.entry_book.specs.Laws.{IsFirstPassed}
 use Rattle.entry_book.proofs.Sets.{All-more}
 use Rattle.entry_book.proofs.OfVerdict.{of_verdict}
 
@@ -57,23 +57,23 @@ none_is_passed place b = (
 )
 
 -- the tests for which a limit is the first that is passed
-abbrev IsFirst : Limit → Bool → Bool → Bool → Bool → Bool → Type 0
-IsFirst of.History a b c d e = a ≡ true
-IsFirst of.Entries a b c d e = (a ≡ false) × (b ≡ true)
-IsFirst of.Agents a b c d e = (a ≡ false) × (b ≡ false) × (c ≡ true)
-IsFirst of.Bundles a b c d e = (a ≡ false) × (b ≡ false) × (c ≡ false) × (d ≡ true)
-IsFirst of.Tokens a b c d e = (a ≡ false) × (b ≡ false) × (c ≡ false) × (d ≡ false) × (e ≡ true)
+abbrev FailsFirst : Limit → Bool → Bool → Bool → Bool → Bool → Type 0
+FailsFirst of.History a b c d e = a ≡ true
+FailsFirst of.Entries a b c d e = (a ≡ false) × (b ≡ true)
+FailsFirst of.Agents a b c d e = (a ≡ false) × (b ≡ false) × (c ≡ true)
+FailsFirst of.Bundles a b c d e = (a ≡ false) × (b ≡ false) × (c ≡ false) × (d ≡ true)
+FailsFirst of.Tokens a b c d e = (a ≡ false) × (b ≡ false) × (c ≡ false) × (d ≡ false) × (e ≡ true)
 
 -- the results of the tests if a limit is the first one
-first_fails : (limit : Limit) (a b c d e : Bool) → lines a b c d e ≡ Some limit → IsFirst limit a b c d e
-first_fails limit true b c d e h = let q : of.History ≡ limit = cc in subst (λ l. IsFirst l true b c d e) q refl
-first_fails limit false true c d e h = let q : of.Entries ≡ limit = cc in subst (λ l. IsFirst l false true c d e) q (refl, refl)
-first_fails limit false false true d e h = let q : of.Agents ≡ limit = cc in subst (λ l. IsFirst l false false true d e) q (refl, refl, refl)
-first_fails limit false false false true e h = let q : of.Bundles ≡ limit = cc in subst (λ l. IsFirst l false false false true e) q (refl, refl, refl, refl)
-first_fails limit false false false false true h = let q : of.Tokens ≡ limit = cc in subst (λ l. IsFirst l false false false false true) q (refl, refl, refl, refl, refl)
+first_fails : (limit : Limit) (a b c d e : Bool) → lines a b c d e ≡ Some limit → FailsFirst limit a b c d e
+first_fails limit true b c d e h = let q : of.History ≡ limit = cc in subst (λ l. FailsFirst l true b c d e) q refl
+first_fails limit false true c d e h = let q : of.Entries ≡ limit = cc in subst (λ l. FailsFirst l false true c d e) q (refl, refl)
+first_fails limit false false true d e h = let q : of.Agents ≡ limit = cc in subst (λ l. FailsFirst l false false true d e) q (refl, refl, refl)
+first_fails limit false false false true e h = let q : of.Bundles ≡ limit = cc in subst (λ l. FailsFirst l false false false true e) q (refl, refl, refl, refl)
+first_fails limit false false false false true h = let q : of.Tokens ≡ limit = cc in subst (λ l. FailsFirst l false false false false true) q (refl, refl, refl, refl, refl)
 first_fails limit false false false false false h = cc
 
-first_lines : (limit : Limit) (a b c d e : Bool) → IsFirst limit a b c d e → lines a b c d e ≡ Some limit
+first_lines : (limit : Limit) (a b c d e : Bool) → FailsFirst limit a b c d e → lines a b c d e ≡ Some limit
 first_lines of.History a b c d e h = ap (λ x. lines x b c d e) h
 first_lines of.Entries a b c d e h = ap (λ x. lines x b c d e) h.0 ∙ ap (λ x. lines false x c d e) h.1
 first_lines of.Agents a b c d e h = ap (λ x. lines x b c d e) h.0 ∙ (ap (λ x. lines false x c d e) h.1 ∙ ap (λ x. lines false false x d e) h.2)
@@ -93,7 +93,7 @@ is_passed : (n m : ℕ) → n < m → nat_lt n m ≡ true
 is_passed n m h = grind (arith, nat_tests, h)
 
 abbrev IsFirstOf : Limit → ℕ → Book → Type 0
-IsFirstOf limit place b = IsFirst limit (not (nat_lt place (2 ^ 48))) (nat_lt 16384 (length b.entries)) (nat_lt 4096 (length b.agents)) (nat_lt 1024 (length b.bundles)) (nat_lt 65536 (length b.tokens))
+IsFirstOf limit place b = FailsFirst limit (not (nat_lt place (2 ^ 48))) (nat_lt 16384 (length b.entries)) (nat_lt 4096 (length b.agents)) (nat_lt 1024 (length b.bundles)) (nat_lt 65536 (length b.tokens))
 
 in_words : (limit : Limit) (place : ℕ) (b : Book) → IsFirstOf limit place b → IsFirstPassed limit place b
 in_words of.History place b h = reached place (2 ^ 48) h
@@ -135,10 +135,15 @@ within_from : (books : List Book) (batches : List Batch) → AllByRecursion IsWi
 within_from books [] h = h
 within_from books (x ∷ xs) h = within_from (books_after x books) xs (of_verdict (λ v. AllByRecursion IsWithinLimits (books_with books v)) x (place_of books) (λ r. h) (λ n rs. h) (book_for (past_place x.ops) books) (λ b e k. within_when (is_query x.ops) x (place_of books) books b (run x.domain x.ops b) h))
 
-empty_within : IsWithinLimits empty_book
+pub empty_within : IsWithinLimits empty_book
 empty_within = record { entries = omega arith; agents = omega arith; bundles = omega arith; tokens = omega arith }
 
-pub all_within_limits : (own_domain : Bytes) (books : List Book) → IsHistory own_domain books → (n : ℕ) (b : Book) → slice_get books n ≡ Some b → IsWithinLimits b
-all_within_limits own_domain books h n b e =
-    let leads : LeadToBooks own_domain h.0 books = h.1 in
-    at_number IsWithinLimits books n b (subst (AllByRecursion IsWithinLimits) (sym leads.books_are) (within_from first_books h.0 (empty_within, tt))) e
+by_number : {X : Type 0} (P : X → Type 0) (xs : List X) → ((n : ℕ) (x : X) → slice_get xs n ≡ Some x → P x) → AllByRecursion P xs
+by_number P [] h = tt
+by_number P (x ∷ xs) h = (h zero x refl, by_number P xs (λ n. h (suc n)))
+
+pub all_within_limits : (first : List Book) (own_domain : Bytes) (books : List Book) → IsHistory first own_domain books → (n : ℕ) (b : Book) → slice_get books n ≡ Some b → IsWithinLimits b
+all_within_limits first own_domain books h n b e =
+    let leads : LeadToBooks first own_domain h.0 books = h.1 in
+    let begins : IsFirst own_domain first = leads.is_first in
+    at_number IsWithinLimits books n b (subst (AllByRecursion IsWithinLimits) (sym leads.books_are) (within_from first h.0 (by_number IsWithinLimits first begins.within))) e

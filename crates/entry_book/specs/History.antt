@@ -1,5 +1,5 @@
 -- The reference meaning of a run: the list of all books so far, and what a batch does to it.
-use Rattle.std.specs.Prelude.{◌≡◌, ℕ, ◌+◌, ◌-◌, Bool, true, false, ⊤, List, [], ◌∷◌, ◌++◌, drop, length, slice_get, nat_lt, Option, Some, None, Ok, Err, if◌then◌else◌}
+use Rattle.std.specs.Prelude.{◌≡◌, ℕ, ◌+◌, ◌-◌, ◌*◌, ◌^◌, ◌<◌, ◌≤◌, Bool, true, false, ⊤, List, [], ◌∷◌, ◌++◌, drop, length, replicate, slice_get, nat_lt, Option, Some, None, Ok, Err, if◌then◌else◌}
 use Rattle.std.specs.List.{AllByRecursion}
 use Rattle.entry_book.specs.declared.kept.KeptBatch.{KeptBatch}
 use Rattle.entry_book.specs.declared.limit.Limit.{Limit}
@@ -16,7 +16,8 @@ use Rattle.entry_book.specs.Book.{Book, empty_book, token_at}
 use Rattle.entry_book.specs.SameOps.{ops_eq}
 use Rattle.entry_book.specs.Writes.{RowWrite, wrote_token, after}
 use Rattle.entry_book.specs.Runs.{RunEffect, RunResult, run}
-use Rattle.entry_book.specs.Limits.{limit_passed}
+use Rattle.entry_book.specs.Limits.{limit_passed, IsWithinLimits}
+use Rattle.entry_book.specs.Lawful.{Lawful}
 use Rattle.entry_book.specs.Batches.{Batch, IsMadeFor, is_query, past_place}
 
 -- ---- the list of all books, beginning with an empty one; their numbers count from 0
@@ -33,6 +34,10 @@ last_book books = last_or empty_book books
 -- the number of the last book
 abbrev pub place_of : List Book → ℕ
 place_of books = length books - 1
+
+-- the last n of a list, or all of it if it has fewer
+abbrev pub last_of : ℕ → List Book → List Book
+last_of n books = drop (length books - n) books
 
 -- ---- which book a batch reads
 
@@ -172,15 +177,35 @@ first_books = empty_book ∷ []
 abbrev pub books_of : List Batch → List Book
 books_of batches = books_from first_books batches
 
--- These batches, each made for the trust domain and committed in turn, led to this list of all books.
-pub record LeadToBooks (own_domain : Bytes) (batches : List Batch) (books : List Book) : Type 0 where
-  pub made : AllByRecursion (IsMadeFor own_domain) batches
-  pub committed : CommitAll first_books batches
-  pub books_are : books ≡ books_of batches
+-- ---- histories that begin at given books
 
--- some batches led to it
-abbrev pub IsHistory : Bytes → List Book → Type 0
-IsHistory own_domain books = (batches : List Batch) × LeadToBooks own_domain batches books
+-- What the list of all books may begin with. It isn't empty, and it is no longer than a history can be. Each of its books is
+-- lawful as the book of its number, and within the limits. `first_books` is one such list.
+pub record IsFirst (own_domain : Bytes) (first : List Book) : Type 0 where
+  pub some : 0 < length first
+  pub few : length first ≤ 2 ^ 48 + 1
+  pub lawful : (n : ℕ) (b : Book) → slice_get first n ≡ Some b → Lawful own_domain (64 * n) b
+  pub within : (n : ℕ) (b : Book) → slice_get first n ≡ Some b → IsWithinLimits b
+
+-- a list that begins at place q with this book: empty books stand before it
+abbrev pub starting_at : ℕ → Book → List Book
+starting_at q b = replicate q empty_book ++ b ∷ []
+
+-- These batches, each made for the trust domain and committed in turn, led from the first books to this list of all books.
+pub record LeadToBooks (first : List Book) (own_domain : Bytes) (batches : List Batch) (books : List Book) : Type 0 where
+  pub is_first : IsFirst own_domain first
+  pub made : AllByRecursion (IsMadeFor own_domain) batches
+  pub committed : CommitAll first batches
+  pub books_are : books ≡ books_from first batches
+
+-- some batches led from the first books to it
+abbrev pub IsHistory : List Book → Bytes → List Book → Type 0
+IsHistory first own_domain books = (batches : List Batch) × LeadToBooks first own_domain batches books
+
+-- The two lists have the same length and the same last 64 books. Replies depend on nothing else of a list.
+pub record IsAlike (books others : List Book) : Type 0 where
+  pub count : length books ≡ length others
+  pub kept : last_of 64 books ≡ last_of 64 others
 
 -- ---- the part of its history that a plain book stores
 
@@ -194,10 +219,6 @@ pub record PlainState : Type 0 where
 -- the stored books: the earlier ones and the last one
 abbrev pub kept_books : PlainState → List Book
 kept_books state = state.older ++ state.newest ∷ []
-
--- the last n of a list, or all of it if it has fewer
-abbrev pub last_of : ℕ → List Book → List Book
-last_of n books = drop (length books - n) books
 
 -- the stored book of this number
 abbrev pub among_kept : ℕ → PlainState → Option Book
@@ -228,8 +249,12 @@ abbrev pub state_after : Batch → PlainState → PlainState
 state_after batch state = state_with state (verdict_of batch state)
 
 -- The state represents the list of all books so far: its books are the last 64 of them, its place is the last one's number,
--- and the list is a history of its trust domain.
-pub record RepresentsBooks (state : PlainState) (books : List Book) : Type 0 where
+-- and the list is a history of its trust domain that begins with the first books.
+pub record RepresentsFrom (first : List Book) (state : PlainState) (books : List Book) : Type 0 where
   pub count : length books ≡ state.place + 1
   pub kept : last_of 64 books ≡ kept_books state
-  pub history : IsHistory state.domain books
+  pub history : IsHistory first state.domain books
+
+-- the same for a list that begins with the empty book
+abbrev pub RepresentsBooks : PlainState → List Book → Type 0
+RepresentsBooks state books = RepresentsFrom first_books state books

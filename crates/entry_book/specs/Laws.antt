@@ -29,10 +29,10 @@ use Rattle.entry_book.specs.Authorised.{authorised, ends_within, starts, EndsCha
 use Rattle.entry_book.specs.Ops.{OpEffect, op_of}
 use Rattle.entry_book.specs.Runs.{RunEffect, RefusedOp, run}
 use Rattle.entry_book.specs.Effects.{Creates, CreateRefused, Updates, UpdateRefused, Deletes, DeleteRefused, ShowsRow, ListsChildren, ListsAuthorised, ListsTrust, LacksAgent, Prunes, SetsAgent, DropsAgent, SetsBundle, DropsBundle, DropBundleRefused}
-use Rattle.entry_book.specs.Limits.{limit_passed}
+use Rattle.entry_book.specs.Limits.{limit_passed, IsWithinLimits}
 use Rattle.entry_book.specs.Batches.{Batch, IsMadeFor, IsProperOp, is_query, past_place, entry_fault, agent_fault, bundle_fault, op_fault, batch_refusal}
 use Rattle.entry_book.specs.Faultless.{FaultlessEntry, FaultlessAgent, FaultlessBundle, FaultlessOp}
-use Rattle.entry_book.specs.History.{PlainState, RepresentsBooks, IsHistory, CommitAll, first_books, last_book, last_or, place_of, batch_writes, LeadToBooks, refuses, repeats, adds_within, kept_under, verdict, verdict_run, books_after, books_from, books_of, commits, is_repeated, reply_to}
+use Rattle.entry_book.specs.History.{PlainState, RepresentsFrom, IsAlike, IsFirst, IsHistory, CommitAll, first_books, starting_at, last_book, last_or, place_of, batch_writes, LeadToBooks, refuses, repeats, adds_within, kept_under, verdict, verdict_run, books_after, books_from, replies_from, commits, is_repeated, reply_to}
 use Rattle.entry_book.specs.SameOps.{ops_eq}
 use Rattle.entry_book.specs.Lawful.{Lawful}
 use Rattle.entry_book.specs.Pages.{comes_after, last_id, listed, matches_by, next_of, passes, passing}
@@ -362,7 +362,7 @@ ChangesReadLast = (own_domain : Bytes) (batch : Batch) → IsMadeFor own_domain 
 
 -- a history has a first book
 abbrev pub HistoryBegins : Type 0
-HistoryBegins = (own_domain : Bytes) (books : List Book) → IsHistory own_domain books → 0 < length books
+HistoryBegins = (first : List Book) (own_domain : Bytes) (books : List Book) → IsHistory first own_domain books → 0 < length books
 
 -- a book that is added to a list is its last one
 abbrev pub AddedIsLast : Type 0
@@ -451,20 +451,30 @@ pub record TokenWritten (batch : Batch) (n : ℕ) (b : Book) (t : RunEffect) : T
 abbrev pub TokensWritten : Type 0
 TokensWritten = (batch : Batch) (n : ℕ) (b : Book) → IsTokenFree batch.token b → IfOk (run batch.domain batch.ops b) (TokenWritten batch n b)
 
--- The stored batch is one of these: it has this token and these operations, and was committed at this place with these replies.
-pub record WasCommitted (batches : List Batch) (k : KeptBatch) : Type 0 where
+-- The stored batch is one of these, which follow the first books: it has this token and these operations, and was committed at
+-- this place with these replies.
+pub record WasCommitted (first : List Book) (batches : List Batch) (k : KeptBatch) : Type 0 where
   pub before : List Batch
   pub batch : Batch
   pub later : List Batch
   pub split : batches ≡ before ++ batch ∷ later
   pub token : batch.token ≡ Some k.token
   pub ops : batch.ops ≡ k.ops
-  pub place : k.place ≡ length before + 1
-  pub replied : reply_to batch (books_of before) ≡ record { place = k.place; outcome = Committed k.replies }
+  pub place : k.place ≡ length before + length first
+  pub replied : reply_to batch (books_from first before) ≡ record { place = k.place; outcome = Committed k.replies }
 
--- each batch that the last book of a history stores was committed
+-- Each batch that the last book of a history stores was committed, or the last of the first books stores it. The empty book
+-- stores none.
 abbrev pub KeptCommitted : Type 0
-KeptCommitted = (own_domain : Bytes) (batches : List Batch) (books : List Book) (k : KeptBatch) → LeadToBooks own_domain batches books → Within (last_book books).tokens k → WasCommitted batches k
+KeptCommitted = (first : List Book) (own_domain : Bytes) (batches : List Batch) (books : List Book) (k : KeptBatch) → LeadToBooks first own_domain batches books → Within (last_book books).tokens k → Within (last_book first).tokens k ⊎ WasCommitted first batches k
+
+-- so if the history begins with the empty book, each stored batch was committed
+abbrev pub AllCommitted : Type 0
+AllCommitted = (own_domain : Bytes) (batches : List Batch) (books : List Book) (k : KeptBatch) → LeadToBooks first_books own_domain batches books → Within (last_book books).tokens k → WasCommitted first_books batches k
+
+-- a batch that is stored stays stored, after any batches
+abbrev pub KeptStays : Type 0
+KeptStays = (first : List Book) (own_domain : Bytes) (books : List Book) (k : KeptBatch) (batches : List Batch) → IsHistory first own_domain books → Within (last_book books).tokens k → AllByRecursion (IsMadeFor own_domain) batches → Within (last_book (books_from books batches)).tokens k
 
 -- a batch whose token is in use gets the stored reply if it has the same operations; the books stay
 abbrev pub RepeatAnswered : Type 0
@@ -485,14 +495,19 @@ pub record CommittedOnce (first : Reply) (replies : List OpReply) (batch other :
 
 -- so it is with each token of a history
 abbrev pub ExactlyOnce : Type 0
-ExactlyOnce = (own_domain token : Bytes) (batch other : Batch) (between : List Batch) (books : List Book) (replies : List OpReply) → IsHistory own_domain books → IsMadeFor own_domain batch → IsMadeFor own_domain other → AllByRecursion (IsMadeFor own_domain) between → batch.token ≡ Some token → other.token ≡ Some token → (reply_to batch books).outcome ≡ Committed replies → CommittedOnce (reply_to batch books) replies batch other (books_from (books_after batch books) between)
+ExactlyOnce = (first : List Book) (own_domain token : Bytes) (batch other : Batch) (between : List Batch) (books : List Book) (replies : List OpReply) → IsHistory first own_domain books → IsMadeFor own_domain batch → IsMadeFor own_domain other → AllByRecursion (IsMadeFor own_domain) between → batch.token ≡ Some token → other.token ≡ Some token → (reply_to batch books).outcome ≡ Committed replies → CommittedOnce (reply_to batch books) replies batch other (books_from (books_after batch books) between)
 
--- the limits of the four kinds of rows
-pub record IsWithinLimits (b : Book) : Type 0 where
-  pub entries : length b.entries ≤ 16384
-  pub agents : length b.agents ≤ 4096
-  pub bundles : length b.bundles ≤ 1024
-  pub tokens : length b.tokens ≤ 65536
+-- the reply to the batch that is stored, when it was committed
+abbrev pub first_reply : KeptBatch → Reply
+first_reply k = record { place = k.place; outcome = Committed k.replies }
+
+-- the stored batch
+abbrev pub stored_batch : Bytes → KeptBatch → Batch
+stored_batch own_domain k = record { domain = own_domain; ops = k.ops; after = 0; token = Some k.token }
+
+-- So it is with each token that is in use, whether its batch is one of the history or the first books store it.
+abbrev pub StoredOnce : Type 0
+StoredOnce = (first : List Book) (own_domain : Bytes) (k : KeptBatch) (other : Batch) (between : List Batch) (books : List Book) → IsHistory first own_domain books → Within (last_book books).tokens k → IsMadeFor own_domain other → AllByRecursion (IsMadeFor own_domain) between → other.token ≡ Some k.token → CommittedOnce (first_reply k) k.replies (stored_batch own_domain k) other (books_from books between)
 
 -- the limit is passed, and none before it is
 abbrev pub IsFirstPassed : Limit → ℕ → Book → Type 0
@@ -512,27 +527,47 @@ NoneIsPassed = (place : ℕ) (b : Book) → (limit_passed place b ≡ None) ↔ 
 
 -- each book of a history is within the limits
 abbrev pub AllWithinLimits : Type 0
-AllWithinLimits = (own_domain : Bytes) (books : List Book) → IsHistory own_domain books → (n : ℕ) (b : Book) → slice_get books n ≡ Some b → IsWithinLimits b
+AllWithinLimits = (first : List Book) (own_domain : Bytes) (books : List Book) → IsHistory first own_domain books → (n : ℕ) (b : Book) → slice_get books n ≡ Some b → IsWithinLimits b
 
--- a history has at most 2^48 books after the first one
+-- a history has at most 2^48 + 1 books
 abbrev pub HistoryBounded : Type 0
-HistoryBounded = (own_domain : Bytes) (books : List Book) → IsHistory own_domain books → length books ≤ 2 ^ 48 + 1
+HistoryBounded = (first : List Book) (own_domain : Bytes) (books : List Book) → IsHistory first own_domain books → length books ≤ 2 ^ 48 + 1
 
 -- the books after one more batch
 abbrev pub OneMore : Type 0
-OneMore = (batches : List Batch) (batch : Batch) → books_of (batches ++ batch ∷ []) ≡ books_after batch (books_of batches)
+OneMore = (first : List Book) (batches : List Batch) (batch : Batch) → books_from first (batches ++ batch ∷ []) ≡ books_after batch (books_from first batches)
 
 -- and whether all of these batches commit
 abbrev pub OneMoreCommits : Type 0
-OneMoreCommits = (batches : List Batch) (batch : Batch) → CommitAll first_books (batches ++ batch ∷ []) ↔ (CommitAll first_books batches × (commits batch (books_of batches) ≡ true))
+OneMoreCommits = (first : List Book) (batches : List Batch) (batch : Batch) → CommitAll first (batches ++ batch ∷ []) ↔ (CommitAll first batches × (commits batch (books_from first batches) ≡ true))
 
--- n committed batches lead to n + 1 books
+-- n committed batches add n books
 abbrev pub CountOfBooks : Type 0
-CountOfBooks = (batches : List Batch) → CommitAll first_books batches → length (books_of batches) ≡ length batches + 1
+CountOfBooks = (first : List Book) (batches : List Batch) → 0 < length first → CommitAll first batches → length (books_from first batches) ≡ length batches + length first
+
+-- the book of the last number is the last one
+abbrev pub LastIsThere : Type 0
+LastIsThere = (books : List Book) → 0 < length books → slice_get books (place_of books) ≡ Some (last_book books)
 
 -- a history continues with any batch that was made for its domain
 abbrev pub HistoryExtends : Type 0
-HistoryExtends = (own_domain : Bytes) (batch : Batch) (books : List Book) → IsHistory own_domain books → IsMadeFor own_domain batch → IsHistory own_domain (books_after batch books)
+HistoryExtends = (first : List Book) (own_domain : Bytes) (batch : Batch) (books : List Book) → IsHistory first own_domain books → IsMadeFor own_domain batch → IsHistory first own_domain (books_after batch books)
+
+-- the list with the empty book alone is one that a history may begin with
+abbrev pub EmptyIsFirst : Type 0
+EmptyIsFirst = (own_domain : Bytes) → IsFirst own_domain first_books
+
+-- so is a list that begins at a place below 2^48 with a book that is lawful there and within the limits
+abbrev pub StartIsFirst : Type 0
+StartIsFirst = (own_domain : Bytes) (q : ℕ) (b : Book) → q ≤ 2 ^ 48 → Lawful own_domain (64 * q) b → IsWithinLimits b → IsFirst own_domain (starting_at q b)
+
+-- and so is each history
+abbrev pub HistoryIsFirst : Type 0
+HistoryIsFirst = (first : List Book) (own_domain : Bytes) (books : List Book) → IsHistory first own_domain books → IsFirst own_domain books
+
+-- Batches get the same replies on two lists that have the same length and the same last 64 books, and these stay alike.
+abbrev pub AlikeAnswer : Type 0
+AlikeAnswer = (books others : List Book) (batches : List Batch) → IsAlike books others → (replies_from books batches ≡ replies_from others batches) × IsAlike (books_from books batches) (books_from others batches)
 
 -- ---- lawful books
 
@@ -546,11 +581,11 @@ OpKeeps = (own_domain : Bytes) (m : ℕ) (op : Op) (b : Book) → IsProperOp op 
 
 -- each book of a history is lawful, and in book n no revision or sequence is above 64 n
 abbrev pub LawfulHistory : Type 0
-LawfulHistory = (own_domain : Bytes) (books : List Book) → IsHistory own_domain books → (n : ℕ) (b : Book) → slice_get books n ≡ Some b → Lawful own_domain (64 * n) b
+LawfulHistory = (first : List Book) (own_domain : Bytes) (books : List Book) → IsHistory first own_domain books → (n : ℕ) (b : Book) → slice_get books n ≡ Some b → Lawful own_domain (64 * n) b
 
 -- so is each book in a list that a plain book's state represents
 abbrev pub AllLawful : Type 0
-AllLawful = (state : PlainState) (books : List Book) → RepresentsBooks state books → (n : ℕ) (b : Book) → slice_get books n ≡ Some b → Lawful state.domain (64 * n) b
+AllLawful = (first : List Book) (state : PlainState) (books : List Book) → RepresentsFrom first state books → (n : ℕ) (b : Book) → slice_get books n ≡ Some b → Lawful state.domain (64 * n) b
 
 -- an accepted batch turns a book that is lawful as book n into one that is lawful as book n + 1
 abbrev pub BatchKeeps : Type 0

@@ -1,5 +1,5 @@
 -- How large a book and its history may become. The limits are checked after all operations of a batch of changes.
-use Rattle.std.specs.Prelude.{ℕ, ◌^◌, length, nat_lt, not, Option, None}
+use Rattle.std.specs.Prelude.{ℕ, ◌^◌, ◌≤◌, length, nat_lt, not, Option, None}
 use Rattle.spiffe_name.specs.Failures.{refuse_if}
 use Rattle.entry_book.specs.declared.limit.Limit.{Limit}
 use Rattle.entry_book.specs.declared.limit.Limit.TheVariants.{History, Entries, Agents, Bundles, Tokens}
@@ -19,3 +19,10 @@ limit_over place entries agents bundles tokens =
 -- the first limit that this book passes, if any
 abbrev pub limit_passed : ℕ → Book → Option Limit
 limit_passed place b = limit_over place (length b.entries) (length b.agents) (length b.bundles) (length b.tokens)
+
+-- the limits of the four kinds of rows
+pub record IsWithinLimits (b : Book) : Type 0 where
+  pub entries : length b.entries ≤ 16384
+  pub agents : length b.agents ≤ 4096
+  pub bundles : length b.bundles ≤ 1024
+  pub tokens : length b.tokens ≤ 65536

@@ -3,7 +3,7 @@
 //! Each function has an empty body. Its contract is a theorem about the definitions, stated in `specs/Laws.antt` or
 //! `specs/Visible.antt`; a caller may rely on the theorem after the call.
 
-ghost use Rattle.entry_book.specs.Laws.{AcceptedAsSaid, AddedIsLast, AgentFaults, AliasIsHeld, AllLawful, AllWithinLimits, AuthorisedEffect, AuthorisedInOrder, BatchFits, BatchKeeps, BundleFaults, ChainBegins, ChainGoesOn, ChainIsShort, ChangesCommit, ChangesReadLast, ChangesVerdict, ChildIsAuthorised, ChildrenEffect, CommitAdds, CountOfBooks, CreateEffect, DeleteEffect, DropAgentEffect, DropBundleEffect, EarlyRefused, EndsOfChains, EntryFaults, ExactlyOnce, FirstFault, FirstLimit, FullRefused, GoneRefused, HeldIsAuthorised, HistoryBegins, HistoryBounded, HistoryExtends, KeptCommitted, LastOfPage, LawfulHistory, LawfulWider, MatchesAsSaid, NoFault, NoOpsRefused, NoneIsPassed, OneDomainSet, OneList, OneMore, OneMoreCommits, OnePage, OpFaults, OpFits, OpKeeps, OpRefuses, OpsCompared, OthersDontMatter, OthersLeave, PageAsSaid, PageEffect, PageInTurn, PagesListAll, PagesListOnce, PassesAsSaid, PastAnswered, PastPageRefused, PruneEffect, QueriesAnswered, QueriesNeverCommit, QueryWrites, RefusedAsSaid, RepeatAnswered, ReuseRefused, RunFits, RunExtends, RunKeeps, RunOfNone, RunReplies, RunStops, SelectorsWithin, SetAgentEffect, SetBundleEffect, ShowAgentEffect, ShowBundleEffect, ShowEffect, TokenRefused, TokensWritten, TooManyRefused, TrustEffect, UpdateEffect, VerdictCases, WithinIsContains, WritesJoined, WritesKeepOrder, WritesNamed, WritesOnce};
+ghost use Rattle.entry_book.specs.Laws.{AcceptedAsSaid, AddedIsLast, AgentFaults, AliasIsHeld, AlikeAnswer, AllCommitted, AllLawful, AllWithinLimits, AuthorisedEffect, AuthorisedInOrder, BatchFits, BatchKeeps, BundleFaults, ChainBegins, ChainGoesOn, ChainIsShort, ChangesCommit, ChangesReadLast, ChangesVerdict, ChildIsAuthorised, ChildrenEffect, CommitAdds, CountOfBooks, CreateEffect, DeleteEffect, DropAgentEffect, DropBundleEffect, EarlyRefused, EmptyIsFirst, EndsOfChains, EntryFaults, ExactlyOnce, FirstFault, FirstLimit, FullRefused, GoneRefused, HeldIsAuthorised, HistoryBegins, HistoryBounded, HistoryExtends, HistoryIsFirst, KeptCommitted, KeptStays, LastIsThere, LastOfPage, LawfulHistory, LawfulWider, MatchesAsSaid, NoFault, NoOpsRefused, NoneIsPassed, OneDomainSet, OneList, OneMore, OneMoreCommits, OnePage, OpFaults, OpFits, OpKeeps, OpRefuses, OpsCompared, OthersDontMatter, OthersLeave, PageAsSaid, PageEffect, PageInTurn, PagesListAll, PagesListOnce, PassesAsSaid, PastAnswered, PastPageRefused, PruneEffect, QueriesAnswered, QueriesNeverCommit, QueryWrites, RefusedAsSaid, RepeatAnswered, ReuseRefused, RunFits, RunExtends, RunKeeps, RunOfNone, RunReplies, RunStops, SelectorsWithin, SetAgentEffect, SetBundleEffect, ShowAgentEffect, ShowBundleEffect, ShowEffect, StartIsFirst, StoredOnce, TokenRefused, TokensWritten, TooManyRefused, TrustEffect, UpdateEffect, VerdictCases, WithinIsContains, WritesJoined, WritesKeepOrder, WritesNamed, WritesOnce};
 ghost use Rattle.entry_book.specs.Rows.{agent_key, bundle_key, entry_key};
 ghost use Rattle.entry_book.specs.Tokens.{token_key};
 ghost use Rattle.entry_book.specs.Visible.{AuthorisedBySeen, AuthorisedStays, SameAuthorised, SameTrust, TrustStays};
@@ -125,7 +125,8 @@ pub fn verdicts()
     ensures newest { ChangesReadLast }
 {}
 
-/// How the list of all books grows with the list of batches.
+/// How the list of all books grows with the list of batches. A history may begin with any books that satisfy `IsFirst`, the empty
+/// book alone among them. Of the books so far, replies depend on their number and on the last 64.
 pub fn histories()
     ensures adds { CommitAdds }
     ensures leaves { OthersLeave }
@@ -147,16 +148,25 @@ pub fn histories()
     ensures extends { HistoryExtends }
     ensures begins { HistoryBegins }
     ensures last { AddedIsLast }
+    ensures empty { EmptyIsFirst }
+    ensures start { StartIsFirst }
+    ensures again { HistoryIsFirst }
+    ensures alike { AlikeAnswer }
+    ensures there { LastIsThere }
 {}
 
-/// The outcome of batches with a token: of those with the same token, at most one is ever committed.
+/// The outcome of batches with a token: of those with the same token, at most one is ever committed. A stored batch stays stored, and so
+/// does one that the first books of a history store.
 pub fn tokens()
     ensures same { OpsCompared }
     ensures written { TokensWritten }
     ensures committed { KeptCommitted }
+    ensures all_committed { AllCommitted }
     ensures repeated { RepeatAnswered }
     ensures reused { ReuseRefused }
     ensures once { ExactlyOnce }
+    ensures stays { KeptStays }
+    ensures stored_once { StoredOnce }
 {}
 
 /// Every book of a history is lawful, and so is every book in a list that a plain book's state represents: an accepted

@@ -1,4 +1,5 @@
-use Rattle.entry_book.proofs.Histories.{commit_adds, count_of_books, history_bounded, history_extends, history_some, last-snoc, one_more, one_more_commits, others_leave, queries_only_ask}
+use Rattle.entry_book.proofs.Alike.{alike_answer, last_there}
+use Rattle.entry_book.proofs.Histories.{commit_adds, count_of_books, empty_is_first, history_bounded, history_extends, history_is_first, history_some, last-snoc, one_more, one_more_commits, others_leave, queries_only_ask, start_is_first}
 use Rattle.entry_book.proofs.Verdicts.{changes_commit, early_refused, full_refused, gone_refused, op_refuses, past_answered, queries_answered}
 use Rattle.entry_book.proofs.WithinLimits.{all_within_limits, first_limit, none_is_passed}
 use Rattle.entry_book.proofs.laws.histories.Goals as goal
@@ -62,3 +63,18 @@ returns-clause-begins c = history_some
 
 pub returns-clause-last : goal.returns-clause-last
 returns-clause-last c = last-snoc
+
+pub returns-clause-empty : goal.returns-clause-empty
+returns-clause-empty c = empty_is_first
+
+pub returns-clause-start : goal.returns-clause-start
+returns-clause-start c = start_is_first
+
+pub returns-clause-again : goal.returns-clause-again
+returns-clause-again c = history_is_first
+
+pub returns-clause-alike : goal.returns-clause-alike
+returns-clause-alike c = alike_answer
+
+pub returns-clause-there : goal.returns-clause-there
+returns-clause-there c = last_there
