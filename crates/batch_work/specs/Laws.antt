@@ -11,9 +11,8 @@ use Rattle.entry_book.specs.Book.{Book, AscendingBook}
 use Rattle.entry_book.specs.Writes.{RowWrite, after}
 use Rattle.entry_book.specs.Runs.{RunEffect, run}
 use Rattle.entry_book.specs.Batches.{Batch, IsMadeFor, is_query, past_place}
-use Rattle.entry_book.specs.Limits.{limit_passed}
+use Rattle.entry_book.specs.Limits.{limit_passed, IsWithinLimits}
 use Rattle.entry_book.specs.Lawful.{Lawful}
-use Rattle.entry_book.specs.Laws.{IsWithinLimits}
 use Rattle.entry_book.specs.History.{batch_writes, kept_under, verdict, adds, adds_within, refuses, is_committed, last_book, place_of, reply_to, commits}
 use Rattle.version_book.specs.Applying.{MayApply}
 use Rattle.version_book.specs.Marks.{Agree}

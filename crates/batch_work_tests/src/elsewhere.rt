@@ -57,10 +57,10 @@ fn commits_elsewhere(
     other: &str,
 ) -> Result<bool, Fail> {
     let other = ended(alloc, window, other)?;
-    let is_spared = is_spared(work, &other, newest_number(window));
+    let hits_nothing = is_spared(work, &other, newest_number(window));
     let is_ready = commits(window, &other);
     drop(other);
-    Ok(is_ready? && is_spared)
+    Ok(is_ready? && hits_nothing)
 }
 
 /// Compares the work of a batch with its run on the newest version.

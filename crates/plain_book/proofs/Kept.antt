@@ -9,7 +9,7 @@ use Rattle.entry_book.specs.Writes.{after}
 use Rattle.entry_book.specs.Runs.{RunResult, run}
 use Rattle.entry_book.specs.Limits.{limit_passed}
 use Rattle.entry_book.specs.Batches.{Batch, IsMadeFor, is_query, past_place}
-use Rattle.entry_book.specs.History.{Verdict, refuses, answers, adds, repeats, adds_within, batch_writes, book_for, verdict_when, verdict, verdict_of, reply_with, reply_to, books_with, books_after, kept_for, place_of, IsHistory, PlainState, reply_on, state_with, state_after, RepresentsBooks}
+use Rattle.entry_book.specs.History.{Verdict, refuses, answers, adds, repeats, adds_within, batch_writes, book_for, verdict_when, verdict, verdict_of, reply_with, reply_to, books_with, books_after, kept_for, place_of, IsHistory, PlainState, reply_on, state_with, state_after, RepresentsFrom}
 use Rattle.entry_book.specs.Lawful.{Lawful}
 use Rattle.plain_book.specs.Keeps.{IsSound}
 use Rattle.entry_book.proofs.Histories.{batch_keeps, history_extends}
@@ -47,34 +47,34 @@ adds_next state batch replies c q m s e = subst (IfAdds (IsNext state.domain sta
 
 -- ---- replies and books agree with each list of books that the state represents
 
-same_verdict : (state : PlainState) (books : List Book) (batch : Batch) → RepresentsBooks state books → verdict batch (place_of books) (book_for (past_place batch.ops) books) ≡ verdict_of batch state
-same_verdict state books batch s =
-    ap (λ n. verdict batch n (book_for (past_place batch.ops) books)) (place_is state books s)
-    ∙ ap (verdict batch state.place) (same_book state books s (past_place batch.ops))
+same_verdict : (first : List Book) (state : PlainState) (books : List Book) (batch : Batch) → RepresentsFrom first state books → verdict batch (place_of books) (book_for (past_place batch.ops) books) ≡ verdict_of batch state
+same_verdict first state books batch s =
+    ap (λ n. verdict batch n (book_for (past_place batch.ops) books)) (place_is first state books s)
+    ∙ ap (verdict batch state.place) (same_book first state books s (past_place batch.ops))
 
-pub replies_agree : (state : PlainState) (books : List Book) (batch : Batch) → RepresentsBooks state books → reply_on batch state ≡ reply_to batch books
-replies_agree state books batch s =
-    sym (ap (λ n. reply_with n (verdict batch (place_of books) (book_for (past_place batch.ops) books))) (place_is state books s)
-    ∙ ap (reply_with state.place) (same_verdict state books batch s))
+pub replies_agree : (first : List Book) (state : PlainState) (books : List Book) (batch : Batch) → RepresentsFrom first state books → reply_on batch state ≡ reply_to batch books
+replies_agree first state books batch s =
+    sym (ap (λ n. reply_with n (verdict batch (place_of books) (book_for (past_place batch.ops) books))) (place_is first state books s)
+    ∙ ap (reply_with state.place) (same_verdict first state books batch s))
 
-represents_with : (state : PlainState) (books : List Book) (v : Verdict) → RepresentsBooks state books → IsHistory state.domain (books_with books v) → RepresentsBooks (state_with state v) (books_with books v)
-represents_with state books (refuses r) s h = s
-represents_with state books (answers replies) s h = s
-represents_with state books (adds replies c) s h =
+represents_with : (first : List Book) (state : PlainState) (books : List Book) (v : Verdict) → RepresentsFrom first state books → IsHistory first state.domain (books_with books v) → RepresentsFrom first (state_with state v) (books_with books v)
+represents_with first state books (refuses r) s h = s
+represents_with first state books (answers replies) s h = s
+represents_with first state books (adds replies c) s h =
     let n = length-append books (c ∷ []) in
     let k = s.count in
-    record { count = omega arith; kept = kept_more state books s c; history = h }
-represents_with state books (repeats n replies) s h = s
+    record { count = omega arith; kept = kept_more first state books s c; history = h }
+represents_with first state books (repeats n replies) s h = s
 
-pub books_agree : (state : PlainState) (books : List Book) (batch : Batch) → RepresentsBooks state books → IsMadeFor state.domain batch → RepresentsBooks (state_after batch state) (books_after batch books)
-books_agree state books batch s m =
-    subst (λ v. RepresentsBooks (state_with state v) (books_after batch books)) (same_verdict state books batch s)
-    (represents_with state books (verdict batch (place_of books) (book_for (past_place batch.ops) books)) s (history_extends state.domain batch books s.history m))
+pub books_agree : (first : List Book) (state : PlainState) (books : List Book) (batch : Batch) → RepresentsFrom first state books → IsMadeFor state.domain batch → RepresentsFrom first (state_after batch state) (books_after batch books)
+books_agree first state books batch s m =
+    subst (λ v. RepresentsFrom first (state_with state v) (books_after batch books)) (same_verdict first state books batch s)
+    (represents_with first state books (verdict batch (place_of books) (book_for (past_place batch.ops) books)) s (history_extends first state.domain batch books s.history m))
 
 -- ---- the same, for a given verdict
 
-pub reply_when : (state : PlainState) (books : List Book) (batch : Batch) (v : Verdict) (n : ℕ) → n ≡ state.place → v ≡ verdict_of batch state → RepresentsBooks state books → reply_with n v ≡ reply_to batch books
-reply_when state books batch v n q e s = ap (λ m. reply_with m v) q ∙ (ap (reply_with state.place) e ∙ replies_agree state books batch s)
+pub reply_when : (first : List Book) (state : PlainState) (books : List Book) (batch : Batch) (v : Verdict) (n : ℕ) → n ≡ state.place → v ≡ verdict_of batch state → RepresentsFrom first state books → reply_with n v ≡ reply_to batch books
+reply_when first state books batch v n q e s = ap (λ m. reply_with m v) q ∙ (ap (reply_with state.place) e ∙ replies_agree first state books batch s)
 
-pub books_when : (state : PlainState) (books : List Book) (batch : Batch) (v : Verdict) → v ≡ verdict_of batch state → batch.domain ≡ state.domain → IsMadeFor batch.domain batch → RepresentsBooks state books → RepresentsBooks (state_with state v) (books_after batch books)
-books_when state books batch v e q m s = subst (λ x. RepresentsBooks (state_with state x) (books_after batch books)) (sym e) (books_agree state books batch s (subst (λ d. IsMadeFor d batch) q m))
+pub books_when : (first : List Book) (state : PlainState) (books : List Book) (batch : Batch) (v : Verdict) → v ≡ verdict_of batch state → batch.domain ≡ state.domain → IsMadeFor batch.domain batch → RepresentsFrom first state books → RepresentsFrom first (state_with state v) (books_after batch books)
+books_when first state books batch v e q m s = subst (λ x. RepresentsFrom first (state_with state x) (books_after batch books)) (sym e) (books_agree first state books batch s (subst (λ d. IsMadeFor d batch) q m))

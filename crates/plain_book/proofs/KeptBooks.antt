@@ -6,19 +6,15 @@ use Rattle.std.proofs.lemmas.Bool.Decides.{nat_tests}
 use Rattle.std.proofs.lemmas.List.{drop-append-le, take-append-drop}
 use Rattle.entry_book.specs.Rows.{Bytes}
 use Rattle.entry_book.specs.Book.{Book, empty_book}
-use Rattle.entry_book.specs.History.{PlainState, RepresentsBooks, among_kept, book_for, kept_books, kept_for, last_book, last_of, place_of}
+use Rattle.entry_book.specs.History.{PlainState, RepresentsFrom, among_kept, book_for, first_books, kept_books, kept_for, last_book, last_of, place_of}
 use Rattle.entry_book.specs.Lawful.{Lawful}
 use Rattle.plain_book.specs.Keeps.{IsSound}
-use Rattle.entry_book.proofs.Histories.{last-snoc}
+use Rattle.entry_book.proofs.Items.{slice_get-drop}
+use Rattle.entry_book.proofs.Histories.{empty_is_first, last-snoc}
 use Rattle.entry_book.proofs.LawfulRows.{wider}
 use Rattle.entry_book.proofs.Sets.{All-more}
 
 -- ---- lists
-
-slice_get-drop : {X : Type 0} (d : ℕ) (xs : List X) (n : ℕ) → slice_get (drop d xs) n ≡ slice_get xs (d + n)
-slice_get-drop zero xs n = let q : n ≡ 0 + n = omega arith in ap (slice_get xs) q
-slice_get-drop (suc d) [] n = refl
-slice_get-drop (suc d) (x ∷ xs) n = let q : suc (d + n) ≡ suc d + n = omega arith in slice_get-drop d xs n ∙ ap (slice_get (x ∷ xs)) q
 
 slice_get-snoc : {X : Type 0} (xs : List X) (x : X) (n : ℕ) → n < length xs → slice_get (xs ++ x ∷ []) n ≡ slice_get xs n
 slice_get-snoc [] x n l = absurd (omega arith)
@@ -112,7 +108,7 @@ sound_more state c s h l =
 
 -- ---- place and books agree with each list of books that the state represents
 
-module _ (state : PlainState) (books : List Book) (s : RepresentsBooks state books) where
+module _ (first : List Book) (state : PlainState) (books : List Book) (s : RepresentsFrom first state books) where
   pub place_is : place_of books ≡ state.place
   place_is = let k = s.count in omega arith
 
@@ -160,3 +156,13 @@ module _ (state : PlainState) (books : List Book) (s : RepresentsBooks state boo
       ap (λ m. drop m (books ++ c ∷ [])) all
       ∙ (drop-append-le (d + n) books (c ∷ []) (omega arith)
       ∙ ap (λ l. l ++ c ∷ []) (sym (drop-drop n d books) ∙ ap (drop n) s.kept))
+
+-- ---- a new plain book
+
+-- it represents the list with the empty book alone
+pub represents_first : (own_domain : Bytes) (older : List Book) (b : Book) → older ≡ [] → b ≡ empty_book → RepresentsFrom first_books (record { domain = own_domain; older = older; newest = b; place = 0 }) first_books
+represents_first own_domain older b o e = record {
+  count = refl;
+  kept = λ i. sym o i ++ sym e i ∷ [];
+  history = ([], record { is_first = empty_is_first own_domain; made = tt; committed = tt; books_are = refl });
+}

@@ -47,7 +47,7 @@ impl Model for PlainBook {
 impl PlainBook {
     ghost use Rattle.std.specs.Prelude.{◌≡◌, ◌≤◌, ◌*◌, ◌^◌, IfOk, OnErr, OnOk, List, length};
     ghost use Rattle.entry_book.specs.Book.{Book as BookRows};
-    ghost use Rattle.entry_book.specs.History.{RepresentsBooks, books_after, first_books, reply_on, reply_to, state_after};
+    ghost use Rattle.entry_book.specs.History.{RepresentsBooks, RepresentsFrom, books_after, first_books, reply_on, reply_to, state_after};
     ghost use Rattle.entry_book.specs.Lawful.{Lawful};
 
     /// Returns an empty book of a trust domain's server, at place 0. The error is out of memory.
@@ -65,16 +65,16 @@ impl PlainBook {
     }
 
     /// Runs a batch that was made for this book's trust domain. The reply and the new state are functions of the batch and
-    /// the state. They agree with every list of books that the state represents. The error is out of memory; it leaves the
+    /// the state. They agree with every list of books that the state represents, whatever books it begins with. The error is out of memory; it leaves the
     /// book unchanged.
     pub fn run(&mut self, batch: &Batch) -> Result<Reply, AllocError>
         requires made_for { batch.now.domain ≡ self.old.domain }
         ensures answered { IfOk result (λ reply. reply ≡ reply_on batch.now self.old) }
         ensures kept { OnOk result (self.new ≡ state_after batch.now self.old) }
-        ensures reply { (books : List BookRows) → RepresentsBooks self.old books
+        ensures reply { (first books : List BookRows) → RepresentsFrom first self.old books
             → IfOk result (λ reply. reply ≡ reply_to batch.now books) }
-        ensures books { (books : List BookRows) → RepresentsBooks self.old books
-            → OnOk result (RepresentsBooks self.new (books_after batch.now books)) }
+        ensures books { (first books : List BookRows) → RepresentsFrom first self.old books
+            → OnOk result (RepresentsFrom first self.new (books_after batch.now books)) }
         ensures domain { self.new.domain ≡ self.old.domain }
         ensures err { OnErr result (self.new ≡ self.old) }
     {

@@ -285,18 +285,25 @@ fn checks(rt: &impl Abort, alloc: Global, book: &mut PlainBook, stage: &Stage) -
     Ok(())
 }
 
-/// Returns true if the entry is removed at this stage, or if it is changed.
-fn is_listed(stage: &Stage, number: u64, gone: bool) -> bool {
-    match revision_at(stage, number) {
-        Some(revision) => !gone && revision > 0,
-        None => gone,
-    }
+/// Returns true if the entry is there at this stage, and was changed.
+fn is_changed(stage: &Stage, number: u64) -> bool {
+    revision_at(stage, number).is_some_and(|revision| revision > 0)
 }
 
-/// Appends the ids of the entries that are removed at this stage, or of those that are changed, in order.
-fn add_ids(alloc: Global, text: &mut String, stage: &Stage, gone: bool) -> Result<(), Fail> {
+/// Appends the ids of the entries that are removed at this stage, in order.
+fn add_removed(alloc: Global, text: &mut String, stage: &Stage) -> Result<(), Fail> {
     for number in 0..COUNT {
-        if is_listed(stage, number, gone) {
+        if revision_at(stage, number).is_none() {
+            text.push_str(format!(in alloc; " {number}")?.as_str())?;
+        }
+    }
+    Ok(())
+}
+
+/// Appends the ids of the entries that are changed at this stage, in order.
+fn add_changed(alloc: Global, text: &mut String, stage: &Stage) -> Result<(), Fail> {
+    for number in 0..COUNT {
+        if is_changed(stage, number) {
             text.push_str(format!(in alloc; " {number}")?.as_str())?;
         }
     }
@@ -306,16 +313,16 @@ fn add_ids(alloc: Global, text: &mut String, stage: &Stage, gone: bool) -> Resul
 /// The expected reply to a prune: the removed entries.
 fn pruned_text(alloc: Global, stage: &Stage) -> Result<String, Fail> {
     let mut text = String::from_str(alloc, "committed at 11; pruned")?;
-    add_ids(alloc, &mut text, stage, true)?;
+    add_removed(alloc, &mut text, stage)?;
     Ok(text)
 }
 
 /// The expected reply to a dropped bundle: the removed and the changed entries.
 fn dropped_text(alloc: Global, stage: &Stage) -> Result<String, Fail> {
     let mut text = String::from_str(alloc, "committed at 11; dropped")?;
-    add_ids(alloc, &mut text, stage, true)?;
+    add_removed(alloc, &mut text, stage)?;
     text.push_str(" /")?;
-    add_ids(alloc, &mut text, stage, false)?;
+    add_changed(alloc, &mut text, stage)?;
     Ok(text)
 }
 

@@ -104,7 +104,8 @@ fn refused_event(words: &[&str]) -> Result<EventRefused, Fail> {
         "unknown" => EventRefusal::UnknownCall,
         "not-now" => EventRefusal::NotNow,
         "too-many" => EventRefusal::TooManyCalls,
-        _ => EventRefusal::NoMemory,
+        "no-memory" => EventRefusal::NoMemory,
+        _ => return Err(Fail::from("no such refusal")),
     };
     Ok(EventRefused {
         line: number(words, 1)?,

@@ -5,7 +5,7 @@ use Rattle.entry_book.specs.Writes.{RowWrite}
 use Rattle.entry_book.specs.Batches.{Batch, IsMadeFor}
 use Rattle.entry_book.specs.Runs.{RunEffect, RefusedOp, RunResult, run}
 use Rattle.entry_book.specs.Lawful.{Lawful}
-use Rattle.entry_book.specs.Laws.{IsWithinLimits}
+use Rattle.entry_book.specs.Limits.{IsWithinLimits}
 use Rattle.entry_book.specs.History.{batch_writes, kept_under}
 use Rattle.version_book.specs.Applying.{MayApply}
 use Rattle.version_book.specs.CommittedRows.{VersionState, book_of}

@@ -20,8 +20,7 @@ use Rattle.entry_book.specs.Book.{Book, AscendingBook, empty_book}
 use Rattle.entry_book.specs.Writes.{RowChange, RowWrite, wrote_entry, wrote_agent, wrote_bundle, wrote_token, FitsRows, FitsBook, FitAll, after, after_write}
 use Rattle.entry_book.specs.Batches.{Batch, is_query, past_place}
 use Rattle.entry_book.specs.Runs.{RunResult, run}
-use Rattle.entry_book.specs.Laws.{IsWithinLimits}
-use Rattle.entry_book.specs.Limits.{limit_passed}
+use Rattle.entry_book.specs.Limits.{limit_passed, IsWithinLimits}
 use Rattle.entry_book.specs.History.{Verdict, refuses, adds, adds_within, batch_writes, book_for, kept_under, verdict, verdict_on, verdict_over, verdict_run, verdict_when, last_book, place_of, books_with, books_after, reply_with, is_committed}
 use Rattle.version_book.specs.declared.mark.MarkKind.{MarkKind}
 use Rattle.version_book.specs.declared.committed_row.CommittedRow.{CommittedRow}

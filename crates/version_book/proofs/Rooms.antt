@@ -29,7 +29,8 @@ use Rattle.entry_book.specs.Batches.{Batch, IsMadeFor, IsProperOp, entry_fault, 
 use Rattle.entry_book.specs.Ops.{OpEffect, OpResult, similar, lacking, put_named, put_unless_similar, create_over, is_stale, update_when, update_over, removed, delete_when, delete_over, for_agent, agent_dropped, bundle_removed, freed, drop_in, drop_over, op_of}
 use Rattle.entry_book.specs.Runs.{RunEffect, RefusedOp, RunResult, onto, then_run, run}
 use Rattle.entry_book.specs.History.{token_writes}
-use Rattle.entry_book.specs.Laws.{AreFaultless, IsWithinLimits}
+use Rattle.entry_book.specs.Laws.{AreFaultless}
+use Rattle.entry_book.specs.Limits.{IsWithinLimits}
 use Rattle.entry_book.specs.Lawful.{Lawful}
 use Rattle.version_book.specs.Laws.{RoomInRun}
 use Rattle.version_book.specs.Room.{RoomFor, RoomAll, count_of_names}

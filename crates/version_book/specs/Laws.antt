@@ -6,9 +6,8 @@ use Rattle.entry_book.specs.Book.{Book, AscendingBook, entry_at, agent_at, bundl
 use Rattle.entry_book.specs.Writes.{RowWrite, after, FitAll}
 use Rattle.entry_book.specs.Batches.{Batch, IsMadeFor, is_query, past_place}
 use Rattle.entry_book.specs.Runs.{RunEffect, run}
-use Rattle.entry_book.specs.Limits.{limit_passed}
+use Rattle.entry_book.specs.Limits.{limit_passed, IsWithinLimits}
 use Rattle.entry_book.specs.Lawful.{Lawful}
-use Rattle.entry_book.specs.Laws.{IsWithinLimits}
 use Rattle.entry_book.specs.History.{last_book, book_for, place_of, batch_writes, kept_under, verdict, books_from, CommitAll, replies_from}
 use Rattle.version_book.specs.declared.mark.MarkKind.{MarkKind}
 use Rattle.version_book.specs.declared.mark.MarkKind.TheVariants as mark

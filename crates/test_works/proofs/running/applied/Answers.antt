@@ -1,7 +1,7 @@
 use Rattle.std.proofs.Common.{◌≡◌, ◌+◌, ap, subst, arith}
 use Rattle.std.proofs.lemmas.List.{length-map}
 use Rattle.version_book.specs.Applying.{MayApply}
-use Rattle.entry_book.specs.Laws.{IsWithinLimits}
+use Rattle.entry_book.specs.Limits.{IsWithinLimits}
 use Rattle.version_book.specs.CommittedRows.{book_of, row_of}
 use Rattle.version_book.specs.Written.{placed}
 use Rattle.test_works.proofs.Tested.{may_apply}
