@@ -2,11 +2,11 @@
 use Rattle.std.proofs.Common.{◌≡◌, ℕ, zero, suc, ◌-◌, ◌⊎◌, List, [], ◌∷◌, ◌++◌, length, drop, take, Some, None, refl, sym, ap, subst, ◌∙◌, inl, inr, ⊎_elim}
 use Rattle.std.proofs.lemmas.List.{append_assoc, append-nil, take-append-drop}
 use Rattle.version_book.specs.History.{version_with}
-use Rattle.entry_book.specs.History.{books_of}
+use Rattle.entry_book.specs.History.{books_from}
 use Rattle.batch_work.specs.Windows.{WindowRepresents}
 use Rattle.commit_head.specs.declared.item.Item.{Item}
 use Rattle.commit_head.specs.Heads.{newest_of}
-use Rattle.commit_head.specs.Journals.{Agrees, IsSuffix, Leads, batches_of, empty_version}
+use Rattle.commit_head.specs.Journals.{Agrees, IsSuffix, Leads, batches_of, first_version}
 use Rattle.commit_head.specs.Laws.{BeganExtends, BeganHere, BeganInside, BeganKept, BeganUnchanged, JournalKept, JournalUnchanged}
 use Rattle.commit_head.proofs.Journals.{leads_in_parts, leads_more, leads_to_one}
 
@@ -23,9 +23,9 @@ endings_agree (b ∷ bs) since (f ∷ fs) kept e = endings_agree bs since fs kep
     rest e = cc
 
 pub began_inside : BeganInside
-began_inside before since base h j l =
-    let parts = leads_in_parts before since (empty_version h.window.newest.domain) h.window.newest j.leads in
-    let same = leads_to_one before (empty_version h.window.newest.domain) parts.0 base.newest parts.1 l in
+began_inside first before since base h j l =
+    let parts = leads_in_parts before since (first_version h.window.newest.domain first) h.window.newest j.leads in
+    let same = leads_to_one before (first_version h.window.newest.domain first) parts.0 base.newest parts.1 l in
     let leads : Leads base.newest since (newest_of h) = subst (λ s. Leads s since (newest_of h)) same parts.2 in
     let agrees : Agrees since h.kept = endings_agree before since j.ending.0 h.kept j.ending.1 in
     record { leads = leads; agrees = agrees; began = (since, leads, agrees) }
@@ -35,10 +35,10 @@ began_kept None old new b k = b
 began_kept (Some base) old new b k = (b.0, subst (λ w. Leads base.newest b.0 w.newest) (sym k.window) b.1, subst (Agrees b.0) (sym k.kept) b.2)
 
 pub journal_kept : JournalKept
-journal_kept items old new j k = record {
-  leads = subst (λ w. Leads (empty_version w.newest.domain) items w.newest) (sym k.window) j.leads;
+journal_kept first items old new j k = record {
+  leads = subst (λ w. Leads (first_version w.newest.domain first) items w.newest) (sym k.window) j.leads;
   ending = (j.ending.0, j.ending.1 ∙ ap (λ l. j.ending.0 ++ l) (sym k.kept));
-  shown = subst (λ w. WindowRepresents w (books_of (batches_of items))) (sym k.window) j.shown;
+  shown = subst (λ w. WindowRepresents w (books_from first (batches_of items))) (sym k.window) j.shown;
 }
 
 ending_more : (whole end : List Item) (item : Item) → IsSuffix whole end → IsSuffix (whole ++ item ∷ []) (end ++ item ∷ [])
@@ -77,10 +77,10 @@ began_unchanged (Some base) old new b w k = (
 )
 
 pub journal_unchanged : JournalUnchanged
-journal_unchanged items old new j w k =
+journal_unchanged first items old new j w k =
     let n = length old.kept - 64 in
     record {
-      leads = subst (λ w. Leads (empty_version w.newest.domain) items w.newest) (sym w) j.leads;
+      leads = subst (λ w. Leads (first_version w.newest.domain first) items w.newest) (sym w) j.leads;
       ending = (j.ending.0 ++ take n old.kept, j.ending.1 ∙ (ap (λ l. j.ending.0 ++ l) (sym (take-append-drop n old.kept) ∙ ap (λ l. take n old.kept ++ l) (sym k)) ∙ sym (append_assoc j.ending.0 (take n old.kept) new.kept)));
-      shown = subst (λ w. WindowRepresents w (books_of (batches_of items))) (sym w) j.shown;
+      shown = subst (λ w. WindowRepresents w (books_from first (batches_of items))) (sym w) j.shown;
     }

@@ -1,5 +1,5 @@
 -- What the outcome of a commit means for the list of all books of the head's journal.
-use Rattle.std.proofs.Common.{◌≡◌, ℕ, ◌+◌, List, ◌∷◌, ◌++◌, length, length-append, take, drop, Some, None, refl, sym, ap, subst, ◌∙◌, arith}
+use Rattle.std.proofs.Common.{◌≡◌, ℕ, ◌+◌, ◌-◌, ◌<◌, List, ◌∷◌, ◌++◌, length, length-append, take, drop, Some, None, refl, sym, ap, subst, ◌∙◌, arith}
 use Rattle.std.specs.List.{AllByRecursion}
 use Rattle.std.proofs.lemmas.List.{append_assoc, length-map, map-append, take-append-drop, take-map}
 use Rattle.entry_book.specs.declared.limit.Limit.{Limit}
@@ -8,7 +8,8 @@ use Rattle.entry_book.specs.declared.reply.Refusal.TheVariants.{Full as TooMuch}
 use Rattle.entry_book.specs.Order.{Within}
 use Rattle.entry_book.specs.Rows.{Bytes}
 use Rattle.entry_book.specs.Batches.{Batch, IsMadeFor, past_place}
-use Rattle.entry_book.specs.History.{CommitAll, books_after, books_from, books_of, first_books, last_book, place_of as place_in, refuses, reply_to, reply_with, verdict}
+use Rattle.entry_book.specs.Book.{Book}
+use Rattle.entry_book.specs.History.{CommitAll, IsFirst, books_after, books_from, books_of, last_book, place_of as place_in, refuses, reply_to, reply_with, verdict}
 use Rattle.entry_book.proofs.Histories.{count_of_books}
 use Rattle.entry_book.proofs.PastPages.{changes_newest}
 use Rattle.entry_book.proofs.Sets.{from_any}
@@ -27,11 +28,11 @@ use Rattle.batch_work.proofs.Ready.{ready_has_read}
 use Rattle.commit_head.specs.declared.commit.Commit.TheVariants.{Conflict, Full, Committed, NoMemory}
 use Rattle.commit_head.specs.declared.item.Item.{Item}
 use Rattle.commit_head.specs.Heads.{Head, IsCommitted, IsDueOnVersions, IsJournal, ReadsAreUnchanged, newest_of, head_place}
-use Rattle.commit_head.specs.Journals.{Leads, batches_of, empty_version}
+use Rattle.commit_head.specs.Journals.{Leads, batches_of, first_version}
 use Rattle.commit_head.specs.Laws.{BatchesJoin, CountOfBatches, LeadsOnBooks}
-use Rattle.commit_head.specs.Outcomes.{CommitOnBooks, CommitsOnBooks, IsHitSince, IsReadyOn, IsUnchangedSince}
+use Rattle.commit_head.specs.Outcomes.{CommitOnBooks, CommitsOnBooks, IsHitSince, IsReadyOn, IsUnchangedSince, UnchangedSinceEmpty}
 use Rattle.commit_head.proofs.Begun.{began_inside, journal_kept}
-use Rattle.commit_head.proofs.Journals.{items_follow, joins_on_books, journal_extends, journal_last}
+use Rattle.commit_head.proofs.Journals.{first_last, items_follow, joins_on_books, journal_extends, journal_last}
 
 -- ---- items and batches
 
@@ -42,9 +43,11 @@ pub batches_join : BatchesJoin
 batches_join items more = map-append (λ item. item.batch) items more
 
 pub led_to : LeadsOnBooks
-led_to own_domain items s l =
-    let f = items_follow items (empty_version own_domain) s l in
-    let b = books_follow (batches_of items) (empty_version own_domain) s first_books (omega arith) refl refl f.follows in
+led_to first own_domain items s some l =
+    let start = first_version own_domain first in
+    let f = items_follow items start s l in
+    let begins = first_last own_domain first in
+    let b = books_follow (batches_of items) start s first some begins.book begins.place f.follows in
     record {
       commit = b.0;
       last = record { book = b.1; place = b.2 };
@@ -54,36 +57,36 @@ led_to own_domain items s l =
 -- ---- the outcomes
 
 -- if the newest version passes a limit, the specification refuses the batch for it on the list of all books
-pub full_on_books : (items : List Item) (h : Head) (batch : Batch) (limit : Limit) (n : ℕ) → IsJournal items h → past_place batch.ops ≡ None → n ≡ head_place h → verdict batch (head_place h) (Some (book_of (newest_of h).rows)) ≡ refuses (TooMuch limit) → reply_to batch (books_of (batches_of items)) ≡ record { place = n; outcome = WasRefused (TooMuch limit) }
-full_on_books items h batch limit n k newest e v =
-    let books = books_of (batches_of items) in
-    let last = journal_last items h k in
+pub full_on_books : (first : List Book) (items : List Item) (h : Head) (batch : Batch) (limit : Limit) (n : ℕ) → IsJournal first items h → past_place batch.ops ≡ None → n ≡ head_place h → verdict batch (head_place h) (Some (book_of (newest_of h).rows)) ≡ refuses (TooMuch limit) → reply_to batch (books_from first (batches_of items)) ≡ record { place = n; outcome = WasRefused (TooMuch limit) }
+full_on_books first items h batch limit n k newest e v =
+    let books = books_from first (batches_of items) in
+    let last = journal_last first items h k in
     ap (reply_with (place_in books)) (verdict_last batch (newest_of h) books last.book last.place newest ∙ v)
     ∙ ap (λ m. record { place = m; outcome = WasRefused (TooMuch limit) }) (last.place ∙ sym e)
 
 -- if each list of items that leads to the newest version has a batch that hits, the journal has one
-pub due_on_books : (items : List Item) (h : Head) (batch : Batch) (base : Base) → IsJournal items h → Leads (empty_version h.window.newest.domain) (take base.newest.number items) base.newest → IsDueOnVersions (Some base) batch (newest_of h) h.kept → IsHitSince (batches_of items) base.newest.number (footprint_there batch base)
-due_on_books items h batch base k leads due =
+pub due_on_books : (first : List Book) (items : List Item) (h : Head) (batch : Batch) (base : Base) → 0 < length first → IsJournal first items h → Leads (first_version h.window.newest.domain first) (take (base.newest.number - place_in first) items) base.newest → IsDueOnVersions (Some base) batch (newest_of h) h.kept → IsHitSince first (batches_of items) base.newest.number (footprint_there batch base)
+due_on_books first items h batch base some_first k leads due =
     let own_domain = h.window.newest.domain in
-    let n = base.newest.number in
+    let n = base.newest.number - place_in first in
     let before = take n items in
     let since = drop n items in
     let parts : before ++ since ≡ items = take-append-drop n items in
-    let inside = began_inside before since base h (subst (λ l. IsJournal l h) (sym parts) k) leads in
+    let inside = began_inside first before since base h (subst (λ l. IsJournal first l h) (sym parts) k) leads in
     let marks = footprint_there batch base in
     let found = from_any (λ m. any_hits m base.newest (batches_of since)) marks (due since inside.leads inside.agrees) in
-    let led = led_to own_domain before base.newest leads in
-    let books = books_of (batches_of before) in
-    let count = count_of_books (batches_of before) led.commit in
+    let led = led_to first own_domain before base.newest some_first leads in
+    let books = books_from first (batches_of before) in
+    let count = count_of_books first (batches_of before) some_first led.commit in
     let follows = (items_follow since base.newest (newest_of h) inside.leads).follows in
     let some : SomeHit found.0 books (batches_of since) = (hits_in_books found.0 (batches_of since) base.newest (newest_of h) books (omega arith) led.last follows).0 found.2 in
     let journal : batches_of items ≡ batches_of before ++ batches_of since = ap batches_of (sym parts) ∙ batches_join before since in
     let split : batches_of items ≡ (batches_of before ++ some.before) ++ some.batch ∷ some.later = journal ∙ (ap (λ l. batches_of before ++ l) some.split ∙ sym (append_assoc (batches_of before) some.before (some.batch ∷ some.later))) in
-    let all : CommitAll first_books ((batches_of before ++ some.before) ++ some.batch ∷ some.later) = subst (CommitAll first_books) split (led_to own_domain items (newest_of h) k.leads).commit in
-    let front = ((commits_join (batches_of before ++ some.before) (some.batch ∷ some.later) first_books).0 all).0 in
-    let there : books_from books some.before ≡ books_of (batches_of before ++ some.before) = sym (books_join (batches_of before) some.before first_books) in
-    let place : place_in (books_from books some.before) ≡ length (batches_of before ++ some.before) = (let c = count_of_books (batches_of before ++ some.before) front in let l = ap length there in omega arith) in
-    let long : length (batches_of before) ≡ n = count_of_batches before ∙ sym led.number in
+    let all : CommitAll first ((batches_of before ++ some.before) ++ some.batch ∷ some.later) = subst (CommitAll first) split (led_to first own_domain items (newest_of h) some_first k.leads).commit in
+    let front = ((commits_join (batches_of before ++ some.before) (some.batch ∷ some.later) first).0 all).0 in
+    let there : books_from books some.before ≡ books_from first (batches_of before ++ some.before) = sym (books_join (batches_of before) some.before first) in
+    let place : place_in (books_from books some.before) + 1 ≡ length (batches_of before ++ some.before) + length first = (let c = count_of_books first (batches_of before ++ some.before) some_first front in let l = ap length there in omega arith) in
+    let long : length (batches_of before) + place_in first ≡ base.newest.number = ap (λ m. m + place_in first) (count_of_batches before) ∙ sym led.number in
     record {
       before = batches_of before ++ some.before;
       other = some.batch;
@@ -93,7 +96,7 @@ due_on_books items h batch base k leads due =
       mark = found.0;
       read = found.1;
       write = some.write;
-      is_made = subst (λ l. Within l some.write) (λ i. writes_of some.batch (place i + 1) (last_book (there i))) some.is_made;
+      is_made = subst (λ l. Within l some.write) (λ i. writes_of some.batch (place i) (last_book (there i))) some.is_made;
       hit = some.hit;
     }
 
@@ -104,41 +107,51 @@ asks_newest own_domain w made ready =
     changes_newest own_domain w.batch made (waits w.batch (case_on w.batch (book_in read.base.newest)) read.awaits).2
 
 -- what is unchanged between the version on which a work began and the newest one is unchanged on the journal's books
-unchanged_on_books : (items : List Item) (h : Head) (batch : Batch) (base : Base) → IsJournal items h → Leads (empty_version h.window.newest.domain) (take base.newest.number items) base.newest → ReadsAreUnchanged (Some base) batch (book_of (newest_of h).rows) → IsUnchangedSince (batches_of items) base.newest.number (footprint_there batch base)
-unchanged_on_books items h batch base k leads same =
-    let n = base.newest.number in
-    let began : last_book (books_of (take n (batches_of items))) ≡ book_of base.newest.rows = ap (λ l. last_book (books_of l)) (take-map (λ (item : Item). item.batch) n items) ∙ (led_to h.window.newest.domain (take n items) base.newest leads).last.book in
-    let now : last_book (books_of (batches_of items)) ≡ book_of (newest_of h).rows = (journal_last items h k).book in
-    subst (λ b. AllByRecursion (Agree b (last_book (books_of (batches_of items)))) (footprint_there batch base)) (sym began)
+unchanged_on_books : (first : List Book) (items : List Item) (h : Head) (batch : Batch) (base : Base) → 0 < length first → IsJournal first items h → Leads (first_version h.window.newest.domain first) (take (base.newest.number - place_in first) items) base.newest → ReadsAreUnchanged (Some base) batch (book_of (newest_of h).rows) → IsUnchangedSince first (batches_of items) base.newest.number (footprint_there batch base)
+unchanged_on_books first items h batch base some_first k leads same =
+    let n = base.newest.number - place_in first in
+    let began : last_book (books_from first (take n (batches_of items))) ≡ book_of base.newest.rows = ap (λ l. last_book (books_from first l)) (take-map (λ (item : Item). item.batch) n items) ∙ (led_to first h.window.newest.domain (take n items) base.newest some_first leads).last.book in
+    let now : last_book (books_from first (batches_of items)) ≡ book_of (newest_of h).rows = (journal_last first items h k).book in
+    subst (λ b. AllByRecursion (Agree b (last_book (books_from first (batches_of items)))) (footprint_there batch base)) (sym began)
     (subst (λ b. AllByRecursion (Agree (book_of base.newest.rows) b) (footprint_there batch base)) (sym now) same)
 
-committed_on_books : (items : List Item) (old new : Head) (seat call : ℕ) (w : Work) (base : Base) (n : ℕ) → IsJournal items old → IsReadyOn old.window.newest.domain items w base → IsCommitted old seat call w n new → CommitsOnBooks items seat call w base n new
-committed_on_books items old new seat call w base n k r c =
-    let on = joins_on_books items c.item old k c.joins in
+committed_on_books : (first : List Book) (items : List Item) (old new : Head) (seat call : ℕ) (w : Work) (base : Base) (n : ℕ) → 0 < length first → IsJournal first items old → IsReadyOn first old.window.newest.domain items w base → IsCommitted old seat call w n new → CommitsOnBooks first items seat call w base n new
+committed_on_books first items old new seat call w base n some_first k r c =
+    let on = joins_on_books first items c.item old k c.joins in
     let batch : c.item.batch ≡ w.batch = c.of_work.batch_is in
-    let number = (led_to old.window.newest.domain items (newest_of old) k.leads).number in
+    let number = (led_to first old.window.newest.domain items (newest_of old) some_first k.leads).number in
     record {
       item = c.item;
       of_work = c.of_work;
       number = let m = c.number in omega arith;
-      validated = unchanged_on_books items old w.batch base k r.leads (subst (λ o. ReadsAreUnchanged o w.batch (book_of (newest_of old).rows)) r.base_is c.validated);
-      reply = ap (λ b. reply_to b (books_of (batches_of items))) (sym batch) ∙ (on.reply ∙ ap (λ m. record { place = m; outcome = WasCommitted c.item.replies }) (sym c.number));
-      books = ap (λ b. books_after b (books_of (batches_of items))) (sym batch) ∙ on.books;
-      journal = journal_extends items c.item old new k c.joins c.appended;
+      validated = unchanged_on_books first items old w.batch base some_first k r.leads (subst (λ o. ReadsAreUnchanged o w.batch (book_of (newest_of old).rows)) r.base_is c.validated);
+      reply = ap (λ b. reply_to b (books_from first (batches_of items))) (sym batch) ∙ (on.reply ∙ ap (λ m. record { place = m; outcome = WasCommitted c.item.replies }) (sym c.number));
+      books = ap (λ b. books_after b (books_from first (batches_of items))) (sym batch) ∙ on.books;
+      journal = journal_extends first items c.item old new k c.joins c.appended;
     }
 
 pub commit_on_books : CommitOnBooks
-commit_on_books items old seat call w base (Committed n) new k r c = committed_on_books items old new seat call w base n k r c
-commit_on_books items old seat call w base (Full limit n) new k r c =
-    let number = (led_to old.window.newest.domain items (newest_of old) k.leads).number in (
+commit_on_books first items old seat call w base (Committed n) new begins k r c = committed_on_books first items old new seat call w base n begins.some k r c
+commit_on_books first items old seat call w base (Full limit n) new begins k r c =
+    let some_first = begins.some in
+    let number = (led_to first old.window.newest.domain items (newest_of old) some_first k.leads).number in (
       c.1.0 ∙ number,
-      full_on_books items old w.batch limit n k (asks_newest old.window.newest.domain w r.made r.ready) c.1.0 c.1.1,
-      journal_kept items old new k c.0,
+      full_on_books first items old w.batch limit n k (asks_newest old.window.newest.domain w r.made r.ready) c.1.0 c.1.1,
+      journal_kept first items old new k c.0,
     )
-commit_on_books items old seat call w base (Conflict n) new k r c =
-    let number = (led_to old.window.newest.domain items (newest_of old) k.leads).number in (
+commit_on_books first items old seat call w base (Conflict n) new begins k r c =
+    let some_first = begins.some in
+    let number = (led_to first old.window.newest.domain items (newest_of old) some_first k.leads).number in (
       c.1.0 ∙ number,
-      due_on_books items old w.batch base k r.leads (subst (λ o. IsDueOnVersions o w.batch (newest_of old) old.kept) r.base_is c.1.1),
-      journal_kept items old new k c.0,
+      due_on_books first items old w.batch base some_first k r.leads (subst (λ o. IsDueOnVersions o w.batch (newest_of old) old.kept) r.base_is c.1.1),
+      journal_kept first items old new k c.0,
     )
-commit_on_books items old seat call w base NoMemory new k r c = journal_kept items old new k c
+commit_on_books first items old seat call w base NoMemory new begins k r c = journal_kept first items old new k c
+
+-- ---- a history that begins with the empty book
+
+pub unchanged_since_empty : UnchangedSinceEmpty
+unchanged_since_empty journal base marks =
+    let n : base - 0 ≡ base = omega arith in
+    let P : ℕ → Type 0 = λ k. AllByRecursion (Agree (last_book (books_of (take k journal))) (last_book (books_of journal))) marks in
+    (λ u. subst P n u, λ u. subst P (sym n) u)

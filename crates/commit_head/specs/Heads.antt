@@ -4,7 +4,7 @@ use Rattle.std.specs.List.{AllByRecursion, list_any}
 use Rattle.entry_book.specs.declared.reply.Refusal.TheVariants.{Full as TooMuch}
 use Rattle.entry_book.specs.Book.{Book}
 use Rattle.entry_book.specs.Batches.{Batch}
-use Rattle.entry_book.specs.History.{verdict, refuses, books_of}
+use Rattle.entry_book.specs.History.{verdict, refuses, books_from, IsFirst}
 use Rattle.version_book.specs.CommittedRows.{VersionState, book_of}
 use Rattle.version_book.specs.History.{any_hits, version_with}
 use Rattle.version_book.specs.Marks.{Agree}
@@ -13,7 +13,7 @@ use Rattle.batch_work.specs.Working.{Base, Work, HasReplies, HasWrites, footprin
 use Rattle.commit_head.specs.declared.commit.Commit.{Commit}
 use Rattle.commit_head.specs.declared.commit.Commit.TheVariants.{Conflict, Full, Committed, NoMemory}
 use Rattle.commit_head.specs.declared.item.Item.{Item}
-use Rattle.commit_head.specs.Journals.{Joins, Leads, Agrees, IsSuffix, batches_of, empty_version}
+use Rattle.commit_head.specs.Journals.{Joins, Leads, Agrees, IsSuffix, batches_of, first_version}
 
 -- A head as contracts see it: the window on which works begin, the retained items of the journal, and the number of items for
 -- which it has room.
@@ -30,16 +30,19 @@ newest_of h = h.window.newest
 abbrev pub head_place : Head → ℕ
 head_place h = h.window.newest.number
 
--- These are all items of the head's journal, from the first book on. They lead to the newest version, the retained items are
--- the last of them, and the window represents the list of all their books.
-pub record IsJournal (items : List Item) (h : Head) : Type 0 where
-  pub leads : Leads (empty_version h.window.newest.domain) items h.window.newest
+-- These are all items of the head's journal, from the first books on. They lead to the newest version, the retained items are
+-- the last of them, and the window represents the list of the first books and all of theirs.
+pub record IsJournal (first : List Book) (items : List Item) (h : Head) : Type 0 where
+  pub leads : Leads (first_version h.window.newest.domain first) items h.window.newest
   pub ending : IsSuffix items h.kept
-  pub shown : WindowRepresents h.window (books_of (batches_of items))
+  pub shown : WindowRepresents h.window (books_from first (batches_of items))
 
--- some items are the head's journal
-abbrev pub HasJournal : Head → Type 0
-HasJournal h = (items : List Item) × IsJournal items h
+-- The head has a journal, which begins with some books that a history may begin with.
+pub record HasJournal (h : Head) : Type 0 where
+  pub first : List Book
+  pub is_first : IsFirst h.window.newest.domain first
+  pub items : List Item
+  pub journal : IsJournal first items h
 
 -- the item of commit n, if it is retained
 abbrev pub item_at : ℕ → Head → Option Item

@@ -1,16 +1,25 @@
 -- The journal (commit log): one item for each commit, and how the items lead from version to version.
-use Rattle.std.specs.Prelude.{◌≡◌, ◌⊎◌, ⊤, ℕ, ◌+◌, List, [], ◌∷◌, ◌++◌, map, Some}
+use Rattle.std.specs.Prelude.{◌≡◌, ◌⊎◌, ⊤, ℕ, ◌+◌, List, [], ◌∷◌, ◌++◌, length, map, Some}
 use Rattle.std.specs.List.{AllByRecursion}
 use Rattle.entry_book.specs.declared.reply.ReplyOutcome.TheVariants.{Committed}
 use Rattle.entry_book.specs.declared.reply.Reply.{Reply}
 use Rattle.entry_book.specs.Rows.{Bytes}
 use Rattle.entry_book.specs.Batches.{Batch, IsMadeFor}
-use Rattle.entry_book.specs.History.{verdict, adds, first_books, CommitAll, replies_from}
-use Rattle.version_book.specs.CommittedRows.{VersionState, book_of, no_rows}
+use Rattle.entry_book.specs.Book.{Book}
+use Rattle.entry_book.specs.History.{verdict, adds, CommitAll, IsFirst, last_book, place_of, replies_from}
+use Rattle.version_book.specs.CommittedRows.{CommittedRows, VersionState, book_of, no_rows, numbered}
 use Rattle.version_book.specs.History.{version_with, writes_of}
 use Rattle.commit_head.specs.declared.item.Item.{Item}
 
--- the version of book 0
+-- the rows of a book, each as if commit n had written it
+abbrev pub rows_numbered : ℕ → Book → CommittedRows
+rows_numbered n b = record { entries = map (numbered n) b.entries; agents = map (numbered n) b.agents; bundles = map (numbered n) b.bundles; tokens = map (numbered n) b.tokens }
+
+-- the version of the last of the books with which a history begins
+abbrev pub first_version : Bytes → List Book → VersionState
+first_version own_domain first = record { domain = own_domain; number = place_of first; rows = rows_numbered (place_of first) (last_book first) }
+
+-- the version of book 0, which is that of `first_books`
 abbrev pub empty_version : Bytes → VersionState
 empty_version own_domain = record { domain = own_domain; number = 0; rows = no_rows }
 
@@ -40,6 +49,10 @@ Agrees items others = IsSuffix items others ⊎ IsSuffix others items
 
 -- ---- in relation to the specification
 
+-- the number of the last book after the items of a journal that begins with the first books
+abbrev pub place_after : List Book → List Item → ℕ
+place_after first items = length items + place_of first
+
 -- the replies of these committed batches, if n commits came before them
 abbrev pub committed_after : ℕ → List Item → List Reply
 committed_after n [] = []
@@ -54,10 +67,11 @@ abbrev pub EachCallOnce : List Item → Type 0
 EachCallOnce [] = ⊤
 EachCallOnce (item ∷ items) = AllByRecursion (IsOther item) items × EachCallOnce items
 
--- A lawful journal. Its batches were made for the trust domain. The specification commits each of them in turn at its number,
--- with the item's replies. No two items have the same seat and call.
-pub record IsLawfulJournal (own_domain : Bytes) (items : List Item) : Type 0 where
+-- A lawful journal of a history that begins with the first books, as a history may. Its batches were made for the trust domain.
+-- The specification commits each of them in turn at its number, with the item's replies. No two items have the same seat and call.
+pub record IsLawfulJournal (first : List Book) (own_domain : Bytes) (items : List Item) : Type 0 where
+  pub is_first : IsFirst own_domain first
   pub made : AllByRecursion (IsMadeFor own_domain) (batches_of items)
-  pub committed : CommitAll first_books (batches_of items)
-  pub replies : replies_from first_books (batches_of items) ≡ committed_after 0 items
+  pub committed : CommitAll first (batches_of items)
+  pub replies : replies_from first (batches_of items) ≡ committed_after (place_of first) items
   pub once : EachCallOnce items

@@ -1,8 +1,7 @@
 //! What is the outcome of a ready work on the newest version?
 
 ghost use Rattle.std.specs.Prelude.{◌≡◌, ◌≤◌, ◌^◌, IfErr, IfOk};
-ghost use Rattle.entry_book.specs.Laws.{IsWithinLimits};
-ghost use Rattle.entry_book.specs.Limits.{limit_passed};
+ghost use Rattle.entry_book.specs.Limits.{limit_passed, IsWithinLimits};
 ghost use Rattle.version_book.specs.CommittedRows.{book_of};
 ghost use Rattle.batch_work.specs.Working.{status_of};
 ghost use Rattle.commit_head.specs.CommitRefusals.{outcome_at};
