@@ -7,7 +7,8 @@ use Rattle.std.proofs.lemmas.List.{take-append-drop}
 use Rattle.entry_book.specs.Rows.{Bytes}
 use Rattle.entry_book.specs.Book.{Book}
 use Rattle.entry_book.specs.Batches.{Batch, IsMadeFor}
-use Rattle.entry_book.specs.History.{books_of, is_committed, reply_to}
+use Rattle.entry_book.proofs.Histories.{empty_is_first}
+use Rattle.entry_book.specs.History.{books_of, first_books, is_committed, reply_to}
 use Rattle.version_book.specs.declared.mark.MarkKind.{MarkKind}
 use Rattle.version_book.specs.CommittedRows.{VersionState as Version}
 use Rattle.batch_work.specs.declared.status.Status.{Status}
@@ -34,7 +35,7 @@ module _ (own_domain : Bytes) (items : List Item) (s : Version) (leads : Leads (
   few_at : (n : ℕ) (batch : Batch) → IsMadeFor own_domain batch → length (footprint_of batch (books_of (take n (batches_of items)))) ≤ 2 ^ 21
   few_at n batch made =
       let parts = leads_in_parts (take n items) (drop n items) (first_version own_domain) s (subst (λ l. Leads (first_version own_domain) l s) (sym (take-append-drop n items)) leads) in
-      subst (λ l. length (footprint_of batch (books_of l)) ≤ 2 ^ 21) (sym (first_batches n items)) (journal_reads_few own_domain (take n items) parts.0 batch parts.1 made)
+      subst (λ l. length (footprint_of batch (books_of l)) ≤ 2 ^ 21) (sym (first_batches n items)) (journal_reads_few first_books own_domain (take n items) parts.0 batch (empty_is_first own_domain) parts.1 made)
 
   -- ---- so that a call has few events
 

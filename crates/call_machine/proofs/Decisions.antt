@@ -5,7 +5,8 @@ use Rattle.entry_book.specs.declared.reply.OpReply.{OpReply}
 use Rattle.entry_book.specs.declared.reply.ReplyOutcome.TheVariants.{Committed as WasCommitted, Refused}
 use Rattle.entry_book.specs.declared.reply.Refusal.TheVariants.{Full as TooMuch}
 use Rattle.entry_book.specs.declared.reply.Reply.{Reply}
-use Rattle.entry_book.specs.History.{books_of, is_committed, reply_to}
+use Rattle.entry_book.proofs.Histories.{empty_is_first}
+use Rattle.entry_book.specs.History.{books_of, first_books, is_committed, reply_to}
 use Rattle.batch_work.specs.declared.status.Status.TheVariants.{Ready}
 use Rattle.batch_work.specs.Working.{HasReplies, Work, status_of}
 use Rattle.batch_work.proofs.Ready.{same_replies}
@@ -35,20 +36,20 @@ may_prepare h w whole rests s =
     subst (λ o. BeganOn o h) (sym r.base_is) (began_on h w.batch r.base whole (began h w r rests))
 
 -- it is ready on the head's journal
-ready_on : (h : Head) (w : Work) (r : IsAwaiting w) → RestsOn (head_domain h) h.kept w → status_of w ≡ Ready → IsReadyOn (head_domain h) h.kept w r.base
+ready_on : (h : Head) (w : Work) (r : IsAwaiting w) → RestsOn (head_domain h) h.kept w → status_of w ≡ Ready → IsReadyOn first_books (head_domain h) h.kept w r.base
 ready_on h w r rests s = record { made = rests.made; ready = s; base_is = r.base_is; leads = (began h w r rests).leads }
 
 decided_committed : (old new : Head) (w : Work) (seat call : ℕ) (replies : List OpReply) (place : ℕ) → HasWholeJournal old → RestsOn (head_domain old) old.kept w → status_of w ≡ Ready → HasReplies w replies → IsCommitted old seat call w place new → IsDecided old w (Replied (record { place = place; outcome = WasCommitted replies })) to.Committed place new
 decided_committed old new w seat call replies place whole rests s has commit =
     let r = ready_is w s in
-    let on = commit_on_books old.kept old seat call w r.base (Committed place) new whole (ready_on old w r rests s) commit in
+    let on = commit_on_books first_books old.kept old seat call w r.base (Committed place) new (empty_is_first (head_domain old)) whole (ready_on old w r rests s) commit in
     let same : replies ≡ on.item.replies = same_replies w replies on.item.replies has on.of_work.replies in
     let reply : reply_to w.batch (books_of (journal_of old)) ≡ record { place = place; outcome = WasCommitted replies } = on.reply ∙ ap (λ rs. record { place = place; outcome = WasCommitted rs }) (sym same) in
     record {
       base = r.base.newest.number;
       in_turn = r.stage;
       decided = inl (record {
-        validated = subst (IsUnchangedSince (journal_of old) r.base.newest.number) (began old w r rests).is_on.reads on.validated;
+        validated = subst (IsUnchangedSince first_books (journal_of old) r.base.newest.number) (began old w r rests).is_on.reads on.validated;
         commits = ap (λ (r : Reply). is_committed r.outcome) reply;
         stage_is = ap committed (sym reply);
         decision_is = refl;
@@ -61,7 +62,7 @@ decided_committed old new w seat call replies place whole rests s has commit =
 decided_full : (old new : Head) (w : Work) (limit : Limit) (place : ℕ) → HasWholeJournal old → RestsOn (head_domain old) old.kept w → status_of w ≡ Ready → IsUnchangedHead old new → IsRefused old w (Full limit place) → IsDecided old w (Replied (record { place = place; outcome = Refused (TooMuch limit) })) (to.Full limit) place new
 decided_full old new w limit place whole rests s is_unchanged refused =
     let r = ready_is w s in
-    let on = commit_on_books old.kept old 0 0 w r.base (Full limit place) new whole (ready_on old w r rests s) (is_unchanged, refused) in
+    let on = commit_on_books first_books old.kept old 0 0 w r.base (Full limit place) new (empty_is_first (head_domain old)) whole (ready_on old w r rests s) (is_unchanged, refused) in
     let length_is : place ≡ length (journal_of old) = on.0 ∙ sym (count_of_batches old.kept) in
     record {
       base = r.base.newest.number;
@@ -80,13 +81,13 @@ decided_full old new w limit place whole rests s is_unchanged refused =
 decided_conflict : (old new : Head) (w : Work) (place : ℕ) → HasWholeJournal old → RestsOn (head_domain old) old.kept w → status_of w ≡ Ready → IsUnchangedHead old new → IsRefused old w (Conflict place) → IsDecided old w (gave.Conflict place) to.Conflict place new
 decided_conflict old new w place whole rests s is_unchanged refused =
     let r = ready_is w s in
-    let on = commit_on_books old.kept old 0 0 w r.base (Conflict place) new whole (ready_on old w r rests s) (is_unchanged, refused) in
+    let on = commit_on_books first_books old.kept old 0 0 w r.base (Conflict place) new (empty_is_first (head_domain old)) whole (ready_on old w r rests s) (is_unchanged, refused) in
     let length_is : place ≡ length (journal_of old) = on.0 ∙ sym (count_of_batches old.kept) in
     record {
       base = r.base.newest.number;
       in_turn = r.stage;
       decided = inr (inr (record {
-        due = subst (IsHitSince (journal_of old) r.base.newest.number) (began old w r rests).is_on.reads on.1;
+        due = subst (IsHitSince first_books (journal_of old) r.base.newest.number) (began old w r rests).is_on.reads on.1;
         stage_is = ap conflict length_is;
         decision_is = refl;
         place_is = length_is;

@@ -3,7 +3,7 @@ use Rattle.std.proofs.Common.{◌≡◌, ℕ, List, [], ◌∷◌, ◌++◌, len
 use Rattle.std.proofs.lemmas.List.{append-nil, take-append-drop, take-append-le, take-map, take_all}
 use Rattle.entry_book.specs.Rows.{Bytes}
 use Rattle.entry_book.specs.Batches.{Batch}
-use Rattle.entry_book.specs.History.{books_of}
+use Rattle.entry_book.specs.History.{books_of, first_books}
 use Rattle.batch_work.specs.Working.{Base, base_in}
 use Rattle.batch_work.proofs.Windows.{window_represents}
 use Rattle.commit_head.specs.declared.item.Item.{Item}
@@ -20,13 +20,13 @@ pub first_batches : (n : ℕ) (items : List Item) → take n (batches_of items) 
 first_batches n items = take-map (λ item. item.batch) n items
 
 pub place_is : (h : Head) → HasWholeJournal h → place_at h ≡ length (journal_of h)
-place_is h w = (led_to (head_domain h) h.kept (newest_of h) w.leads).number ∙ sym (count_of_batches h.kept)
+place_is h w = (led_to first_books (head_domain h) h.kept (newest_of h) (omega arith) w.leads).number ∙ sym (count_of_batches h.kept)
 
 -- ---- a begin
 
 pub began_there : (h : Head) (batch : Batch) → HasWholeJournal h → BaseIsInJournal (head_domain h) h.kept batch (base_in batch h.window)
 began_there h batch w =
-    let n = (led_to (head_domain h) h.kept (newest_of h) w.leads).number in
+    let n = (led_to first_books (head_domain h) h.kept (newest_of h) (omega arith) w.leads).number in
     let all : take (place_at h) h.kept ≡ h.kept = take_all (place_at h) h.kept (omega arith) in
     let books : take (place_at h) (journal_of h) ≡ journal_of h = first_batches (place_at h) h.kept ∙ ap batches_of all in
     let o = window_represents batch h.window (books_of (journal_of h)) w.shown in
@@ -55,7 +55,7 @@ began_still own_domain items more batch base b =
 pub began_on : (h : Head) (batch : Batch) (base : Base) → HasWholeJournal h → BaseIsInJournal (head_domain h) h.kept batch base → BeganOn (Some base) h
 began_on h batch base w b =
     let n = base.newest.number in
-    (began_inside (take n h.kept) (drop n h.kept) base h (subst (λ l. IsJournal l h) (sym (take-append-drop n h.kept)) w) b.leads).began
+    (began_inside first_books (take n h.kept) (drop n h.kept) base h (subst (λ l. IsJournal first_books l h) (sym (take-append-drop n h.kept)) w) b.leads).began
 
 -- the journal after one more item
 pub went_on : (old new : Head) (item : Item) → HasWholeJournal old → Joins item (newest_of old) → IsAppended old item new → ExtendsJournal old new
@@ -63,7 +63,7 @@ went_on old new item w j a = record {
   domain = ap (λ x. x.newest.domain) a.window;
   more = item ∷ [];
   kept = a.kept;
-  whole = subst (λ l. IsJournal l new) (sym a.kept) (journal_extends old.kept item old new w j a);
+  whole = subst (λ l. IsJournal first_books l new) (sym a.kept) (journal_extends first_books old.kept item old new w j a);
 }
 
 pub stayed : (old new : Head) → HasWholeJournal old → IsUnchangedHead old new → ExtendsJournal old new
@@ -71,5 +71,5 @@ stayed old new w s = record {
   domain = ap (λ x. x.newest.domain) s.window;
   more = [];
   kept = s.kept ∙ sym (append-nil old.kept);
-  whole = subst (λ l. IsJournal l new) (sym s.kept) (journal_kept old.kept old new w s);
+  whole = subst (λ l. IsJournal first_books l new) (sym s.kept) (journal_kept first_books old.kept old new w s);
 }

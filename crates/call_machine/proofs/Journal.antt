@@ -16,7 +16,7 @@ entered_commits waiting batch journal f h = absurd f
 entered_commits (running base made) batch journal f h = nothing_more journal h
 entered_commits (ready base) batch journal f h = nothing_more journal h
 entered_commits (answered r) batch journal f h = nothing_more journal h
-entered_commits (committed r) batch journal f h = (one_more_commits journal batch).1 (h, f.1)
+entered_commits (committed r) batch journal f h = (one_more_commits first_books journal batch).1 (h, f.1)
 entered_commits (conflict n) batch journal f h = absurd f
 
 line_commits : (line : List Call) (journal : List Batch) → Fits journal line → CommitAll first_books journal → CommitAll first_books (journal ++ journal_in line)

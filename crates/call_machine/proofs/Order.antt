@@ -79,7 +79,7 @@ extends waiting o batch journal e f = absurd f
 extends (running base made) o batch journal e f = cc
 extends (ready base) o batch journal e f = cc
 extends (answered r) o batch journal e f = (others_leave batch (books_of journal) f.1).0 ∙ sym (ap books_of (append-nil journal))
-extends (committed r) o batch journal e f = sym (one_more journal batch)
+extends (committed r) o batch journal e f = sym (one_more first_books journal batch)
 extends (conflict n) o batch journal e f = absurd f
 
 passes_by : (g : CallStage) (o : Option ℕ) (batch : Batch) → is_listed_at g o ≡ false → entered g batch ≡ []

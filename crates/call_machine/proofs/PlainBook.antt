@@ -18,6 +18,6 @@ never_full batch books e = (others_dont_commit batch books e).1
 
 pub commit_place : (batch : Batch) (journal : List Batch) → CommitAll first_books journal → commits batch (books_of journal) ≡ true → (reply_to batch (books_of journal)).place ≡ length journal + 1
 commit_place batch journal h e =
-    let n = count_of_books journal h in
+    let n = count_of_books first_books journal (omega arith) h in
     let l : 0 < length (books_of journal) = omega arith in
     (commit_adds batch (books_of journal) l e).1 ∙ n

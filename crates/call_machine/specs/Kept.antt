@@ -8,7 +8,7 @@ use Rattle.entry_book.specs.Rows.{Bytes}
 use Rattle.entry_book.specs.Book.{Book}
 use Rattle.entry_book.specs.Batches.{Batch, IsMadeFor}
 use Rattle.entry_book.specs.declared.reply.Reply.{Reply}
-use Rattle.entry_book.specs.History.{books_of, commits, is_committed, reply_to}
+use Rattle.entry_book.specs.History.{books_of, commits, first_books, is_committed, reply_to}
 use Rattle.version_book.specs.declared.mark.MarkKind.{MarkKind}
 use Rattle.batch_work.specs.declared.status.Status.{Status}
 use Rattle.batch_work.specs.declared.status.Status.TheVariants.{Settled}
@@ -135,7 +135,7 @@ AllRest own_domain items es = AllByRecursion (λ e. SlotRests own_domain items e
 
 -- the head stores its whole journal
 abbrev pub HasWholeJournal : Head → Type 0
-HasWholeJournal h = IsJournal h.kept h
+HasWholeJournal h = IsJournal first_books h.kept h
 
 abbrev pub head_domain : Head → Bytes
 head_domain h = h.window.newest.domain

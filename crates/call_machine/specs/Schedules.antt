@@ -153,7 +153,7 @@ BatchesOf log (c ∷ cs) (batch ∷ batches) = HandedIn log c batch × BatchesOf
 -- Of these committed batches, one that was committed after book `base` has a write that hits a mark of the footprint of `batch`
 -- on `base`.
 abbrev pub IsDue : List Batch → Batch → ℕ → Type 0
-IsDue journal batch base = IsHitSince journal base (footprint_of batch (books_of (take base journal)))
+IsDue journal batch base = IsHitSince first_books journal base (footprint_of batch (books_of (take base journal)))
 
 -- After these accepted events, a conflict at this place is due for the call's commit. The journal has the batches of the calls
 -- committed so far.
@@ -173,7 +173,7 @@ ConflictsAreDue log = (k c place : ℕ) → slice_get log k ≡ Some (record { e
 
 -- After these committed batches, the last book reads the same as book `base` at each mark of the footprint of `batch` on `base`.
 abbrev pub IsValidated : List Batch → Batch → ℕ → Type 0
-IsValidated journal batch base = IsUnchangedSince journal base (footprint_of batch (books_of (take base journal)))
+IsValidated journal batch base = IsUnchangedSince first_books journal base (footprint_of batch (books_of (take base journal)))
 
 -- After these accepted events, all that the call's batch read on the book on which the call began is unchanged, and the call may be
 -- committed at this place. The journal has the batches of the calls committed so far.
