@@ -1,5 +1,5 @@
 -- The outcome of a batch of changes with nothing to commit, in terms of the journal.
-use Rattle.std.proofs.Common.{◌≡◌, ℕ, ◌+◌, Bool, true, false, cond, List, [], ◌∷◌, ◌++◌, length, Option, Some, None, Ok, Err, refl, sym, ap, subst, ◌∙◌, arith}
+use Rattle.std.proofs.Common.{◌≡◌, ℕ, ◌+◌, Bool, true, false, cond, List, [], ◌∷◌, ◌++◌, length, Option, Some, None, Ok, Err, refl, sym, ap, subst, ◌∙◌, inl, inr, ⊎_elim, arith}
 use Rattle.std.specs.Prelude.{nat_lt, slice_get, IsSome}
 use Rattle.entry_book.specs.declared.kept.KeptBatch.{KeptBatch}
 use Rattle.entry_book.specs.declared.limit.Limit.{Limit}
@@ -15,7 +15,8 @@ use Rattle.entry_book.specs.Book.{Book}
 use Rattle.entry_book.specs.SameOps.{ops_eq}
 use Rattle.entry_book.specs.Runs.{RunResult, run}
 use Rattle.entry_book.specs.Batches.{Batch, is_query, past_place}
-use Rattle.entry_book.specs.History.{LeadToBooks as Led, Verdict, adds, adds_within, answers, book_for, books_after, books_from, books_of, first_books, is_committed, is_repeated, kept_under, last_book, place_of, refuses, repeats, reply_to, reply_with, verdict, verdict_again, verdict_on, verdict_over, verdict_when, replies_from}
+use Rattle.entry_book.specs.History.{LeadToBooks as Led, Verdict, adds, adds_within, answers, book_for, books_after, books_from, first_books, is_committed, is_repeated, kept_under, last_book, place_of, refuses, repeats, reply_to, reply_with, verdict, verdict_again, verdict_on, verdict_over, verdict_when, replies_from}
+use Rattle.entry_book.specs.Laws.{WasCommitted}
 use Rattle.entry_book.specs.Tokens.{token_key}
 use Rattle.entry_book.proofs.Keys.{at_row}
 use Rattle.entry_book.proofs.KeptBatches.{kept_committed}
@@ -28,8 +29,8 @@ use Rattle.batch_work.specs.Working.{IsAnswer, IsReplyOn, Work, awaits_there, ba
 use Rattle.batch_work.proofs.Batches.{others_dont_commit}
 use Rattle.batch_work.proofs.Windows.{window_represents}
 use Rattle.commit_head.specs.declared.item.Item.{Item}
-use Rattle.commit_head.specs.Journals.{IsLawfulJournal, batches_of, committed_after}
-use Rattle.shared_registry.specs.Outcomes.{IsRefusedThere, IsSubmitted, RepeatsItem}
+use Rattle.commit_head.specs.Journals.{IsLawfulJournal, batches_of, committed_after, place_after}
+use Rattle.shared_registry.specs.Outcomes.{IsRefusedThere, IsSubmitted, RepeatsAreSeen, RepeatsBatch, RepeatsItem, RepeatsRow}
 use Rattle.shared_registry.specs.OutcomesPrivate.{IsNotConflict, outcome_by, outcome_with}
 use Rattle.shared_registry.specs.Seated.{Seated}
 use Rattle.shared_registry.specs.Works.{IsRead}
@@ -42,29 +43,29 @@ settled_or true awaits over unready = absurd (over refl)
 settled_or false true over unready = absurd (unready refl)
 settled_or false false over unready = (refl, refl)
 
-status_is : (domain : Bytes) (seen : List Item) (batch : Batch) (w : Work) (r : IsRead domain seen batch w) → status_of w ≡ status_from (Some (base_in batch r.snapshot.window)) batch w.steps
-status_is domain seen batch w r = ap (λ o. status_from o w.batch w.steps) r.at_end.begun.base_is ∙ ap (λ b. status_from (Some (base_in batch r.snapshot.window)) b w.steps) r.at_end.begun.batch_is
+status_is : (first : List Book) (domain : Bytes) (seen : List Item) (batch : Batch) (w : Work) (r : IsRead first domain seen batch w) → status_of w ≡ status_from (Some (base_in batch r.snapshot.window)) batch w.steps
+status_is first domain seen batch w r = ap (λ o. status_from o w.batch w.steps) r.at_end.begun.base_is ∙ ap (λ b. status_from (Some (base_in batch r.snapshot.window)) b w.steps) r.at_end.begun.batch_is
 
-at_end : (domain : Bytes) (seen : List Item) (batch : Batch) (w : Work) (r : IsRead domain seen batch w) → (status_of w ≡ Ready → ⊥) → (awaits_there batch (base_in batch r.snapshot.window) ≡ false) × (status_of w ≡ Settled)
-at_end domain seen batch w r unready =
+at_end : (first : List Book) (domain : Bytes) (seen : List Item) (batch : Batch) (w : Work) (r : IsRead first domain seen batch w) → (status_of w ≡ Ready → ⊥) → (awaits_there batch (base_in batch r.snapshot.window) ≡ false) × (status_of w ≡ Settled)
+at_end first domain seen batch w r unready =
     let base = base_in batch r.snapshot.window in
-    let e = status_is domain seen batch w r in
+    let e = status_is first domain seen batch w r in
     let s = settled_or (nat_lt w.steps (length (footprint_there batch base))) (awaits_there batch base) (λ k. r.at_end.over (e ∙ k)) (λ k. unready (e ∙ k)) in
     (s.0, e ∙ s.1)
 
-pub settled_is : (domain : Bytes) (seen : List Item) (batch : Batch) (w : Work) → IsRead domain seen batch w → (status_of w ≡ Ready → ⊥) → status_of w ≡ Settled
-settled_is domain seen batch w r unready = (at_end domain seen batch w r unready).1
+pub settled_is : (first : List Book) (domain : Bytes) (seen : List Item) (batch : Batch) (w : Work) → IsRead first domain seen batch w → (status_of w ≡ Ready → ⊥) → status_of w ≡ Settled
+settled_is first domain seen batch w r unready = (at_end first domain seen batch w r unready).1
 
-pub reply_is : (domain : Bytes) (seen : List Item) (batch : Batch) (w : Work) (reply : Reply) → IsRead domain seen batch w → IsAnswer w reply → reply ≡ reply_to batch (books_of (batches_of seen))
-reply_is domain seen batch w reply r a =
+pub reply_is : (first : List Book) (domain : Bytes) (seen : List Item) (batch : Batch) (w : Work) (reply : Reply) → IsRead first domain seen batch w → IsAnswer w reply → reply ≡ reply_to batch (books_from first (batches_of seen))
+reply_is first domain seen batch w reply r a =
     let base = base_in batch r.snapshot.window in
     let there : reply ≡ reply_there w.batch base = subst (λ o. IsReplyOn o w.batch reply) r.at_end.begun.base_is a in
-    there ∙ (ap (λ b. reply_there b base) r.at_end.begun.batch_is ∙ (window_represents batch r.snapshot.window (books_of (batches_of seen)) r.is_journal_of.shown).reply)
+    there ∙ (ap (λ b. reply_there b base) r.at_end.begun.batch_is ∙ (window_represents batch r.snapshot.window (books_from first (batches_of seen)) r.shows.journal.shown).reply)
 
-uncommitted : (domain : Bytes) (seen : List Item) (batch : Batch) (w : Work) → IsRead domain seen batch w → (status_of w ≡ Ready → ⊥) → is_committed (reply_to batch (books_of (batches_of seen))).outcome ≡ false
-uncommitted domain seen batch w r unready =
-    let books = books_of (batches_of seen) in
-    let waits : awaits_commit batch books ≡ false = sym (window_represents batch r.snapshot.window books r.is_journal_of.shown).wait ∙ (at_end domain seen batch w r unready).0 in
+uncommitted : (first : List Book) (domain : Bytes) (seen : List Item) (batch : Batch) (w : Work) → IsRead first domain seen batch w → (status_of w ≡ Ready → ⊥) → is_committed (reply_to batch (books_from first (batches_of seen))).outcome ≡ false
+uncommitted first domain seen batch w r unready =
+    let books = books_from first (batches_of seen) in
+    let waits : awaits_commit batch books ≡ false = sym (window_represents batch r.snapshot.window books r.shows.journal.shown).wait ∙ (at_end first domain seen batch w r unready).0 in
     (others_dont_commit batch books waits).0
 
 -- ---- a batch of changes never gets the reply of a query
@@ -96,14 +97,14 @@ refused_of (Answered rs) c a r = absurd (a rs refl)
 refused_of (Repeated rs) c a r = cc
 refused_of (Refused why) c a r = (why, refl)
 
-pub refused_is : (domain : Bytes) (t : Seated) (batch : Batch) (w : Work) (reply : Reply) → IsRead domain t.seen batch w → (status_of w ≡ Ready → ⊥) → is_query batch.ops ≡ false → IsAnswer w reply → is_repeated reply.outcome ≡ false → IsRefusedThere t batch reply
-refused_is domain t batch w reply r unready q a n =
-    let books = books_of (batches_of t.seen) in
-    let e = reply_is domain t.seen batch w reply r a in
+pub refused_is : (first : List Book) (domain : Bytes) (t : Seated) (batch : Batch) (w : Work) (reply : Reply) → IsRead first domain t.seen batch w → (status_of w ≡ Ready → ⊥) → is_query batch.ops ≡ false → IsAnswer w reply → is_repeated reply.outcome ≡ false → IsRefusedThere first t batch reply
+refused_is first domain t batch w reply r unready q a n =
+    let books = books_from first (batches_of t.seen) in
+    let e = reply_is first domain t.seen batch w reply r a in
     let o = ap (λ (x : Reply). x.outcome) e in
-    let found = refused_of (reply_to batch books).outcome (uncommitted domain t.seen batch w r unready) (λ rs. not_answered batch books rs q) (sym (ap is_repeated o) ∙ n) in
-    let led = led_to r.snapshot.window.newest.domain t.seen r.snapshot.window.newest r.is_journal_of.leads in
-    let place : place_of books ≡ length t.seen = led.last.place ∙ led.number in
+    let found = refused_of (reply_to batch books).outcome (uncommitted first domain t.seen batch w r unready) (λ rs. not_answered batch books rs q) (sym (ap is_repeated o) ∙ n) in
+    let led = led_to first r.snapshot.window.newest.domain t.seen r.snapshot.window.newest r.shows.is_first.some r.shows.journal.leads in
+    let place : place_of books ≡ place_after first t.seen = led.last.place ∙ led.number in
     record {
       reply_is = e;
       why = found.0;
@@ -155,23 +156,23 @@ kept_row (Some t) b k e = let row = at_row token_key t b.tokens k e in (row.0, a
 -- ---- items and batches
 
 record IsSplit (items : List Item) (before : List Batch) (batch : Batch) : Type 0 where
-  first : List Item
+  front : List Item
   item : Item
   later : List Item
-  split : items ≡ first ++ item ∷ later
-  before_is : batches_of first ≡ before
+  split : items ≡ front ++ item ∷ later
+  before_is : batches_of front ≡ before
   batch_is : item.batch ≡ batch
 
 split_items : (items : List Item) (before : List Batch) (batch : Batch) (later : List Batch) → batches_of items ≡ before ++ batch ∷ later → IsSplit items before batch
 split_items [] [] batch later e = cc
 split_items [] (c ∷ before) batch later e = cc
-split_items (i ∷ items) [] batch later e = record { first = []; item = i; later = items; split = refl; before_is = refl; batch_is = cc }
+split_items (i ∷ items) [] batch later e = record { front = []; item = i; later = items; split = refl; before_is = refl; batch_is = cc }
 split_items (i ∷ items) (c ∷ before) batch later e =
     let rest : batches_of items ≡ before ++ batch ∷ later = cc in
     let s = split_items items before batch later rest in
     let head : i.batch ≡ c = cc in
     record {
-      first = i ∷ s.first;
+      front = i ∷ s.front;
       item = s.item;
       later = s.later;
       split = ap (λ l. i ∷ l) s.split;
@@ -179,20 +180,21 @@ split_items (i ∷ items) (c ∷ before) batch later e =
       batch_is = s.batch_is;
     }
 
-reply_at : (books : List Book) (first : List Item) (item : Item) (later : List Item) → slice_get (replies_from books (batches_of (first ++ item ∷ later))) (length first) ≡ Some (reply_to item.batch (books_from books (batches_of first)))
+reply_at : (books : List Book) (front : List Item) (item : Item) (later : List Item) → slice_get (replies_from books (batches_of (front ++ item ∷ later))) (length front) ≡ Some (reply_to item.batch (books_from books (batches_of front)))
 reply_at books [] item later = refl
-reply_at books (i ∷ first) item later = reply_at (books_after i.batch books) first item later
+reply_at books (i ∷ front) item later = reply_at (books_after i.batch books) front item later
 
-committed_at : (n : ℕ) (first : List Item) (item : Item) (later : List Item) → slice_get (committed_after n (first ++ item ∷ later)) (length first) ≡ Some (record { place = n + length first + 1; outcome = Committed item.replies })
+committed_at : (n : ℕ) (front : List Item) (item : Item) (later : List Item) → slice_get (committed_after n (front ++ item ∷ later)) (length front) ≡ Some (record { place = n + length front + 1; outcome = Committed item.replies })
 committed_at n [] item later = let e : n + 0 + 1 ≡ n + 1 = omega arith in ap (λ m. Some (record { place = m; outcome = Committed item.replies })) (sym e)
-committed_at n (i ∷ first) item later = let e : n + 1 + length first + 1 ≡ n + length (i ∷ first) + 1 = omega arith in committed_at (n + 1) first item later ∙ ap (λ m. Some (record { place = m; outcome = Committed item.replies })) e
+committed_at n (i ∷ front) item later = let e : n + 1 + length front + 1 ≡ n + length (i ∷ front) + 1 = omega arith in committed_at (n + 1) front item later ∙ ap (λ m. Some (record { place = m; outcome = Committed item.replies })) e
 
 -- the plain book's reply to an item of a lawful journal has the item's replies
-replied : (domain : Bytes) (items first later : List Item) (item : Item) → IsLawfulJournal domain items → items ≡ first ++ item ∷ later → reply_to item.batch (books_of (batches_of first)) ≡ record { place = length first + 1; outcome = Committed item.replies }
-replied domain items first later item l e =
-    let all : replies_from first_books (batches_of (first ++ item ∷ later)) ≡ committed_after 0 (first ++ item ∷ later) = subst (λ x. replies_from first_books (batches_of x) ≡ committed_after 0 x) e l.replies in
-    let both = sym (reply_at first_books first item later) ∙ (ap (λ rs. slice_get rs (length first)) all ∙ committed_at 0 first item later) in
-    let place : 0 + length first + 1 ≡ length first + 1 = omega arith in
+replied : (first : List Book) (domain : Bytes) (items front later : List Item) (item : Item) → IsLawfulJournal first domain items → items ≡ front ++ item ∷ later → reply_to item.batch (books_from first (batches_of front)) ≡ record { place = place_after first front + 1; outcome = Committed item.replies }
+replied first domain items front later item l e =
+    let n = place_of first in
+    let all : replies_from first (batches_of (front ++ item ∷ later)) ≡ committed_after n (front ++ item ∷ later) = subst (λ x. replies_from first (batches_of x) ≡ committed_after n x) e l.replies in
+    let both = sym (reply_at first front item later) ∙ (ap (λ rs. slice_get rs (length front)) all ∙ committed_at n front item later) in
+    let place : n + length front + 1 ≡ place_after first front + 1 = omega arith in
     some_is _ _ both ∙ ap (λ m. record { place = m; outcome = Committed item.replies }) place
   where
     some_is : (x y : Reply) → Some x ≡ Some y → x ≡ y
@@ -215,51 +217,73 @@ repeats_of (Answered rs) e = cc
 repeats_of (Repeated rs) e = (rs, refl)
 repeats_of (Refused why) e = cc
 
-repeated_by : (domain : Bytes) (t : Seated) (batch : Batch) (w : Work) (reply : Reply) (rs : List OpReply) → IsRead domain t.seen batch w → IsLawfulJournal domain t.seen → is_query batch.ops ≡ false → IsAnswer w reply → reply.outcome ≡ Repeated rs → RepeatsItem t batch reply
-repeated_by domain t batch w reply rs r l q a o =
+-- the batch is stored by the first books
+repeats_row : (first : List Book) (t : Seated) (batch : Batch) (reply : Reply) (rs : List OpReply) (k : IsKept batch (last_book (books_from first (batches_of t.seen))) reply.place rs) → reply ≡ reply_to batch (books_from first (batches_of t.seen)) → reply.outcome ≡ Repeated rs → batch.token ≡ Some k.kept.token → Within (last_book first).tokens k.kept → RepeatsRow first t batch reply
+repeats_row first t batch reply rs k e o token stored = record {
+  reply_is = e;
+  row = k.kept;
+  stored = stored;
+  repeats = λ i. record { place = sym k.place i; outcome = (o ∙ ap Repeated (sym k.replies_are)) i };
+  token = token;
+  ops = (same_ops k.kept.ops batch.ops).0 k.same;
+}
+
+-- the batch is one of the journal
+repeats_item : (first : List Book) (domain : Bytes) (t : Seated) (batch : Batch) (reply : Reply) (rs : List OpReply) (k : IsKept batch (last_book (books_from first (batches_of t.seen))) reply.place rs) → IsLawfulJournal first domain t.seen → reply ≡ reply_to batch (books_from first (batches_of t.seen)) → reply.outcome ≡ Repeated rs → batch.token ≡ Some k.kept.token → WasCommitted first (batches_of t.seen) k.kept → RepeatsItem first t batch reply
+repeats_item first domain t batch reply rs k l e o token was =
+    let s = split_items t.seen was.before was.batch was.later was.split in
+    let long : length s.front ≡ length was.before = sym (count_of_batches s.front) ∙ ap length s.before_is in
+    let here : reply_to s.item.batch (books_from first (batches_of s.front)) ≡ record { place = place_after first s.front + 1; outcome = Committed s.item.replies } = replied first domain t.seen s.front s.later s.item l s.split in
+    let there : reply_to s.item.batch (books_from first (batches_of s.front)) ≡ record { place = k.kept.place; outcome = Committed k.kept.replies } = (λ i. reply_to (s.batch_is i) (books_from first (s.before_is i))) ∙ was.replied in
+    let place : reply.place ≡ place_after first s.front + 1 = (let p = ap (λ (r : Reply). r.place) (sym here ∙ there) in let q = k.place in omega arith) in
+    let same : rs ≡ s.item.replies = sym (same_replies _ _ _ _ _ here there ∙ k.replies_are) in
+    record {
+      reply_is = e;
+      before = s.front;
+      item = s.item;
+      later = s.later;
+      split = s.split;
+      repeats = λ i. record { place = place i; outcome = (o ∙ ap Repeated same) i };
+      with_token = is_some batch.token k.kept.token token;
+      token = ap (λ b. b.token) s.batch_is ∙ (was.token ∙ sym token);
+      ops = ap (λ b. b.ops) s.batch_is ∙ (was.ops ∙ (same_ops k.kept.ops batch.ops).0 k.same);
+    }
+
+repeated_by : (first : List Book) (domain : Bytes) (t : Seated) (batch : Batch) (w : Work) (reply : Reply) (rs : List OpReply) → IsRead first domain t.seen batch w → IsLawfulJournal first domain t.seen → is_query batch.ops ≡ false → IsAnswer w reply → reply.outcome ≡ Repeated rs → RepeatsBatch first t batch reply
+repeated_by first domain t batch w reply rs r l q a o =
     let batches = batches_of t.seen in
-    let books = books_of batches in
-    let e = reply_is domain t.seen batch w reply r a in
+    let books = books_from first batches in
+    let e = reply_is first domain t.seen batch w reply r a in
     let whole : reply_to batch books ≡ record { place = reply.place; outcome = Repeated rs } = sym e ∙ ap (λ x. record { place = reply.place; outcome = x }) o in
     let newest : past_place batch.ops ≡ None = changes_newest domain batch r.made q in
     let there : reply_with (place_of books) (verdict batch (place_of books) (Some (last_book books))) ≡ record { place = reply.place; outcome = Repeated rs } = ap (λ p. reply_with (place_of books) (verdict batch (place_of books) (book_for p books))) (sym newest) ∙ whole in
     let k = kept_time (nat_lt (place_of books) batch.after) batch (place_of books) (last_book books) reply.place rs there in
     let row = kept_row batch.token (last_book books) k.kept k.there in
-    let led : Led domain batches books = record { made = l.made; committed = l.committed; books_are = refl } in
-    let was = kept_committed domain batches books k.kept led row.0 in
-    let s = split_items t.seen was.before was.batch was.later was.split in
-    let long : length s.first ≡ length was.before = sym (count_of_batches s.first) ∙ ap length s.before_is in
-    let first : reply_to s.item.batch (books_of (batches_of s.first)) ≡ record { place = length s.first + 1; outcome = Committed s.item.replies } = replied domain t.seen s.first s.later s.item l s.split in
-    let second : reply_to s.item.batch (books_of (batches_of s.first)) ≡ record { place = k.kept.place; outcome = Committed k.kept.replies } = (λ i. reply_to (s.batch_is i) (books_of (s.before_is i))) ∙ was.replied in
-    let place : reply.place ≡ length s.first + 1 = let p = was.place in let q = k.place in omega arith in
-    let same : rs ≡ s.item.replies = sym (same_replies _ _ _ _ _ first second ∙ k.replies_are) in
-    record {
-      reply_is = e;
-      before = s.first;
-      item = s.item;
-      later = s.later;
-      split = s.split;
-      repeats = λ i. record { place = place i; outcome = (o ∙ ap Repeated same) i };
-      with_token = is_some batch.token k.kept.token row.1;
-      token = ap (λ b. b.token) s.batch_is ∙ (was.token ∙ sym row.1);
-      ops = ap (λ b. b.ops) s.batch_is ∙ (was.ops ∙ (same_ops k.kept.ops batch.ops).0 k.same);
-    }
+    let led : Led first domain batches books = record { is_first = l.is_first; made = l.made; committed = l.committed; books_are = refl } in
+    ⊎_elim
+      (λ (stored : Within (last_book first).tokens k.kept). inr (repeats_row first t batch reply rs k e o row.1 stored))
+      (λ (was : WasCommitted first batches k.kept). inl (repeats_item first domain t batch reply rs k l e o row.1 was))
+      (kept_committed first domain batches books k.kept led row.0)
 
-pub repeated_is : (domain : Bytes) (t : Seated) (batch : Batch) (w : Work) (reply : Reply) → IsRead domain t.seen batch w → IsLawfulJournal domain t.seen → is_query batch.ops ≡ false → IsAnswer w reply → is_repeated reply.outcome ≡ true → RepeatsItem t batch reply
-repeated_is domain t batch w reply r l q a o = let rs = repeats_of reply.outcome o in repeated_by domain t batch w reply rs.0 r l q a rs.1
+pub repeated_is : (first : List Book) (domain : Bytes) (t : Seated) (batch : Batch) (w : Work) (reply : Reply) → IsRead first domain t.seen batch w → IsLawfulJournal first domain t.seen → is_query batch.ops ≡ false → IsAnswer w reply → is_repeated reply.outcome ≡ true → RepeatsBatch first t batch reply
+repeated_is first domain t batch w reply r l q a o = let rs = repeats_of reply.outcome o in repeated_by first domain t batch w reply rs.0 r l q a rs.1
+
+-- the empty book stores no batch
+pub repeats_are_seen : RepeatsAreSeen
+repeats_are_seen t batch reply r = ⊎_elim (λ (i : RepeatsItem first_books t batch reply). i) (λ (row : RepeatsRow first_books t batch reply). absurd row.stored) r
 
 -- ---- the outcome with this reply
 
-settled_by : (t : Seated) (batch : Batch) (reply : Reply) (o : ReplyOutcome) → is_committed o ≡ false → (is_repeated o ≡ true → RepeatsItem t batch reply) → (is_repeated o ≡ false → IsRefusedThere t batch reply) → IsSubmitted t t batch 0 (outcome_by o reply)
-settled_by t batch reply (Committed rs) c repeated refused = cc
-settled_by t batch reply (Repeated rs) c repeated refused = (repeated refl, refl)
-settled_by t batch reply (Refused why) c repeated refused = (refused refl, refl)
-settled_by t batch reply (Answered rs) c repeated refused = (refused refl, refl)
+settled_by : (first : List Book) (t : Seated) (batch : Batch) (reply : Reply) (o : ReplyOutcome) → is_committed o ≡ false → (is_repeated o ≡ true → RepeatsBatch first t batch reply) → (is_repeated o ≡ false → IsRefusedThere first t batch reply) → IsSubmitted first t t batch 0 (outcome_by o reply)
+settled_by first t batch reply (Committed rs) c repeated refused = cc
+settled_by first t batch reply (Repeated rs) c repeated refused = (repeated refl, refl)
+settled_by first t batch reply (Refused why) c repeated refused = (refused refl, refl)
+settled_by first t batch reply (Answered rs) c repeated refused = (refused refl, refl)
 
-pub settled_submitted : (domain : Bytes) (t : Seated) (batch : Batch) (w : Work) (reply : Reply) → IsRead domain t.seen batch w → (status_of w ≡ Ready → ⊥) → IsLawfulJournal domain t.seen → is_query batch.ops ≡ false → IsAnswer w reply → IsSubmitted t t batch 0 (outcome_with reply)
-settled_submitted domain t batch w reply r unready l q a =
-    let uncommitted = ap (λ (x : Reply). is_committed x.outcome) (reply_is domain t.seen batch w reply r a) ∙ uncommitted domain t.seen batch w r unready in
-    settled_by t batch reply reply.outcome uncommitted (repeated_is domain t batch w reply r l q a) (refused_is domain t batch w reply r unready q a)
+pub settled_submitted : (first : List Book) (domain : Bytes) (t : Seated) (batch : Batch) (w : Work) (reply : Reply) → IsRead first domain t.seen batch w → (status_of w ≡ Ready → ⊥) → IsLawfulJournal first domain t.seen → is_query batch.ops ≡ false → IsAnswer w reply → IsSubmitted first t t batch 0 (outcome_with reply)
+settled_submitted first domain t batch w reply r unready l q a =
+    let uncommitted = ap (λ (x : Reply). is_committed x.outcome) (reply_is first domain t.seen batch w reply r a) ∙ uncommitted first domain t.seen batch w r unready in
+    settled_by first t batch reply reply.outcome uncommitted (repeated_is first domain t batch w reply r l q a) (refused_is first domain t batch w reply r unready q a)
 
 pub settled_no_conflict : (o : ReplyOutcome) (reply : Reply) → IsNotConflict (outcome_by o reply)
 settled_no_conflict (Committed rs) reply n e = cc

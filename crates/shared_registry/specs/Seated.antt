@@ -1,6 +1,7 @@
 -- The model of a seat in contracts.
 use Rattle.std.specs.Prelude.{◌≡◌, ℕ, ◌+◌, List}
 use mathlib.Core.List.{IsPrefix}
+use Rattle.entry_book.specs.Book.{Book}
 use Rattle.entry_book.specs.Rows.{Bytes}
 use Rattle.commit_head.specs.declared.item.Item.{Item}
 use Rattle.commit_head.specs.Journals.{IsLawfulJournal}
@@ -17,30 +18,30 @@ pub record Seated : Type 0 where
   pub found : List Item
 
 -- A call that takes a call number: the number is above those of the seat's own calls so far. What is seen is then a lawful
--- journal that begins with what was seen before. Its items of this seat are the seat's own calls. `learnt` stays the same.
-pub record AfterCall (domain : Bytes) (s t : Seated) : Type 0 where
+-- journal of a history that begins with the first books, and begins with what was seen before. Its items of this seat are the seat's own calls. `learnt` stays the same.
+pub record AfterCall (first : List Book) (domain : Bytes) (s t : Seated) : Type 0 where
   pub number : t.number ≡ s.number
   pub calls : t.calls ≡ s.calls + 1
   pub fresh : AllBelow t.calls s.own
-  pub lawful : IsLawfulJournal domain t.seen
+  pub lawful : IsLawfulJournal first domain t.seen
   pub seen : IsPrefix s.seen t.seen
   pub learnt : t.learnt ≡ s.learnt
   pub own : calls_of t.number t.seen ≡ t.own
 
 -- and the seat has then seen all that it had learnt of
-pub record CaughtUp (domain : Bytes) (s t : Seated) : Type 0 where
-  pub after_call : AfterCall domain s t
+pub record CaughtUp (first : List Book) (domain : Bytes) (s t : Seated) : Type 0 where
+  pub after_call : AfterCall first domain s t
   pub seen_learnt : IsPrefix s.learnt t.seen
 
 -- and the seat has seen nothing more
-pub record SawNothingNew (domain : Bytes) (s t : Seated) : Type 0 where
-  pub after_call : AfterCall domain s t
+pub record SawNothingNew (first : List Book) (domain : Bytes) (s t : Seated) : Type 0 where
+  pub after_call : AfterCall first domain s t
   pub same : t.seen ≡ s.seen
 
 -- The seat may see what it found: a lawful journal that begins with all that the seat has seen and learnt of. The items of this
 -- seat in it are the seat's own calls.
-pub record MaySeeFound (domain : Bytes) (s : Seated) : Type 0 where
-  pub lawful : IsLawfulJournal domain s.found
+pub record MaySeeFound (first : List Book) (domain : Bytes) (s : Seated) : Type 0 where
+  pub lawful : IsLawfulJournal first domain s.found
   pub seen : IsPrefix s.seen s.found
   pub learnt : IsPrefix s.learnt s.found
   pub own : calls_of s.number s.found ≡ s.own

@@ -2,9 +2,9 @@
 
 ghost use Rattle.std.specs.Prelude.{◌≡◌, IfOk, length, true};
 ghost use mathlib.Core.List.{IsPrefix};
-ghost use Rattle.commit_head.specs.Journals.{IsLawfulJournal, batches_of};
+ghost use Rattle.commit_head.specs.Journals.{IsLawfulJournal, batches_of, place_after};
 ghost use Rattle.entry_book.specs.Batches.{is_query};
-ghost use Rattle.entry_book.specs.History.{books_of, reply_to};
+ghost use Rattle.entry_book.specs.History.{books_from, reply_to};
 ghost use Rattle.shared_registry.specs.WriterStates.{IsPublished};
 
 use crate::history::{History, RegistryId};
@@ -33,7 +33,7 @@ impl<J: RegistryId> Model for ClosedRegistry<J> {
 
     ghost view = { λ c. c.published.value.journal };
 
-    ghost invariant = { λ c. IsPublished J.history J.domain c.history c.published.value };
+    ghost invariant = { λ c. IsPublished J.history J.first J.domain c.history c.published.value };
 }
 
 impl<J: RegistryId> ClosedRegistry<J> {
@@ -41,7 +41,7 @@ impl<J: RegistryId> ClosedRegistry<J> {
 
     /// Makes it of the history and the value that was published last.
     pub(crate) fn of(history: History<J>, published: Box<PublishedValue>) -> ClosedRegistry<J>
-        requires { IsPublished J.history J.domain history published.value }
+        requires { IsPublished J.history J.first J.domain history published.value }
         ensures { result ≡ history }
     {
         ClosedRegistry { history, published }
@@ -50,7 +50,7 @@ impl<J: RegistryId> ClosedRegistry<J> {
     /// Returns the number of its commits.
     pub fn place(&self) -> u64
         ensures place { result ≡ length self.now }
-        ensures lawful { IsLawfulJournal J.domain self.now }
+        ensures lawful { IsLawfulJournal J.first J.domain self.now }
     {
         self.published.prefix::<J>().len()
     }
@@ -59,10 +59,10 @@ impl<J: RegistryId> ClosedRegistry<J> {
     pub fn answer(&self, alloc: Global, batch: &Batch) -> Result<BorrowedReply<'_>, AllocError>
         requires query { is_query batch.now.ops ≡ true }
         requires domain { batch.now.domain ≡ J.domain }
-        ensures answer { IfOk result (λ reply. reply ≡ reply_to batch.now (books_of (batches_of self.now))) }
-        ensures place { IfOk result (λ reply. reply.place ≡ length self.now) }
+        ensures answer { IfOk result (λ reply. reply ≡ reply_to batch.now (books_from J.first (batches_of self.now))) }
+        ensures place { IfOk result (λ reply. reply.place ≡ place_after J.first self.now) }
     {
-        borrowed_answer(alloc, &self.published, batch)
+        borrowed_answer::<J>(alloc, &self.published, batch)
     }
 
     /// Whatever the seat has seen is a prefix of this journal. The contract is the theorem, and the call changes nothing.

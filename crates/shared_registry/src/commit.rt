@@ -70,7 +70,7 @@ fn publish<J: RegistryId, R: Wait>(
     next: PublishedValue,
 ) -> PublishedWriter<J>
     requires clear { drop writer.behind writer.log.items ≡ [] }
-    requires of_it { IsOf J.history J.domain next }
+    requires of_it { IsOf J.history J.first J.domain next }
     requires more { IsPrefix writer.desk.shown.value.journal next.journal }
     ensures shown { result.desk.shown.value ≡ next }
     ensures clear { drop result.behind result.log.items ≡ [] }
@@ -113,11 +113,11 @@ fn snapshots<J: RegistryId>(
     prefix: &HistoryPrefix<J>,
     published_states: (Shared<PublishedState>, Shared<PublishedState>),
 ) -> (PublishedValue, PublishedValue)
-    requires shows { ShowsJournal prefix.now published_states.0.window published_states.0.counts }
+    requires shows { ShowsJournal J.first J.domain prefix.now published_states.0.window }
+    requires counted { IsCounted published_states.0.counts prefix.now }
     requires same { published_states.1 ≡ published_states.0 }
-    ensures history { result.0.history ≡ J.history }
+    ensures of_it { IsOf J.history J.first J.domain result.0 }
     ensures journal { result.0.journal ≡ prefix.now }
-    ensures window { result.0.window ≡ published_states.0.window }
     ensures same { result.1 ≡ result.0 }
 {
     let (published_state, same) = published_states;
@@ -143,18 +143,18 @@ pub(crate) fn decide<J: RegistryId, R: Wait>(
     Result<Commit, NoEntry>,
     Option<PublishedValue>,
 )
-    requires tied { IsTied J.domain history.old head.old }
+    requires tied { IsTied J.first J.domain history.old head.old }
     requires few { length head.old.kept < 4096 }
-    requires published { IsPublished J.history J.domain history.old writer.desk.shown.value }
+    requires published { IsPublished J.history J.first J.domain history.old writer.desk.shown.value }
     requires clear { drop writer.behind writer.log.items ≡ [] }
     requires call { AllBelow seat.old.calls seat.old.own }
     requires ready { status_of work.now ≡ Status.Ready }
-    requires read { IsRead J.domain seat.old.seen work.now.batch work.now }
-    ensures tied { IsTied J.domain history.new head.new }
-    ensures published { IsPublished J.history J.domain history.new result.0.desk.shown.value }
+    requires read { IsRead J.first J.domain seat.old.seen work.now.batch work.now }
+    ensures tied { IsTied J.first J.domain history.new head.new }
+    ensures published { IsPublished J.history J.first J.domain history.new result.0.desk.shown.value }
     ensures clear { drop result.0.behind result.0.log.items ≡ [] }
     ensures during_call { DuringCall seat.old seat.new }
-    ensures decided { IsCommitOutcome history.old history.new seat.old seat.new work.now result.1 }
+    ensures decided { IsCommitOutcome J.first history.old history.new seat.old seat.new work.now result.1 }
     ensures handed_out { HandsOut result.1 result.2 }
     ensures no_entry { IfErr result.1 (λ _. IsMisnumbered history.old seat.old) }
 {

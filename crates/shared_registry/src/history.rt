@@ -2,6 +2,7 @@
 
 ghost use Rattle.std.specs.Prelude.{◌≡◌, ◌+◌, ◌<◌, ◌^◌, ◌++◌, ◌∷◌, ◌⊎◌, [], length, IfSome, IsTrue};
 ghost use mathlib.Core.List.{IsPrefix};
+ghost use Rattle.entry_book.specs.History.{IsFirst};
 ghost use Rattle.commit_head.specs.Journals.{IsLawfulJournal};
 ghost use Rattle.logbook.specs.Pages.{may_write};
 ghost use Rattle.shared_registry.specs.OneList.{AreOneList};
@@ -106,13 +107,17 @@ pub(crate) type SeenEntries = Seen<HistoryEntry, u64, HistoryRule>;
 /// A request to a word of the history.
 type HistoryOffer = Offer<HistoryEntry, u64, HistoryRule, NoGain>;
 
-/// Identifies a registry in the proofs, by its history and the trust domain of its book. A program picks both when it makes a
-/// registry. Seats, receipts and registries of one registry belong together.
+/// Identifies a registry in the proofs, by its history, the books with which that begins, and the trust domain of its books. A
+/// program picks these when it makes a registry. Seats, receipts and registries of one registry belong together.
 pub trait RegistryId {
+    ghost use Rattle.std.specs.Prelude.{List};
     ghost use Rattle.logbook.specs.Pages.{Book};
+    ghost use Rattle.entry_book.specs.Book.{Book as BookRows};
     ghost use Rattle.entry_book.specs.Rows.{Bytes};
 
     ghost history: { Book };
+
+    ghost first: { List BookRows };
 
     ghost domain: { Bytes };
 }
@@ -123,6 +128,8 @@ impl RegistryId for Brand {
     ghost use Rattle.std.specs.Prelude.{[]};
 
     ghost history = { record { number = 0; log_name = 0; cells_name = 0 } };
+
+    ghost first = { [] };
 
     ghost domain = { [] };
 }
@@ -173,7 +180,8 @@ impl NewHistory {
     /// Returns the history as that of the registry `J`, with the right to append to it. It is `None` if that right was taken
     /// before. At run time nobody can have taken it, but the contracts of `logbook` don't exclude it.
     pub(crate) fn into_history<J: RegistryId>(self) -> Option<History<J>>
-        requires { self.seen.book ≡ J.history }
+        requires history { self.seen.book ≡ J.history }
+        requires first { IsFirst J.domain J.first }
         ensures { IfSome result (λ h. h ≡ []) }
     {
         let NewHistory {
@@ -221,7 +229,7 @@ impl<J: RegistryId> Model for History<J> {
 
     ghost view = { λ h. items_of h.seen.log };
 
-    ghost invariant = { λ h. (h.count ≡ word_of 0 J.history) × (h.pens ≡ word_of 1 J.history) × (h.seen.book ≡ J.history) × (h.pen.book ≡ J.history) × (h.pen.nib.right ≡ may_write) × (h.pen.nib.key ≡ right_after 2 h.seen.log) × (h.items ≡ length (items_of h.seen.log)) × IsLawfulJournal J.domain (items_of h.seen.log) };
+    ghost invariant = { λ h. (h.count ≡ word_of 0 J.history) × (h.pens ≡ word_of 1 J.history) × (h.seen.book ≡ J.history) × (h.pen.book ≡ J.history) × (h.pen.nib.right ≡ may_write) × (h.pen.nib.key ≡ right_after 2 h.seen.log) × (h.items ≡ length (items_of h.seen.log)) × IsLawfulJournal J.first J.domain (items_of h.seen.log) };
 }
 
 /// Says of which registry a history is. It has no bytes.
@@ -255,7 +263,7 @@ impl<J: RegistryId> History<J> {
     /// Appends an item. It never fails.
     pub(crate) fn append(&mut self, item: &Item)
         requires room { length self.old < 2 ^ 62 }
-        requires lawful { IsLawfulJournal J.domain (self.old ++ item.now ∷ []) }
+        requires lawful { IsLawfulJournal J.first J.domain (self.old ++ item.now ∷ []) }
         ensures { self.new ≡ self.old ++ item.now ∷ [] }
     {
         let (_found, next) = make_pen(&self.pens, &self.seen);
@@ -314,14 +322,14 @@ impl<J: RegistryId> Model for HistoryPrefix<J> {
 
     ghost view = { λ f. items_of f.seen.log };
 
-    ghost invariant = { λ f. (f.items ≡ length (items_of f.seen.log)) × (f.seen.book ≡ J.history) × IsLawfulJournal J.domain (items_of f.seen.log) };
+    ghost invariant = { λ f. (f.items ≡ length (items_of f.seen.log)) × (f.seen.book ≡ J.history) × IsLawfulJournal J.first J.domain (items_of f.seen.log) };
 }
 
 impl<J: RegistryId> HistoryPrefix<J> {
     /// Returns the number of its items.
     pub(crate) fn len(&self) -> u64
         ensures length { result ≡ length self.now }
-        ensures lawful { IsLawfulJournal J.domain self.now }
+        ensures lawful { IsLawfulJournal J.first J.domain self.now }
     {
         self.items
     }
@@ -368,7 +376,7 @@ impl<J: RegistryId> HistoryPrefix<J> {
 
     /// Makes the prefix of a token with this number of items.
     pub(crate) fn of(items: u64, seen: SeenEntries) -> HistoryPrefix<J>
-        requires { (seen.book ≡ J.history) × (items ≡ length (items_of seen.log)) × IsLawfulJournal J.domain (items_of seen.log) }
+        requires { (seen.book ≡ J.history) × (items ≡ length (items_of seen.log)) × IsLawfulJournal J.first J.domain (items_of seen.log) }
         ensures { result ≡ items_of seen.log }
     {
         HistoryPrefix {

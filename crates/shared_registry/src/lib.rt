@@ -70,6 +70,7 @@ pub use gate::{Gate, OpenGate, Point};
 pub use history::{History, HistoryPrefix, NewHistory, RegistryId};
 pub use laws::{
     commits_law, conflicts_take_commits, one_list, one_list_of_receipts, one_list_with_receipt,
+    repeats_law,
 };
 pub use outcome::Outcome;
 pub use published::PublishedValue;

@@ -3,6 +3,7 @@
 ghost use Rattle.std.specs.Prelude.{◌≡◌, ◌+◌, ◌≤◌, ◌<◌, ◌^◌, ◌++◌, ◌∷◌, [], length, IfOk, IfSome};
 ghost use Rattle.commit_head.specs.Heads.{IsJournal};
 ghost use Rattle.shared_registry.specs.SeatCalls.{calls_of};
+ghost use Rattle.entry_book.specs.History.{IsFirst};
 ghost use Rattle.shared_registry.specs.ShownPrivate.{IsCounted, IsOf, ShowsJournal};
 
 use crate::history::{HistoryPrefix, RegistryId, SeenEntries};
@@ -34,26 +35,27 @@ impl Model for PublishedValue {
     ghost use Rattle.std.specs.Prelude.{◌≡◌, length};
     ghost use Rattle.shared_registry.specs.Rules.{items_of};
     ghost use Rattle.shared_registry.specs.Shown.{Shown};
-    ghost use Rattle.shared_registry.specs.ShownPrivate.{ShowsJournal};
+    ghost use Rattle.shared_registry.specs.ShownPrivate.{IsCounted, ShowsSome};
 
     ghost Value = { Shown };
 
     ghost view = { λ p. record { history = p.seen.book; journal = items_of p.seen.log; window = p.published_state.window } };
 
-    ghost invariant = { λ p. (p.items ≡ length (items_of p.seen.log)) × ShowsJournal (items_of p.seen.log) p.published_state.window p.published_state.counts };
+    ghost invariant = { λ p. (p.items ≡ length (items_of p.seen.log)) × ShowsSome (items_of p.seen.log) p.published_state.window × IsCounted p.published_state.counts (items_of p.seen.log) };
 }
 
 impl PublishedValue {
     ghost use Rattle.std.specs.Prelude.{◌≡◌, ◌≤◌, ◌^◌, length, IfOk, IfSome};
-    ghost use Rattle.shared_registry.specs.ShownPrivate.{IsOf, ShowsJournal, whole_head};
+    ghost use Rattle.shared_registry.specs.ShownPrivate.{IsCounted, IsOf, ShowsJournal};
 
     /// Makes the published value of the prefix's journal, with the published state that shows it.
     pub(crate) fn of<J: RegistryId>(
         prefix: &HistoryPrefix<J>,
         published_state: Shared<PublishedState>,
     ) -> PublishedValue
-        requires shows { ShowsJournal prefix.now published_state.window published_state.counts }
-        ensures history { result.history ≡ J.history }
+        requires shows { ShowsJournal J.first J.domain prefix.now published_state.window }
+        requires counted { IsCounted published_state.counts prefix.now }
+        ensures of_it { IsOf J.history J.first J.domain result }
         ensures journal { result.journal ≡ prefix.now }
         ensures window { result.window ≡ published_state.window }
     {
@@ -66,7 +68,7 @@ impl PublishedValue {
 
     /// Returns the journal, as a prefix.
     pub(crate) fn prefix<J: RegistryId>(&self) -> HistoryPrefix<J>
-        requires { IsOf J.history J.domain self.now }
+        requires { IsOf J.history J.first J.domain self.now }
         ensures { result ≡ self.now.journal }
     {
         HistoryPrefix::of(self.items, self.seen.again())
@@ -76,7 +78,6 @@ impl PublishedValue {
     pub(crate) fn window(&self) -> &SharedWindow
         ensures window { result.now ≡ self.now.window }
         ensures low { self.now.window.newest.number ≤ 2 ^ 48 }
-        ensures journal { IsJournal self.now.journal (whole_head self.now.window self.now.journal) }
     {
         &self.published_state.get().window
     }
@@ -137,9 +138,11 @@ pub(crate) fn opening<J: RegistryId>(
     head: &Head,
 ) -> Result<PublishedValue, AllocError>
     requires prefix { prefix.now ≡ [] }
-    requires head { IsJournal [] head.now }
+    requires first { IsFirst J.domain J.first }
+    requires domain { head.now.window.newest.domain ≡ J.domain }
+    requires head { IsJournal J.first [] head.now }
     requires alone { head.now.window.older ≡ [] }
-    ensures { IfOk result (λ p. (p.history ≡ J.history) × (p.journal ≡ []) × (p.window ≡ head.now.window)) }
+    ensures { IfOk result (λ p. IsOf J.history J.first J.domain p × (p.journal ≡ [])) }
 {
     let newest = head.window().newest().clone()?;
     let published_state = PublishedState {

@@ -3,8 +3,8 @@
 ghost use Rattle.std.specs.Prelude.{◌≡◌, ◌<◌, length, unwrap_or, Err, IfErr, IfOk, IfSome, IsSome, IsTrue, Ok, true};
 ghost use mathlib.Core.List.{IsPrefix};
 ghost use Rattle.entry_book.specs.Batches.{is_query};
-ghost use Rattle.entry_book.specs.History.{books_of, reply_to};
-ghost use Rattle.commit_head.specs.Journals.{batches_of};
+ghost use Rattle.entry_book.specs.History.{books_from, reply_to};
+ghost use Rattle.commit_head.specs.Journals.{batches_of, place_after};
 ghost use Rattle.shared_registry.specs.SeatCalls.{calls_of};
 ghost use Rattle.shared_registry.specs.ShownPrivate.{IsOf};
 
@@ -31,9 +31,9 @@ fn replace_snapshot<J: RegistryId>(
     snapshot: &mut PublishedValue,
     found: Found,
 ) -> Result<(), NoAnswer>
-    requires snapshot { IsOf J.history J.domain snapshot.old }
-    requires found { IfOk found (λ copied. IfOk copied (λ newer. IfSome newer (IsOf J.history J.domain))) }
-    ensures snapshot { IsOf J.history J.domain snapshot.new }
+    requires snapshot { IsOf J.history J.first J.domain snapshot.old }
+    requires found { IfOk found (λ copied. IfOk copied (λ newer. IfSome newer (IsOf J.history J.first J.domain))) }
+    ensures snapshot { IsOf J.history J.first J.domain snapshot.new }
     ensures replaced { IfOk found (λ copied. IfOk copied (λ newer. (result ≡ Ok tt) × (snapshot.new ≡ unwrap_or newer snapshot.old))) }
     ensures no_memory { IfOk found (λ copied. IfErr copied (λ _. (result ≡ Err NoAnswer.NoMemory) × (snapshot.new ≡ snapshot.old))) }
     ensures no_entry { IfErr found (λ _. (result ≡ Err NoAnswer.NoEntry) × (snapshot.new ≡ snapshot.old)) }
@@ -51,7 +51,7 @@ fn replace_snapshot<J: RegistryId>(
 
 /// Looks once at the published state, and copies it if it has another number of items than the snapshot.
 fn look<J: RegistryId>(reader: SeatReader<J>, snapshot: &PublishedValue) -> (SeatReader<J>, Found)
-    ensures { IfOk result.1 (λ copied. IfOk copied (λ newer. IfSome newer (IsOf J.history J.domain))) }
+    ensures { IfOk result.1 (λ copied. IfOk copied (λ newer. IfSome newer (IsOf J.history J.first J.domain))) }
 {
     match reader.enter_as::<Sees<J>>() {
         Ok(reading) => {
@@ -71,7 +71,7 @@ fn continues<J: RegistryId>(
     count: u64,
 ) -> bool
     requires number { number < 32 }
-    requires snapshot { IsOf J.history J.domain published.now }
+    requires snapshot { IsOf J.history J.first J.domain published.now }
     ensures seen { IsTrue result → IsPrefix seen.now published.now.journal }
     ensures learnt { IsTrue result → IsPrefix learnt.now published.now.journal }
     ensures count { IsTrue result → length (calls_of number published.now.journal) ≡ count }
@@ -100,9 +100,9 @@ impl<J: RegistryId> SeatView<J> {
     pub(crate) fn find(&mut self) -> Result<HistoryPrefix<J>, NoAnswer>
         requires reader { IsSome self.old.reader }
         requires number { self.old.number < 32 }
-        requires snapshot { IsOf J.history J.domain self.old.snapshot }
+        requires snapshot { IsOf J.history J.first J.domain self.old.snapshot }
         ensures reader { IsSome self.new.reader }
-        ensures snapshot { IsOf J.history J.domain self.new.snapshot }
+        ensures snapshot { IsOf J.history J.first J.domain self.new.snapshot }
         ensures same { self.new ≡ record self.old { reader = self.new.reader; snapshot = self.new.snapshot } }
         ensures found { IfOk result (λ prefix. prefix ≡ self.new.snapshot.journal) }
         ensures seen { IfOk result (λ prefix. IsPrefix self.old.seen prefix) }
@@ -130,15 +130,16 @@ impl<J: RegistryId> SeatView<J> {
 }
 
 /// Returns the answer to a query on the published state, which borrows the rows. The error is out of memory.
-pub(crate) fn borrowed_answer<'a>(
+pub(crate) fn borrowed_answer<'a, J: RegistryId>(
     alloc: Global,
     snapshot: &'a PublishedValue,
     batch: &Batch,
 ) -> Result<BorrowedReply<'a>, AllocError>
     requires query { is_query batch.now.ops ≡ true }
-    requires domain { batch.now.domain ≡ snapshot.now.window.newest.domain }
-    ensures answer { IfOk result (λ reply. reply ≡ reply_to batch.now (books_of (batches_of snapshot.now.journal))) }
-    ensures place { IfOk result (λ reply. reply.place ≡ length snapshot.now.journal) }
+    requires domain { batch.now.domain ≡ J.domain }
+    requires snapshot { IsOf J.history J.first J.domain snapshot.now }
+    ensures answer { IfOk result (λ reply. reply ≡ reply_to batch.now (books_from J.first (batches_of snapshot.now.journal))) }
+    ensures place { IfOk result (λ reply. reply.place ≡ place_after J.first snapshot.now.journal) }
 {
     let _ = batch.ops();
     answer(alloc, batch, snapshot.window())

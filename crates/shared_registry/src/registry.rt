@@ -3,8 +3,8 @@
 ghost use Rattle.std.specs.Prelude.{◌≡◌, ◌<◌, ◌≤◌, ◌^◌, [], length, IfOk, MatchResult, true, false};
 ghost use mathlib.Core.List.{IsPrefix};
 ghost use Rattle.entry_book.specs.Batches.{is_query};
-ghost use Rattle.entry_book.specs.History.{books_of, reply_to};
-ghost use Rattle.commit_head.specs.Journals.{IsLawfulJournal, batches_of};
+ghost use Rattle.entry_book.specs.History.{books_from, first_books, reply_to};
+ghost use Rattle.commit_head.specs.Journals.{IsLawfulJournal, batches_of, place_after};
 ghost use Rattle.batch_work.specs.Working.{HasReplies, status_of};
 ghost use Rattle.shared_registry.specs.Outcomes.{HasSeenLearnt, IsSubmitted, TookCommits};
 ghost use Rattle.shared_registry.specs.OutcomesPrivate.{HandsOut, WasDecided, IsNotConflict, IsTry};
@@ -32,11 +32,11 @@ const MOST_SEATS: usize = 32;
 
 /// Returns the outcome of a batch of changes with nothing to commit: it is refused, or was committed before.
 fn outcome_of_settled<J: RegistryId>(seat: &Seat<J>, work: Work) -> Outcome
-    requires read { IsRead J.domain seat.now.seen work.batch work }
+    requires read { IsRead J.first J.domain seat.now.seen work.batch work }
     requires changes { is_query work.batch.ops ≡ false }
     requires unready { status_of work ≡ Status.Ready → ⊥ }
     ensures over { IsNotConflict result }
-    ensures answer { IsSubmitted seat.now seat.now work.batch 0 result }
+    ensures answer { IsSubmitted J.first seat.now seat.now work.batch 0 result }
 {
     let _place = seat.place();
     let _made = work.batch().ops();
@@ -68,6 +68,7 @@ impl<J: RegistryId> Registry<J> {
         domain: TrustDomain,
     ) -> Result<Registry<J>, AllocError>
         requires history { new_history.seen.book ≡ J.history }
+        requires first { J.first ≡ first_books }
         requires domain { domain ≡ J.domain }
     {
         Registry::with_seats(alloc, new_history, domain, MOST_SEATS)
@@ -82,6 +83,7 @@ impl<J: RegistryId> Registry<J> {
         seats: usize,
     ) -> Result<Registry<J>, AllocError>
         requires history { new_history.seen.book ≡ J.history }
+        requires first { J.first ≡ first_books }
         requires domain { domain ≡ J.domain }
         requires seats { 0 < seats }
     {
@@ -112,9 +114,9 @@ impl<J: RegistryId> Registry<J> {
         requires has_calls { seat.old.calls < 2 ^ 48 }
         requires query { is_query batch.now.ops ≡ true }
         requires domain { batch.now.domain ≡ J.domain }
-        ensures answer { IfOk result (λ reply. reply ≡ reply_to batch.now (books_of (batches_of seat.new.seen))) }
-        ensures place { IfOk result (λ reply. reply.place ≡ length seat.new.seen) }
-        ensures entered { MatchResult result (λ _. CaughtUp J.domain seat.old seat.new) (λ _. SawNothingNew J.domain seat.old seat.new) }
+        ensures answer { IfOk result (λ reply. reply ≡ reply_to batch.now (books_from J.first (batches_of seat.new.seen))) }
+        ensures place { IfOk result (λ reply. reply.place ≡ place_after J.first seat.new.seen) }
+        ensures entered { MatchResult result (λ _. CaughtUp J.first J.domain seat.old seat.new) (λ _. SawNothingNew J.first J.domain seat.old seat.new) }
         ensures own { seat.new.own ≡ seat.old.own }
     {
         seat.query(batch)
@@ -135,9 +137,9 @@ impl<J: RegistryId> Registry<J> {
         requires changes { is_query batch.ops ≡ false }
         requires domain { batch.domain ≡ J.domain }
         requires tries { 0 < tries }
-        ensures after_call { AfterCall J.domain seat.old seat.new }
+        ensures after_call { AfterCall J.first J.domain seat.old seat.new }
         ensures seen_learnt { HasSeenLearnt seat.old seat.new result }
-        ensures answer { IsSubmitted seat.old seat.new batch tries result }
+        ensures answer { IsSubmitted J.first seat.old seat.new batch tries result }
         ensures commits { TookCommits seat.old seat.new tries result }
     {
         seat.take_call();
@@ -171,7 +173,7 @@ impl<J: RegistryId> Registry<J> {
         requires changes { is_query batch.ops ≡ false }
         requires domain { batch.domain ≡ J.domain }
         ensures during_call { DuringCall seat.old seat.new }
-        ensures tried { IsTry seat.old seat.new batch result }
+        ensures tried { IsTry J.first seat.old seat.new batch result }
     {
         let work = match seat.read(gate, batch) {
             Ok(work) => work,
@@ -199,11 +201,11 @@ impl<J: RegistryId> Registry<J> {
     ) -> Result<Outcome, (u64, Batch)>
         requires below { AllBelow seat.old.calls seat.old.own }
         requires ready { status_of work ≡ Status.Ready }
-        requires read { IsRead J.domain seat.old.seen work.batch work }
+        requires read { IsRead J.first J.domain seat.old.seen work.batch work }
         requires replies { HasReplies work replies }
         requires seen_learnt { IsPrefix seat.old.learnt seat.old.seen }
         ensures during_call { DuringCall seat.old seat.new }
-        ensures tried { IsTry seat.old seat.new work.batch result }
+        ensures tried { IsTry J.first seat.old seat.new work.batch result }
     {
         let (number, call) = (seat.number(), seat.calls());
         let (decided, replaced) = self.commit_locked(rt, seat, gate, &work);
@@ -232,9 +234,9 @@ impl<J: RegistryId> Registry<J> {
     ) -> (Result<Commit, NoEntry>, Option<Replaced>)
         requires below { AllBelow seat.old.calls seat.old.own }
         requires ready { status_of work.now ≡ Status.Ready }
-        requires read { IsRead J.domain seat.old.seen work.now.batch work.now }
+        requires read { IsRead J.first J.domain seat.old.seen work.now.batch work.now }
         ensures during_call { DuringCall seat.old seat.new }
-        ensures decided { WasDecided seat.old seat.new work.now result.0 }
+        ensures decided { WasDecided J.first seat.old seat.new work.now result.0 }
         ensures handed_out { HandsOut result.0 result.1 }
     {
         let mut state = self.state.lock(rt);
@@ -248,7 +250,7 @@ impl<J: RegistryId> Registry<J> {
     /// waits for the lock, and no clause says when it gets it.
     pub fn news<R: Wait>(&self, rt: &R, seat: &mut Seat<J>) -> Result<Receipt<J>, NoEntry>
         ensures during_call { DuringCall seat.old seat.new }
-        ensures lawful { IsLawfulJournal J.domain seat.new.seen }
+        ensures lawful { IsLawfulJournal J.first J.domain seat.new.seen }
         ensures own { (seat.new.own ≡ seat.old.own) × (calls_of seat.new.number seat.new.seen ≡ seat.new.own) }
         ensures seen_learnt { IfOk result (λ _. IsPrefix seat.old.learnt seat.new.seen) }
         ensures receipt { MatchResult result (λ r. r ≡ seat.new.seen) (λ _. seat.new.seen ≡ seat.old.seen) }
@@ -263,7 +265,7 @@ impl<J: RegistryId> Registry<J> {
     /// Returns the receipt of every item so far. The contract says of it that it begins with all that this seat has seen and learnt
     /// of. It is never refused. It waits for the lock, and no clause says when it gets it.
     pub fn receipt<R: Wait>(&self, rt: &R, seat: &Seat<J>) -> Receipt<J>
-        ensures lawful { IsLawfulJournal J.domain result }
+        ensures lawful { IsLawfulJournal J.first J.domain result }
         ensures seen { IsPrefix seat.now.seen result }
         ensures learnt { IsPrefix seat.now.learnt result }
     {

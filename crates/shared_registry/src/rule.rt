@@ -18,7 +18,7 @@ impl<J: RegistryId> Protocol<PublishedValue, View> for PublishedRule<J> {
     ghost use Rattle.std.specs.Prelude.{[]};
     ghost use Rattle.shared_registry.specs.ShownPrivate.{RuleInvariant};
 
-    ghost holds = { λ x views. RuleInvariant J.history J.domain x views };
+    ghost holds = { λ x views. RuleInvariant J.history J.first J.domain x views };
 
     ghost first = { [] };
 }
@@ -30,5 +30,5 @@ pub struct Sees<J: RegistryId>(PhantomData<J>);
 impl<J: RegistryId> Outcome<PublishedValue, View> for Sees<J> {
     ghost use Rattle.shared_registry.specs.ShownPrivate.{Saw};
 
-    ghost then = { λ v x y w. Saw J.history J.domain v y w };
+    ghost then = { λ v x y w. Saw J.history J.first J.domain v y w };
 }

@@ -3,8 +3,8 @@
 ghost use Rattle.std.specs.Prelude.{◌≡◌, ◌<◌, ◌+◌, ◌++◌, ◌∷◌, ◌^◌, [], length, IfOk, IsSome, MatchBool, MatchResult, true, ◌≢◌};
 ghost use mathlib.Core.List.{IsPrefix};
 ghost use Rattle.entry_book.specs.Batches.{is_query};
-ghost use Rattle.entry_book.specs.History.{books_of, reply_to};
-ghost use Rattle.commit_head.specs.Journals.{IsLawfulJournal, batches_of};
+ghost use Rattle.entry_book.specs.History.{books_from, reply_to};
+ghost use Rattle.commit_head.specs.Journals.{IsLawfulJournal, batches_of, place_after};
 ghost use Rattle.shared_registry.specs.SeatCalls.{calls_of, AllBelow};
 ghost use Rattle.shared_registry.specs.Seated.{CaughtUp, DuringCall, MaySeeFound, SawNothingNew};
 ghost use Rattle.shared_registry.specs.ShownPrivate.{IsOf};
@@ -73,7 +73,7 @@ impl<J: RegistryId> Receipt<J> {
     /// Returns the number of its items.
     pub fn place(&self) -> u64
         ensures place { result ≡ length self.now }
-        ensures lawful { IsLawfulJournal J.domain self.now }
+        ensures lawful { IsLawfulJournal J.first J.domain self.now }
     {
         self.seen.len()
     }
@@ -101,7 +101,7 @@ impl<J: RegistryId> Model for Seat<J> {
 
     ghost view = { λ s. record { number = s.view.number; calls = s.calls; seen = s.view.seen; learnt = s.view.learnt; own = calls_of s.view.number s.view.seen; found = s.view.snapshot.journal } };
 
-    ghost invariant = { λ s. (s.view.number < 32) × (s.view.count ≡ length (calls_of s.view.number s.view.seen)) × AllBelow (s.calls + 1) (calls_of s.view.number s.view.seen) × IsSome s.view.reader × IsOf J.history J.domain s.view.snapshot };
+    ghost invariant = { λ s. (s.view.number < 32) × (s.view.count ≡ length (calls_of s.view.number s.view.seen)) × AllBelow (s.calls + 1) (calls_of s.view.number s.view.seen) × IsSome s.view.reader × IsOf J.history J.first J.domain s.view.snapshot };
 }
 
 impl<J: RegistryId> Seat<J> {
@@ -111,7 +111,7 @@ impl<J: RegistryId> Seat<J> {
     /// Returns the number of items that it has seen.
     pub fn place(&self) -> u64
         ensures place { result ≡ length self.now.seen }
-        ensures lawful { IsLawfulJournal J.domain self.now.seen }
+        ensures lawful { IsLawfulJournal J.first J.domain self.now.seen }
         ensures own { calls_of self.now.number self.now.seen ≡ self.now.own }
         ensures below { AllBelow (self.now.calls + 1) self.now.own }
     {
@@ -164,7 +164,7 @@ impl<J: RegistryId> Seat<J> {
     ) -> Seat<J>
         requires number { number < 32 }
         requires start { start.now ≡ [] }
-        requires snapshot { IsOf J.history J.domain snapshot }
+        requires snapshot { IsOf J.history J.first J.domain snapshot }
         ensures { (result.seen ≡ []) × (result.learnt ≡ []) × (result.own ≡ []) × (result.calls ≡ 0) }
     {
         Seat {
@@ -227,7 +227,7 @@ impl<J: RegistryId> Seat<J> {
 
     /// Replaces the snapshot, and returns the one before.
     pub(crate) fn replace_snapshot(&mut self, snapshot: PublishedValue) -> PublishedValue
-        requires snapshot { IsOf J.history J.domain snapshot }
+        requires snapshot { IsOf J.history J.first J.domain snapshot }
         ensures { self.new ≡ record self.old { found = snapshot.journal } }
     {
         replace(&mut self.view.snapshot, snapshot)
@@ -249,7 +249,7 @@ impl<J: RegistryId> Seat<J> {
         ensures during_call { DuringCall self.old self.new }
         ensures own { self.new.own ≡ self.old.own }
         ensures seen_learnt { IfOk result (λ _. IsPrefix self.old.learnt self.new.seen) }
-        ensures read { IfOk result (IsRead J.domain self.new.seen batch) }
+        ensures read { IfOk result (IsRead J.first J.domain self.new.seen batch) }
     {
         let found = self.view.find();
         let prefix = match found {
@@ -277,8 +277,8 @@ impl<J: RegistryId> Seat<J> {
     /// and see it. It waits for no other thread.
     pub fn look(&mut self) -> Result<(), NoAnswer>
         requires has_calls { self.old.calls < 2 ^ 48 }
-        ensures found { IfOk result (λ _. MaySeeFound J.domain self.new) }
-        ensures is_unchanged { SawNothingNew J.domain self.old self.new }
+        ensures found { IfOk result (λ _. MaySeeFound J.first J.domain self.new) }
+        ensures is_unchanged { SawNothingNew J.first J.domain self.old self.new }
         ensures own { self.new.own ≡ self.old.own }
     {
         let _before = self.view.seen.len();
@@ -297,18 +297,18 @@ impl<J: RegistryId> Seat<J> {
     /// The seat must have found it by a look or by its own commit. It waits for no other thread. The only error is a failed
     /// allocation.
     pub fn answer(&self, batch: &Batch) -> Result<BorrowedReply<'_>, AllocError>
-        requires found { MaySeeFound J.domain self.now }
+        requires found { MaySeeFound J.first J.domain self.now }
         requires query { is_query batch.now.ops ≡ true }
         requires domain { batch.now.domain ≡ J.domain }
-        ensures answer { IfOk result (λ reply. reply ≡ reply_to batch.now (books_of (batches_of self.now.found))) }
-        ensures place { IfOk result (λ reply. reply.place ≡ length self.now.found) }
+        ensures answer { IfOk result (λ reply. reply ≡ reply_to batch.now (books_from J.first (batches_of self.now.found))) }
+        ensures place { IfOk result (λ reply. reply.place ≡ place_after J.first self.now.found) }
     {
         borrowed_answer(self.alloc, &self.view.snapshot, batch)
     }
 
     /// Lets the seat see what it has found. Takes no memory.
     pub fn see_found(&mut self)
-        requires found { MaySeeFound J.domain self.old }
+        requires found { MaySeeFound J.first J.domain self.old }
         ensures { self.new ≡ record self.old { seen = self.old.found } }
     {
         self.view.seen = self.view.snapshot.prefix();
@@ -320,9 +320,9 @@ impl<J: RegistryId> Seat<J> {
         requires has_calls { self.old.calls < 2 ^ 48 }
         requires query { is_query batch.now.ops ≡ true }
         requires domain { batch.now.domain ≡ J.domain }
-        ensures answer { IfOk result (λ reply. reply ≡ reply_to batch.now (books_of (batches_of self.new.seen))) }
-        ensures place { IfOk result (λ reply. reply.place ≡ length self.new.seen) }
-        ensures entered { MatchResult result (λ _. CaughtUp J.domain self.old self.new) (λ _. SawNothingNew J.domain self.old self.new) }
+        ensures answer { IfOk result (λ reply. reply ≡ reply_to batch.now (books_from J.first (batches_of self.new.seen))) }
+        ensures place { IfOk result (λ reply. reply.place ≡ place_after J.first self.new.seen) }
+        ensures entered { MatchResult result (λ _. CaughtUp J.first J.domain self.old self.new) (λ _. SawNothingNew J.first J.domain self.old self.new) }
         ensures own { self.new.own ≡ self.old.own }
     {
         self.look()?;
@@ -338,11 +338,11 @@ impl<J: RegistryId> Seat<J> {
     /// Returns the answer to a query, on the books of what the seat has found. The answer owns its rows. The only error is
     /// a failed allocation.
     fn owned_answer(&self, batch: &Batch) -> Result<Answer, AllocError>
-        requires found { MaySeeFound J.domain self.now }
+        requires found { MaySeeFound J.first J.domain self.now }
         requires query { is_query batch.now.ops ≡ true }
         requires domain { batch.now.domain ≡ J.domain }
-        ensures answer { IfOk result (λ reply. reply ≡ reply_to batch.now (books_of (batches_of self.now.found))) }
-        ensures place { IfOk result (λ reply. reply.place ≡ length self.now.found) }
+        ensures answer { IfOk result (λ reply. reply ≡ reply_to batch.now (books_from J.first (batches_of self.now.found))) }
+        ensures place { IfOk result (λ reply. reply.place ≡ place_after J.first self.now.found) }
     {
         let borrowed = self.answer(batch)?;
         let reply = borrowed.to_owned(self.alloc);

@@ -3,6 +3,7 @@
 ghost use Rattle.std.specs.Prelude.{◌≡◌, [], IfErr, IfOk, MatchResult};
 ghost use mathlib.Core.List.{IsPrefix};
 ghost use Rattle.batch_work.specs.Working.{status_of};
+ghost use Rattle.entry_book.specs.History.{first_books};
 ghost use Rattle.commit_head.specs.Journals.{IsLawfulJournal};
 ghost use Rattle.shared_registry.specs.OutcomesPrivate.{HandsOut, IsCommitOutcome, IsMisnumbered};
 ghost use Rattle.shared_registry.specs.Seated.{DuringCall};
@@ -57,7 +58,7 @@ impl<J: RegistryId> Model for WriterState<J> {
 
     ghost view = { λ c. c.history };
 
-    ghost invariant = { λ c. IsTied J.domain c.history c.head × (64 ≤ vec_capacity c.older) × (c.most ≤ 32) × (c.start ≡ []) × IsSome c.writer × IfSome c.writer (λ w. IsPublished J.history J.domain c.history w.desk.shown.value × (drop w.behind w.log.items ≡ [])) };
+    ghost invariant = { λ c. IsTied J.first J.domain c.history c.head × (64 ≤ vec_capacity c.older) × (c.most ≤ 32) × (c.start ≡ []) × IsSome c.writer × IfSome c.writer (λ w. IsPublished J.history J.first J.domain c.history w.desk.shown.value × (drop w.behind w.log.items ≡ [])) };
 }
 
 impl<J: RegistryId> WriterState<J> {
@@ -71,6 +72,7 @@ impl<J: RegistryId> WriterState<J> {
         most: usize,
     ) -> Result<WriterState<J>, AllocError>
         requires history { history ≡ [] }
+        requires first { J.first ≡ first_books }
         requires domain { domain ≡ J.domain }
         requires most { (0 < most) × (most ≤ 32) }
         ensures { IfOk result (λ c. c ≡ []) }
@@ -143,7 +145,7 @@ impl<J: RegistryId> WriterState<J> {
     pub(crate) fn receipt(&mut self, seat: &Seat<J>) -> Receipt<J>
         ensures same { self.new ≡ self.old }
         ensures all { result ≡ self.old }
-        ensures lawful { IsLawfulJournal J.domain result }
+        ensures lawful { IsLawfulJournal J.first J.domain result }
         ensures seen { IsPrefix seat.now.seen result }
         ensures learnt { IsPrefix seat.now.learnt result }
     {
@@ -166,9 +168,9 @@ impl<J: RegistryId> WriterState<J> {
     ) -> (Result<Commit, NoEntry>, Option<Replaced>)
         requires call { AllBelow seat.old.calls seat.old.own }
         requires ready { status_of work.now ≡ Status.Ready }
-        requires read { IsRead J.domain seat.old.seen work.now.batch work.now }
+        requires read { IsRead J.first J.domain seat.old.seen work.now.batch work.now }
         ensures during_call { DuringCall seat.old seat.new }
-        ensures decided { IsCommitOutcome self.old self.new seat.old seat.new work.now result.0 }
+        ensures decided { IsCommitOutcome J.first self.old self.new seat.old seat.new work.now result.0 }
         ensures handed_out { HandsOut result.0 result.1 }
     {
         let Some(writer) = self.writer.take() else {

@@ -1,6 +1,7 @@
 //! Runs a script or a talk, at a site of its own.
 
 ghost use Rattle.std.specs.Prelude.{◌≡◌};
+ghost use Rattle.entry_book.specs.History.{first_books};
 
 use crate::failed::{Failed, as_fail};
 use crate::history::explains;
@@ -47,6 +48,7 @@ fn plays_at<J: RegistryId + Send + Sync, R: Threads + Wait + Clock + Abort + Pri
     play: Play,
 ) -> Result<(), Failed>
     requires history { new_history.seen.book ≡ J.history }
+    requires first { J.first ≡ first_books }
     requires domain { (domain ≡ J.domain) × (own_domain ≡ J.domain) }
 {
     let site = Site::<J, R>::open(rt, alloc, new_history, domain, own_domain, seats)?;

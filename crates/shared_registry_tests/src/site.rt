@@ -1,6 +1,7 @@
 //! A registry of `ex.org`, on which threads run batches, and the letters between its seats.
 
 ghost use Rattle.std.specs.Prelude.{◌≡◌};
+ghost use Rattle.entry_book.specs.History.{first_books};
 
 use crate::failed::Failed;
 use crate::talks::THREADS;
@@ -10,6 +11,7 @@ use entry_book::Batch;
 use shared_registry::{
     Answer, ClosedRegistry, Gate, NewHistory, OpenGate, Outcome, Receipt, Registry, RegistryId,
     Seat, commits_law, conflicts_take_commits, one_list_of_receipts, one_list_with_receipt,
+    repeats_law,
 };
 use spiffe_name::TrustDomain;
 use std::alloc::Global;
@@ -100,6 +102,7 @@ fn query_after<J: RegistryId, R: Wait>(
     }
     commits_law();
     conflicts_take_commits();
+    repeats_law();
     match registry.submit(rt, seat, &OpenGate, changes, 1) {
         Outcome::Committed(_) => {
             let borrowed = seat.answer(query)?;
@@ -177,6 +180,7 @@ impl<'a, J: RegistryId, R: Wait + Clock> Site<'a, J, R> {
         seats: Option<usize>,
     ) -> Result<Site<'a, J, R>, Failed>
         requires history { new_history.seen.book ≡ J.history }
+        requires first { J.first ≡ first_books }
         requires domain { (domain ≡ J.domain) × (own_domain ≡ J.domain) }
     {
         let registry = match seats {

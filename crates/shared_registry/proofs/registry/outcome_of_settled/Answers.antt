@@ -10,7 +10,7 @@ none_here (Some x) s e = cc
 
 pub unreachable-requires : goal.unreachable-requires
 unreachable-requires g c =
-    let settled = settled_is g.J.RegistryId.domain c.args.seat.now.seen c.args.work.batch c.args.work c.requires.read c.requires.unready in
+    let settled = settled_is g.J.RegistryId.first g.J.RegistryId.domain c.args.seat.now.seen c.args.work.batch c.args.work c.requires.read c.requires.unready in
     none_here c.into_reply.result (c.into_reply.ensures.settled.1 settled) c.in_default.is
 
 pub returns-clause-over : goal.returns-clause-over
@@ -18,4 +18,4 @@ returns-clause-over g c = rw (c.of.ensures) (settled_no_conflict c.in-Some.reply
 
 pub returns-clause-answer : goal.returns-clause-answer
 returns-clause-answer g c =
-    rw (c.of.ensures) (settled_submitted g.J.RegistryId.domain c.args.seat.now c.args.work.batch c.args.work c.in-Some.reply c.requires.read c.requires.unready c.place-place.ensures.lawful c.requires.changes c.in-Some.ensures.answer)
+    rw (c.of.ensures) (settled_submitted g.J.RegistryId.first g.J.RegistryId.domain c.args.seat.now c.args.work.batch c.args.work c.in-Some.reply c.requires.read c.requires.unready c.place-place.ensures.lawful c.requires.changes c.in-Some.ensures.answer)

@@ -25,7 +25,7 @@ invariant_of-self g c =
     let offer = c.plain-offer.ensures in
     let old = c.self.inside.seen.log in
     let whole : items_of c.compare_exchange-self-inside.new.seen.log ≡ items_of old ++ c.args.item.now ∷ [] = ap items_of e.7 ∙ (items_join old (c.plain-offer.result.ask ∷ []) ∙ ap (λ e. items_of old ++ e.item ∷ []) offer.1) in
-    let lawful : IsLawfulJournal g.J.RegistryId.domain (items_of old ++ c.args.item.now ∷ []) = rw c.self.view_is c.requires.lawful in (
+    let lawful : IsLawfulJournal g.J.RegistryId.first g.J.RegistryId.domain (items_of old ++ c.args.item.now ∷ []) = rw c.self.view_is c.requires.lawful in (
       i.0,
       i.1,
       e.0 ∙ i.2,

@@ -7,8 +7,8 @@ use Rattle.shared_registry.proofs.published.PublishedValue.counts_with.Goals as 
 
 pub overflow_add-counts : goal.overflow_add-counts
 overflow_add-counts c =
-    let low = count_low _ _ _ c.args.seat c.self.invariant.1 c.requires.seat.0 in
+    let low = count_low _ _ _ c.args.seat c.self.invariant.1 c.self.invariant.2 c.requires.seat.0 in
     rw c.get.ensures (let m : slice_index c.self.inside.published_state.counts c.args.seat + 1 ≤ 2 ^ 48 + 1 = omega arith in omega arith)
 
 pub returns : goal.returns
-returns c = rw (c.get.ensures, sym c.self.view_is) (counted_here c.self.inside.published_state.counts (items_of c.self.inside.seen.log) c.args.item.now c.args.seat c.self.invariant.1.counted c.requires.seat.1 c.requires.seat.0)
+returns c = rw (c.get.ensures, sym c.self.view_is) (counted_here c.self.inside.published_state.counts (items_of c.self.inside.seen.log) c.args.item.now c.args.seat c.self.invariant.2 c.requires.seat.1 c.requires.seat.0)

@@ -34,6 +34,7 @@ pub returns-clause-found : goal.returns-clause-found
 returns-clause-found g c =
     let run = c.self.inside.view in
     let looked = c.find-found.ensures in
+    let first = g.J.RegistryId.first in
     let domain = g.J.RegistryId.domain in
     let journal = c.find-found.new.self.snapshot.journal in
     let new : Seated = record { number = run.number; calls = c.self.inside.calls + 1; seen = run.seen; learnt = run.learnt; own = calls_of run.number run.seen; found = journal } in
@@ -43,12 +44,12 @@ returns-clause-found g c =
           let more : IsPrefix run.seen w.in-Ok.prefix = ok_of _ _ _ w.in-Ok.is looked.seen in
           let learnt : IsPrefix run.learnt w.in-Ok.prefix = ok_of _ _ _ w.in-Ok.is looked.learnt in
           let count = ok_of _ _ _ w.in-Ok.is looked.count in
-          let may : MaySeeFound domain new = record {
-            lawful = subst (IsLawfulJournal domain) same w.len-after.ensures.lawful;
+          let may : MaySeeFound first domain new = record {
+            lawful = subst (IsLawfulJournal first domain) same w.len-after.ensures.lawful;
             seen = subst (IsPrefix run.seen) same more;
             learnt = subst (IsPrefix run.learnt) same learnt;
             own = ap (calls_of run.number) (sym same) ∙ calls_same run.number _ _ more (sym (count ∙ c.self.invariant.1));
           } in
           ok_any _ c.match-found.result may
-      | in-Err w ↦ subst (λ r. IfOk r (λ _. MaySeeFound domain new)) (sym w.result-is) tt
+      | in-Err w ↦ subst (λ r. IfOk r (λ _. MaySeeFound first domain new)) (sym w.result-is) tt
     ])

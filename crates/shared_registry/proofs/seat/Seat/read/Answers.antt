@@ -1,8 +1,7 @@
 use Rattle.std.proofs.Common.{◌∙◌, sym, ap, subst, IfOk}
 use mathlib.Core.List.{IsPrefix}
 use Rattle.entry_book.specs.Batches.{IsMadeFor}
-use Rattle.commit_head.specs.Heads.{IsJournal}
-use Rattle.shared_registry.specs.ShownPrivate.{whole_head}
+use Rattle.shared_registry.specs.ShownPrivate.{ShowsJournal}
 use Rattle.shared_registry.specs.Works.{IsAtEnd, IsRead}
 use Rattle.shared_registry.proofs.Calls.{calls_same}
 use Rattle.shared_registry.proofs.Results.{ok_any, ok_of}
@@ -31,12 +30,11 @@ returns-clause-seen_learnt g c =
 
 pub returns-clause-read : goal.returns-clause-read
 returns-clause-read g c = elim c.match-run_work.branch [
-  | in-Ok-run_work w ↦ subst (λ r. IfOk r (IsRead g.J.RegistryId.domain c.in-Ok.prefix c.args.batch)) (sym w.result-is) (record {
+  | in-Ok-run_work w ↦ subst (λ r. IfOk r (IsRead g.J.RegistryId.first g.J.RegistryId.domain c.in-Ok.prefix c.args.batch)) (sym w.result-is) (record {
     snapshot = c.find-found.new.self.snapshot;
     made = subst (λ d. IsMadeFor d c.args.batch) c.requires.domain c.ops-made.ensures.made;
-    domain_is = c.find-found.ensures.snapshot.domain_is;
-    is_journal_of = subst (λ l. IsJournal l (whole_head c.find-found.new.self.snapshot.window l)) (sym (ok_of _ _ _ c.in-Ok.is c.find-found.ensures.found)) c.window-window.ensures.journal;
+    shows = subst (λ l. ShowsJournal g.J.RegistryId.first g.J.RegistryId.domain l c.find-found.new.self.snapshot.window) (sym (ok_of _ _ _ c.in-Ok.is c.find-found.ensures.found)) c.find-found.ensures.snapshot.shows;
     at_end = subst (λ b. IsAtEnd b c.find-found.new.self.snapshot w.in-Ok-run_work.work) c.in-Ok-begin_work.ensures.batch_is w.in-Ok-run_work.ensures;
   })
-  | in-Err-run_work w ↦ subst (λ r. IfOk r (IsRead g.J.RegistryId.domain c.in-Ok.prefix c.args.batch)) (sym w.result-is) tt
+  | in-Err-run_work w ↦ subst (λ r. IfOk r (IsRead g.J.RegistryId.first g.J.RegistryId.domain c.in-Ok.prefix c.args.batch)) (sym w.result-is) tt
 ]
