@@ -224,11 +224,11 @@ count_of_lines : (items : List Item) → length (map request_line items) ≡ len
 count_of_lines [] = refl
 count_of_lines (item ∷ items) = ap suc (count_of_lines items)
 
-fits_in_run : HistoryBounded → CountOfBooks → CountOfBatches → (domain : List ℕ) (items : List Item) → IsLawfulJournal domain items → length items ≤ most_lines
+fits_in_run : HistoryBounded → CountOfBooks → CountOfBatches → (domain : List ℕ) (items : List Item) → IsLawfulJournal first_books domain items → length items ≤ most_lines
 unfolding most_lines
 fits_in_run bounded count batches domain items lawful =
-    let most : length (books_of (batches_of items)) ≤ 2 ^ 48 + 1 = bounded domain (books_of (batches_of items)) (batches_of items, record { made = lawful.made; committed = lawful.committed; books_are = refl }) in
-    let books : length (books_of (batches_of items)) ≡ length (batches_of items) + 1 = count (batches_of items) lawful.committed in
+    let most : length (books_of (batches_of items)) ≤ 2 ^ 48 + 1 = bounded first_books domain (books_of (batches_of items)) (batches_of items, record { is_first = lawful.is_first; made = lawful.made; committed = lawful.committed; books_are = refl }) in
+    let books : length (books_of (batches_of items)) ≡ length (batches_of items) + 1 = count first_books (batches_of items) (omega arith) lawful.committed in
     let same : length (batches_of items) ≡ length items = batches items in
     omega (arith, most, books, same)
 
@@ -247,7 +247,7 @@ may_be_closed : (end : List ℕ) → (end ≡ []) ⊎ (end ≡ []) → end ≡ [
 may_be_closed end (inl e) = e
 may_be_closed end (inr e) = e
 
-writes_replay : JournalsAreReplayed → (domain seed : List ℕ) (items : List Item) (bytes : List ℕ) (old new : Option (List ℕ)) → IsLawfulJournal domain items → AllByRecursion IsReadable items
+writes_replay : JournalsAreReplayed → (domain seed : List ℕ) (items : List Item) (bytes : List ℕ) (old new : Option (List ℕ)) → IsLawfulJournal first_books domain items → AllByRecursion IsReadable items
     → first_lines most_lines (request_log items ++ bytes) ≡ map request_line items ++ first_lines (most_lines - length items) bytes → WritesReplay domain seed items bytes old new
 writes_replay law domain seed items bytes old new lawful readable lines =
     let more : List (List ℕ) = first_lines (most_lines - length items) bytes in

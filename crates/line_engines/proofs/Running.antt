@@ -25,10 +25,10 @@ of_kept domain now line next reply is (not_read n r) = not_read n r
 of_kept domain now line next reply is (not_run request ids e n r) = not_run request ids (sym (kept_spells domain now.ids line is) ∙ e) n r
 
 -- the line of which these bytes are kept was answered
-pub reported : (domain : List ℕ) (before after : PlainKept) (lines number : ℕ) (now : Running) (bytes : List ℕ) (old out : OutputState) → PlainRepresents before lines now → AnswersLine domain (record { books = now.books; ids = before.ids; calls = before.calls; lines = lines }) bytes old out after.book after.ids after.calls → number ≡ lines + 1 → after.calls ≤ number → AnswersKept (Answers domain) (λ _. false) (PlainRepresents after number) now bytes old out true
-reported domain before after lines number now bytes old out s a l few =
+pub reported : (first : List Book) (domain : List ℕ) (before after : PlainKept) (lines number : ℕ) (now : Running) (bytes : List ℕ) (old out : OutputState) → PlainRepresents before lines now → AnswersLine first domain (record { books = now.books; ids = before.ids; calls = before.calls; lines = lines }) bytes old out after.book after.ids after.calls → number ≡ lines + 1 → after.calls ≤ number → AnswersKept (Answers domain) (λ _. false) (PlainRepresents after number) now bytes old out true
+reported first domain before after lines number now bytes old out s a l few =
     let e = same_state (record { books = now.books; ids = before.ids; calls = before.calls; lines = lines }) now refl (sym s.1) (sym s.2) (sym s.3) in
-    let P : Running → Type 0 = λ r. AnswersLine domain r bytes old out after.book after.ids after.calls in
+    let P : Running → Type 0 = λ r. AnswersLine first domain r bytes old out after.book after.ids after.calls in
     let b = subst P e a in
     let Q : (x : List ℕ) → Type 0 = λ x. Answers domain now x b.0 b.1 in
-    (b.0, b.1, (λ line is k. of_kept domain now line b.0 b.1 is (subst Q k b.2)), b.3, (b.4, b.5, b.6, b.7 ∙ (ap (λ n. n + 1) s.3 ∙ sym l), few), refl)
+    (b.0, b.1, (λ line is k. of_kept domain now line b.0 b.1 is (subst Q k b.2)), b.3, ((first, b.4), b.5, b.6, b.7 ∙ (ap (λ n. n + 1) s.3 ∙ sym l), few), refl)

@@ -21,9 +21,13 @@ pub record Running : Type 0 where
   pub calls : ℕ
   pub lines : ℕ
 
--- before the first line: no book but the empty one, and no id of the seed is drawn
+-- before the first line: the books with which the history begins, and no id of the seed is drawn
+abbrev pub plain_start_on : List Book → List ℕ → Running
+plain_start_on first seed = record { books = first; ids = first_ids seed; calls = 0; lines = 0 }
+
+-- the same with no book but the empty one
 abbrev pub plain_start : List ℕ → Running
-plain_start seed = record { books = first_books; ids = first_ids seed; calls = 0; lines = 0 }
+plain_start seed = plain_start_on first_books seed
 
 -- after a line without a call
 abbrev pub plain_skips : Running → Running
@@ -50,6 +54,10 @@ pub data Answers (domain : List ℕ) (now : Running) (line : List ℕ) (next : R
 abbrev pub ClosesWithNothing : Running → List ℕ → Type 0
 ClosesWithNothing last end = end ≡ []
 
--- the result of a run of the engine over an input and an output
+-- the result of a run of the engine over an input and an output, on a book whose history begins with these books
+abbrev pub RunsPlainOn : {T : Type 0} → List Book → List ℕ → List ℕ → InputState → InputState → OutputState → OutputState → Result T RunFault → Type 0
+RunsPlainOn first domain seed input rest output out result = RunsOver (Answers domain) ClosesWithNothing ⊥ (plain_start_on first seed) input rest output out result
+
+-- the same on a book that begins empty
 abbrev pub RunsPlain : {T : Type 0} → List ℕ → List ℕ → InputState → InputState → OutputState → OutputState → Result T RunFault → Type 0
-RunsPlain domain seed input rest output out result = RunsOver (Answers domain) ClosesWithNothing ⊥ (plain_start seed) input rest output out result
+RunsPlain domain seed input rest output out result = RunsPlainOn first_books domain seed input rest output out result

@@ -3,7 +3,7 @@ use Rattle.std.specs.Prelude.{◌≡◌, ◌+◌, ◌-◌, ◌++◌, ℕ, List, 
 use Rattle.std.specs.Io.KnownBytes.{Appends}
 use Rattle.std.specs.List.{AllByRecursion, flat_map}
 use Rattle.rand_chacha.specs.ChaCha.{ChaCha}
-use Rattle.entry_book.specs.History.{books_of}
+use Rattle.entry_book.specs.History.{books_of, first_books}
 use Rattle.entry_book.specs.declared.reply.Reply.{Reply}
 use Rattle.commit_head.specs.declared.item.Item.{Item}
 use Rattle.commit_head.specs.Journals.{IsLawfulJournal, batches_of, committed_after}
@@ -66,12 +66,12 @@ LogsHaveLines = (items : List Item) (bytes : List ℕ) → lines_of (request_log
 
 -- a run over the request log of a lawful journal, and any lines after it, is a replay
 abbrev pub JournalsAreReplayed : Type 0
-JournalsAreReplayed = (domain seed : List ℕ) (items : List Item) (more : List (List ℕ)) (last : Running) (text : List ℕ) → IsLawfulJournal domain items → AllByRecursion IsReadable items
+JournalsAreReplayed = (domain seed : List ℕ) (items : List Item) (more : List (List ℕ)) (last : Running) (text : List ℕ) → IsLawfulJournal first_books domain items → AllByRecursion IsReadable items
     → IsRun (Answers domain) (plain_start seed) (map request_line items ++ more) last text → Replays domain (first_ids seed) items more last text
 
 -- and the run in which each item gets its reply is one of those that `plain` allows
 abbrev pub JournalsMayBeReplayed : Type 0
-JournalsMayBeReplayed = (domain seed : List ℕ) (items : List Item) → IsLawfulJournal domain items → AllByRecursion IsReadable items
+JournalsMayBeReplayed = (domain seed : List ℕ) (items : List Item) → IsLawfulJournal first_books domain items → AllByRecursion IsReadable items
     → IsRun (Answers domain) (plain_start seed) (map request_line items) (after_replay (first_ids seed) items) (reply_log items)
 
 -- ---- what a run of the engine writes: the fields `text` and `front` of `RunsPlain`
@@ -92,9 +92,9 @@ pub record WritesReplay (domain seed : List ℕ) (items : List Item) (bytes : Li
   pub front : AppendsClosedPrefix (Answers domain) (MayClose ClosesWithNothing) (plain_start seed) (first_lines most_lines (request_log items ++ bytes)) old new → AppendsReplayPrefix domain seed items bytes old new
 
 abbrev pub PlainWritesReplays : Type 0
-PlainWritesReplays = (domain seed : List ℕ) (items : List Item) (bytes : List ℕ) (old new : Option (List ℕ)) → IsLawfulJournal domain items → AllByRecursion IsReadable items → WritesReplay domain seed items bytes old new
+PlainWritesReplays = (domain seed : List ℕ) (items : List Item) (bytes : List ℕ) (old new : Option (List ℕ)) → IsLawfulJournal first_books domain items → AllByRecursion IsReadable items → WritesReplay domain seed items bytes old new
 
 -- The same of the items of a program: their batches satisfy the invariants of their types. So all that is left to check is that
 -- the journal is lawful and that each text fits into a line.
 abbrev pub ItemsAreReplayed : List Item → Type 0
-ItemsAreReplayed items = (domain seed bytes : List ℕ) (old new : Option (List ℕ)) → IsLawfulJournal domain items → AllByRecursion IsShort items → WritesReplay domain seed items bytes old new
+ItemsAreReplayed items = (domain seed bytes : List ℕ) (old new : Option (List ℕ)) → IsLawfulJournal first_books domain items → AllByRecursion IsShort items → WritesReplay domain seed items bytes old new

@@ -2,7 +2,7 @@
 
 ghost use Rattle.std.specs.Prelude.{◌≡◌, ◌+◌, ◌≤◌, [], List, ℕ};
 ghost use Rattle.entry_book.specs.Book.{Book};
-ghost use Rattle.entry_book.specs.History.{RepresentsBooks};
+ghost use Rattle.entry_book.specs.History.{RepresentsFrom};
 ghost use Rattle.line_engines.specs.Answers.{RunsPlain};
 ghost use Rattle.line_engines.specs.AnswersPrivate.{AnswersBatch, AnswersLine};
 
@@ -134,8 +134,8 @@ fn answer<K: Sink>(
 ) -> u64
     ensures domain { book.new.domain ≡ book.old.domain }
     ensures calls { result ≤ calls + 1 }
-    ensures line { (books : List Book) (lines : ℕ) → RepresentsBooks book.old books → number ≡ lines + 1 → calls ≤ lines
-        → AnswersLine book.old.domain (record { books = books; ids = ids.old; calls = calls; lines = lines }) line.now output.old output.new book.new ids.new result }
+    ensures line { (first books : List Book) (lines : ℕ) → RepresentsFrom first book.old books → number ≡ lines + 1 → calls ≤ lines
+        → AnswersLine first book.old.domain (record { books = books; ids = ids.old; calls = calls; lines = lines }) line.now output.old output.new book.new ids.new result }
 {
     match read_request(alloc, book.domain(), ids, line, number) {
         Err(refusal) => {
@@ -155,8 +155,8 @@ fn answer<K: Sink>(
 fn call<K: Sink>(book: &mut PlainBook, batch: &Batch, call: u64, line: u64, output: &mut Output<K>)
     requires made_for { batch.now.domain ≡ book.old.domain }
     ensures domain { book.new.domain ≡ book.old.domain }
-    ensures answered { (books : List Book) → RepresentsBooks book.old books
-        → AnswersBatch books batch.now call line output.old output.new book.new }
+    ensures answered { (first books : List Book) → RepresentsFrom first book.old books
+        → AnswersBatch first books batch.now call line output.old output.new book.new }
 {
     match book.run(batch) {
         Ok(reply) => print_line(

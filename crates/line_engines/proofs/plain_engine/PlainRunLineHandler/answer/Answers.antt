@@ -14,4 +14,4 @@ returns-clause-answered g c = λ lines now next.
     let P : PlainKept → Type 0 = λ k. PlainRepresents k lines now → AnswersKept (Answers k.book.domain) (λ _. false) (PlainRepresents after c.args.number) now c.args.line.now c.args.output.now then.new.output true in
     subst P c.self.view_is (λ represents.
     let few : then.result ≤ c.args.number = omega (arith, next, represents.4, then.ensures.calls) in
-    reported before.book.domain before after lines c.args.number now c.args.line.now c.args.output.now then.new.output represents (then.ensures.line now.books lines represents.0 next represents.4) next few)
+    reported represents.0.0 before.book.domain before after lines c.args.number now c.args.line.now c.args.output.now then.new.output represents (then.ensures.line represents.0.0 now.books lines represents.0.1 next represents.4) next few)
