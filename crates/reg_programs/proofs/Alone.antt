@@ -1,5 +1,5 @@
 -- A session of which nobody else uses the registry is answered as by `plain`.
-use Rattle.std.proofs.Common.{◌≡◌, ◌+◌, ◌≤◌, ◌<◌, ◌^◌, ◌⊎◌, ℕ, suc, true, false, inl, inr, List, [], ◌∷◌, ◌++◌, length, None, Some, Result, Ok, refl, sym, ap, ◌∙◌, append_assoc, subst, arith, length-append, eq-eqb}
+use Rattle.std.proofs.Common.{◌≡◌, ◌+◌, ◌-◌, ◌≤◌, ◌<◌, ◌^◌, ◌⊎◌, ℕ, suc, true, false, inl, inr, List, [], ◌∷◌, ◌++◌, length, None, Some, Result, Ok, refl, sym, ap, ◌∙◌, append_assoc, subst, arith, length-append, eq-eqb}
 use Rattle.std.specs.Prelude.{◌&&◌, ⊤, Bool, IfOk, cond, nat_lt, not, unwrap_or}
 use Rattle.std.specs.List.{AllByRecursion}
 use Rattle.std.proofs.lemmas.Bool.Decides.{nat_tests}
@@ -8,13 +8,13 @@ use mathlib.Core.List.{IsPrefix}
 use Rattle.rand_chacha.specs.ChaCha.{ChaCha}
 use Rattle.entry_book.specs.Batches.{Batch}
 use Rattle.entry_book.specs.Book.{Book}
-use Rattle.entry_book.specs.History.{books_after, books_from, books_of, commits, first_books, is_committed, replies_from, reply_to}
+use Rattle.entry_book.specs.History.{books_after, books_from, commits, is_committed, place_of, replies_from, reply_to}
 use Rattle.entry_book.specs.Laws.{OneMore, OthersLeave, QueriesNeverCommit}
 use Rattle.entry_book.specs.Rows.{Bytes}
 use Rattle.entry_book.specs.declared.reply.Reply.{Reply}
 use Rattle.entry_book.specs.declared.reply.ReplyOutcome.TheVariants as became
 use Rattle.commit_head.specs.declared.item.Item.{Item}
-use Rattle.commit_head.specs.Journals.{batches_of, committed_after}
+use Rattle.commit_head.specs.Journals.{batches_of, committed_after, place_after}
 use Rattle.commit_head.specs.Laws.{BatchesJoin, CountOfBatches}
 use Rattle.line_devices.specs.Lines.{most_lines}
 use Rattle.line_devices.specs.Runs.{IsRun}
@@ -31,7 +31,7 @@ use Rattle.reg_lines.specs.Refusals.{no_memory_json}
 use Rattle.reg_lines.specs.Replies.{reply_json}
 use Rattle.reg_lines.specs.SeatLines.{seat_refusal_json}
 use Rattle.reg_lines.specs.declared.printing.seats.SeatRefusal.TheVariants.{NoEntry as NotAdmitted}
-use Rattle.shared_registry.specs.Outcomes.{AreOvertaken, IsAdded, IsSubmitted, WasOvertaken}
+use Rattle.shared_registry.specs.Outcomes.{AreOvertaken, IsAdded, IsSubmitted, RepeatsBatch, WasOvertaken}
 use Rattle.shared_registry.specs.SeatCalls.{calls_of}
 use Rattle.shared_registry.specs.Seated.{AfterCall, Seated}
 use Rattle.shared_registry.specs.declared.outcome.Outcome.{Outcome}
@@ -39,7 +39,7 @@ use Rattle.shared_registry.specs.declared.outcome.Outcome.TheVariants.{Committed
 use Rattle.shared_registry.specs.declared.seat.NoAnswer.{NoAnswer}
 use Rattle.shared_registry.specs.declared.seat.NoAnswer.TheVariants as no
 use Rattle.shared_registry.proofs.Prefixes.{prefix_whole}
-use Rattle.line_engines.specs.Answers.{Answers, Running, as_line, plain_start, refused as plain_refused, replied as plain_replied, not_read as plain_not_read, not_run as plain_not_run}
+use Rattle.line_engines.specs.Answers.{Answers, Running, as_line, plain_start_on, refused as plain_refused, replied as plain_replied, not_read as plain_not_read, not_run as plain_not_run}
 use Rattle.reg_programs.specs.Alone.{RunsAsPlain, SawItsOwn, SessionsAloneArePlain, as_plain, not_admitted, plain_state}
 use Rattle.reg_programs.specs.Sessions.{AnswersCall, AnswersRequest, Session, SessionsGrow, answered, asked, no_answer_json, no_reply, not_read, session_start, refused, replied, spent, submitted, submit_json}
 
@@ -103,38 +103,38 @@ last_reply (other ∷ items) item n books e =
 
 -- ---- a line with a call
 
-abbrev books_seen : Seated → List Book
-books_seen s = books_of (batches_of s.seen)
+abbrev books_seen : List Book → Seated → List Book
+books_seen first s = books_from first (batches_of s.seen)
 
 abbrev state_of : List Book → ChaCha → ℕ → ℕ → Running
 state_of books ids calls lines = record { books = books; ids = ids; calls = calls; lines = lines }
 
 -- the call's reply is that of `plain`
-is_replied : (domain : Bytes) (now : Session) (line : List ℕ) (request : Request) (ids : ChaCha) (t : Seated) (text : List ℕ) → spelled domain now.ids line ≡ Ok (request, ids) → books_seen t ≡ books_after request.batch (books_seen now.seat) → t.calls ≡ now.seat.calls + 1
-    → text ≡ reply_json t.calls (reply_to request.batch (books_seen now.seat)) → Answers domain (plain_state now) line (plain_state (asked now t ids)) (as_line text)
-is_replied domain now line request ids t text e books calls is =
+is_replied : (first : List Book) (domain : Bytes) (now : Session) (line : List ℕ) (request : Request) (ids : ChaCha) (t : Seated) (text : List ℕ) → spelled domain now.ids line ≡ Ok (request, ids) → books_seen first t ≡ books_after request.batch (books_seen first now.seat) → t.calls ≡ now.seat.calls + 1
+    → text ≡ reply_json t.calls (reply_to request.batch (books_seen first now.seat)) → Answers domain (plain_state first now) line (plain_state first (asked now t ids)) (as_line text)
+is_replied first domain now line request ids t text e books calls is =
     plain_replied request ids e
-    (ap (λ b. state_of b ids t.calls (now.lines + 1)) books ∙ ap (λ c. state_of (books_after request.batch (books_seen now.seat)) ids c (now.lines + 1)) calls)
-    (ap as_line is ∙ ap (λ c. as_line (reply_json c (reply_to request.batch (books_seen now.seat)))) calls)
+    (ap (λ b. state_of b ids t.calls (now.lines + 1)) books ∙ ap (λ c. state_of (books_after request.batch (books_seen first now.seat)) ids c (now.lines + 1)) calls)
+    (ap as_line is ∙ ap (λ c. as_line (reply_json c (reply_to request.batch (books_seen first now.seat)))) calls)
 
 -- memory runs out for the call, as in `plain`
-is_not_run : (domain : Bytes) (now : Session) (line : List ℕ) (request : Request) (ids : ChaCha) (t : Seated) (text : List ℕ) → spelled domain now.ids line ≡ Ok (request, ids) → books_seen t ≡ books_seen now.seat → t.calls ≡ now.seat.calls + 1
-    → text ≡ no_memory_json (now.lines + 1) → Answers domain (plain_state now) line (plain_state (asked now t ids)) (as_line text)
-is_not_run domain now line request ids t text e books calls is =
+is_not_run : (first : List Book) (domain : Bytes) (now : Session) (line : List ℕ) (request : Request) (ids : ChaCha) (t : Seated) (text : List ℕ) → spelled domain now.ids line ≡ Ok (request, ids) → books_seen first t ≡ books_seen first now.seat → t.calls ≡ now.seat.calls + 1
+    → text ≡ no_memory_json (now.lines + 1) → Answers domain (plain_state first now) line (plain_state first (asked now t ids)) (as_line text)
+is_not_run first domain now line request ids t text e books calls is =
     plain_not_run request ids e
-    (ap (λ b. state_of b ids t.calls (now.lines + 1)) books ∙ ap (λ c. state_of (books_seen now.seat) ids c (now.lines + 1)) calls)
+    (ap (λ b. state_of b ids t.calls (now.lines + 1)) books ∙ ap (λ c. state_of (books_seen first now.seat) ids c (now.lines + 1)) calls)
     (ap as_line is)
 
 -- The line is answered as by `plain`, or L8.
-abbrev IsPlainly : Bytes → Session → List ℕ → Session → List ℕ → Type 0
-IsPlainly domain now line next reply = Answers domain (plain_state now) line (plain_state next) reply ⊎ (reply ≡ as_line (seat_refusal_json (now.lines + 1) NotAdmitted))
+abbrev IsPlainly : List Book → Bytes → Session → List ℕ → Session → List ℕ → Type 0
+IsPlainly first domain now line next reply = Answers domain (plain_state first now) line (plain_state first next) reply ⊎ (reply ≡ as_line (seat_refusal_json (now.lines + 1) NotAdmitted))
 
 -- a call that commits nothing, and gets the reply on the books of what was seen
-without_commit : Laws → (domain : Bytes) (now : Session) (line : List ℕ) (request : Request) (ids : ChaCha) (t : Seated) (text : List ℕ) → spelled domain now.ids line ≡ Ok (request, ids) → now.seat.seen ≡ t.seen → t.calls ≡ now.seat.calls + 1
-    → commits request.batch (books_seen now.seat) ≡ false → text ≡ reply_json t.calls (reply_to request.batch (books_seen t)) → Answers domain (plain_state now) line (plain_state (asked now t ids)) (as_line text)
-without_commit laws domain now line request ids t text e same calls none is =
-    let books : books_seen t ≡ books_seen now.seat = ap (λ items. books_of (batches_of items)) (sym same) in
-    is_replied domain now line request ids t text e (books ∙ sym (laws.others request.batch (books_seen now.seat) none).0) calls (is ∙ ap (λ b. reply_json t.calls (reply_to request.batch b)) books)
+without_commit : Laws → (first : List Book) (domain : Bytes) (now : Session) (line : List ℕ) (request : Request) (ids : ChaCha) (t : Seated) (text : List ℕ) → spelled domain now.ids line ≡ Ok (request, ids) → now.seat.seen ≡ t.seen → t.calls ≡ now.seat.calls + 1
+    → commits request.batch (books_seen first now.seat) ≡ false → text ≡ reply_json t.calls (reply_to request.batch (books_seen first t)) → Answers domain (plain_state first now) line (plain_state first (asked now t ids)) (as_line text)
+without_commit laws first domain now line request ids t text e same calls none is =
+    let books : books_seen first t ≡ books_seen first now.seat = ap (λ items. books_from first (batches_of items)) (sym same) in
+    is_replied first domain now line request ids t text e (books ∙ sym (laws.others request.batch (books_seen first now.seat) none).0) calls (is ∙ ap (λ b. reply_json t.calls (reply_to request.batch b)) books)
 
 -- the same reply isn't that of a commit
 not_committed : (batch : Batch) (books : List Book) (reply : Reply) → reply ≡ reply_to batch books → is_committed reply.outcome ≡ false → commits batch books ≡ false
@@ -149,9 +149,9 @@ prefix_of_longer (x ∷ xs) (z ∷ ys) y p e =
     (rest.0, cc (p.1, rest.1))
 
 -- the call was committed after all that the seat had seen
-with_commit : Laws → (domain : Bytes) (now : Session) (line : List ℕ) (request : Request) (ids : ChaCha) (t : Seated) (text : List ℕ) (reply : Reply) → spelled domain now.ids line ≡ Ok (request, ids) → AfterCall domain now.seat t
-    → OwnIsSeen now.seat → SawItsOwn now.seat → SawItsOwn t → (added : IsAdded now.seat t request.batch reply) → text ≡ reply_json t.calls reply → Answers domain (plain_state now) line (plain_state (asked now t ids)) (as_line text)
-with_commit laws domain now line request ids t text reply e a es os ot added is =
+with_commit : Laws → (first : List Book) (domain : Bytes) (now : Session) (line : List ℕ) (request : Request) (ids : ChaCha) (t : Seated) (text : List ℕ) (reply : Reply) → spelled domain now.ids line ≡ Ok (request, ids) → AfterCall first domain now.seat t
+    → OwnIsSeen now.seat → SawItsOwn now.seat → SawItsOwn t → (added : IsAdded first now.seat t request.batch reply) → text ≡ reply_json t.calls reply → Answers domain (plain_state first now) line (plain_state first (asked now t ids)) (as_line text)
+with_commit laws first domain now line request ids t text reply e a es os ot added is =
     let items : List Item = now.seat.seen in
     let item : Item = added.item in
     let one_more : List Item = item ∷ [] in
@@ -165,19 +165,20 @@ with_commit laws domain now line request ids t text reply e a es os ot added is 
     let front : IsPrefix items added.log = prefix_of_longer items added.log item (subst (IsPrefix items) added.seen a.seen) as_long in
     let same : items ≡ added.log = prefix_whole items added.log front (omega (arith, as_long)) in
     let seen : t.seen ≡ items ++ one_more = added.seen ∙ ap (λ x. x ++ one_more) (sym same) in
-    let given : replies_from first_books (batches_of (items ++ one_more)) ≡ committed_after 0 (items ++ one_more) = subst (λ x. replies_from first_books (batches_of x) ≡ committed_after 0 x) seen a.lawful.replies in
-    let number : 0 + length items + 1 ≡ length t.seen = omega (arith, as_long, l, q) in
-    let told : reply_to request.batch (books_seen now.seat) ≡ reply =
-    ap (λ b. reply_to b (books_seen now.seat)) (sym added.batch_is) ∙ (last_reply items item 0 first_books given
+    let n = place_of first in
+    let given : replies_from first (batches_of (items ++ one_more)) ≡ committed_after n (items ++ one_more) = subst (λ x. replies_from first (batches_of x) ≡ committed_after n x) seen a.lawful.replies in
+    let number : n + length items + 1 ≡ place_after first t.seen = omega (arith, as_long, l, q) in
+    let told : reply_to request.batch (books_seen first now.seat) ≡ reply =
+    ap (λ b. reply_to b (books_seen first now.seat)) (sym added.batch_is) ∙ (last_reply items item n first given
     ∙ (ap (λ k. record { place = k; outcome = became.Committed item.replies }) number ∙ sym added.reply_is)) in
-    let books : books_seen t ≡ books_after request.batch (books_seen now.seat) =
-    ap (λ x. books_of (batches_of x)) seen ∙ (ap books_of (laws.join items one_more) ∙ (laws.one_more (batches_of items) item.batch ∙ ap (λ b. books_after b (books_seen now.seat)) added.batch_is)) in
-    is_replied domain now line request ids t text e books a.calls (is ∙ ap (reply_json t.calls) (sym told))
+    let books : books_seen first t ≡ books_after request.batch (books_seen first now.seat) =
+    ap (λ x. books_from first (batches_of x)) seen ∙ (ap (books_from first) (laws.join items one_more) ∙ (laws.one_more first (batches_of items) item.batch ∙ ap (λ b. books_after b (books_seen first now.seat)) added.batch_is)) in
+    is_replied first domain now line request ids t text e books a.calls (is ∙ ap (reply_json t.calls) (sym told))
 
 -- no commit is later than what was seen
-none_since : Laws → (s t : Seated) (batch : Batch) (place : ℕ) (bases : List ℕ) → 1 ≤ length bases → s.seen ≡ t.seen → AreOvertaken (batches_of t.seen) batch (length s.seen) place bases → ⊥
-none_since laws s t batch place [] some same o = absurd (omega (arith, some))
-none_since laws s t batch place (base ∷ bases) some same o =
+none_since : Laws → (first : List Book) (s t : Seated) (batch : Batch) (place : ℕ) (bases : List ℕ) → 1 ≤ length bases → s.seen ≡ t.seen → AreOvertaken first (batches_of t.seen) batch (length s.seen) place bases → ⊥
+none_since laws first s t batch place [] some same o = absurd (omega (arith, some))
+none_since laws first s t batch place (base ∷ bases) some same o =
     let hit = o.1 in
     let least = o.0 in
     let since = hit.since in
@@ -189,43 +190,48 @@ none_since laws s t batch place (base ∷ bases) some same o =
     omega (arith, least, since, split, parts, short, count, seen)
 
 -- nobody else's commit can be in the way
-no_conflict : (laws : Laws) (s t : Seated) (batch : Batch) (tries place : ℕ) → 1 ≤ tries → s.seen ≡ t.seen → WasOvertaken s t batch tries place → ⊥
-no_conflict laws s t batch tries place one same o = none_since laws s t batch place o.bases (let c = o.count in omega (arith, c, one)) same o.since_seen
+no_conflict : (laws : Laws) (first : List Book) (s t : Seated) (batch : Batch) (tries place : ℕ) → 1 ≤ tries → s.seen ≡ t.seen → WasOvertaken first s t batch tries place → ⊥
+no_conflict laws first s t batch tries place one same o = none_since laws first s t batch place o.bases (let c = o.count in omega (arith, c, one)) same o.since_seen
 
-by_outcome : Laws → (domain : Bytes) (now : Session) (line : List ℕ) (request : Request) (ids : ChaCha) (t : Seated) (text : List ℕ) (outcome : Outcome) → spelled domain now.ids line ≡ Ok (request, ids) → 1 ≤ request.tries → AfterCall domain now.seat t
-    → OwnIsSeen now.seat → SawItsOwn now.seat → SawItsOwn t → IsSubmitted now.seat t request.batch request.tries outcome → text ≡ submit_json t.calls (now.lines + 1) outcome → IsPlainly domain now line (asked now t ids) (as_line text)
-by_outcome laws domain now line request ids t text (Committed reply) e one a es os ot is printed = inl (with_commit laws domain now line request ids t text reply e a es os ot is printed)
-by_outcome laws domain now line request ids t text (Repeated reply) e one a es os ot is printed =
+-- a repeat is the reply on the books of what was seen, and not that of a commit
+repeated_reply : (first : List Book) (t : Seated) (batch : Batch) (reply : Reply) → RepeatsBatch first t batch reply → (reply ≡ reply_to batch (books_seen first t)) × (is_committed reply.outcome ≡ false)
+repeated_reply first t batch reply (inl item) = (item.reply_is, ap (λ r. is_committed r.outcome) item.repeats)
+repeated_reply first t batch reply (inr row) = (row.reply_is, ap (λ r. is_committed r.outcome) row.repeats)
+
+by_outcome : Laws → (first : List Book) (domain : Bytes) (now : Session) (line : List ℕ) (request : Request) (ids : ChaCha) (t : Seated) (text : List ℕ) (outcome : Outcome) → spelled domain now.ids line ≡ Ok (request, ids) → 1 ≤ request.tries → AfterCall first domain now.seat t
+    → OwnIsSeen now.seat → SawItsOwn now.seat → SawItsOwn t → IsSubmitted first now.seat t request.batch request.tries outcome → text ≡ submit_json t.calls (now.lines + 1) outcome → IsPlainly first domain now line (asked now t ids) (as_line text)
+by_outcome laws first domain now line request ids t text (Committed reply) e one a es os ot is printed = inl (with_commit laws first domain now line request ids t text reply e a es os ot is printed)
+by_outcome laws first domain now line request ids t text (Repeated reply) e one a es os ot is printed =
     let same = saw_the_same now.seat t es a.own os ot a.seen is.1 in
-    let again = is.0 in
-    let none : commits request.batch (books_seen t) ≡ false = not_committed request.batch (books_seen t) reply again.reply_is (ap (λ r. is_committed r.outcome) again.repeats) in
-    inl (without_commit laws domain now line request ids t text e same a.calls (subst (λ x. commits request.batch (books_of (batches_of x)) ≡ false) (sym same) none) (printed ∙ ap (reply_json t.calls) again.reply_is))
-by_outcome laws domain now line request ids t text (Refused reply) e one a es os ot is printed =
+    let again = repeated_reply first t request.batch reply is.0 in
+    let none : commits request.batch (books_seen first t) ≡ false = not_committed request.batch (books_seen first t) reply again.0 again.1 in
+    inl (without_commit laws first domain now line request ids t text e same a.calls (subst (λ x. commits request.batch (books_from first (batches_of x)) ≡ false) (sym same) none) (printed ∙ ap (reply_json t.calls) again.0))
+by_outcome laws first domain now line request ids t text (Refused reply) e one a es os ot is printed =
     let same = saw_the_same now.seat t es a.own os ot a.seen is.1 in
     let there = is.0 in
-    let none : commits request.batch (books_seen t) ≡ false = not_committed request.batch (books_seen t) reply there.reply_is (ap (λ r. is_committed r.outcome) there.refused) in
-    inl (without_commit laws domain now line request ids t text e same a.calls (subst (λ x. commits request.batch (books_of (batches_of x)) ≡ false) (sym same) none) (printed ∙ ap (reply_json t.calls) there.reply_is))
-by_outcome laws domain now line request ids t text (Conflict n) e one a es os ot is printed =
-    absurd (no_conflict laws now.seat t request.batch request.tries n one (saw_the_same now.seat t es a.own os ot a.seen is.2) is.0)
-by_outcome laws domain now line request ids t text NoMemory e one a es os ot is printed =
-    inl (is_not_run domain now line request ids t text e (ap (λ x. books_of (batches_of x)) (sym (saw_the_same now.seat t es a.own os ot a.seen is))) a.calls printed)
-by_outcome laws domain now line request ids t text NoEntry e one a es os ot is printed = inr (ap as_line printed)
+    let none : commits request.batch (books_seen first t) ≡ false = not_committed request.batch (books_seen first t) reply there.reply_is (ap (λ r. is_committed r.outcome) there.refused) in
+    inl (without_commit laws first domain now line request ids t text e same a.calls (subst (λ x. commits request.batch (books_from first (batches_of x)) ≡ false) (sym same) none) (printed ∙ ap (reply_json t.calls) there.reply_is))
+by_outcome laws first domain now line request ids t text (Conflict n) e one a es os ot is printed =
+    absurd (no_conflict laws first now.seat t request.batch request.tries (n - place_of first) one (saw_the_same now.seat t es a.own os ot a.seen is.2) is.0)
+by_outcome laws first domain now line request ids t text NoMemory e one a es os ot is printed =
+    inl (is_not_run first domain now line request ids t text e (ap (λ x. books_from first (batches_of x)) (sym (saw_the_same now.seat t es a.own os ot a.seen is))) a.calls printed)
+by_outcome laws first domain now line request ids t text NoEntry e one a es os ot is printed = inr (ap as_line printed)
 
-by_no_answer : (domain : Bytes) (now : Session) (line : List ℕ) (request : Request) (ids : ChaCha) (t : Seated) (text : List ℕ) (why : NoAnswer) → spelled domain now.ids line ≡ Ok (request, ids) → now.seat.seen ≡ t.seen → t.calls ≡ now.seat.calls + 1 → text ≡ no_answer_json (now.lines + 1) why → IsPlainly domain now line (asked now t ids) (as_line text)
-by_no_answer domain now line request ids t text no.NoMemory e same calls printed = inl (is_not_run domain now line request ids t text e (ap (λ x. books_of (batches_of x)) (sym same)) calls printed)
-by_no_answer domain now line request ids t text no.NoEntry e same calls printed = inr (ap as_line printed)
+by_no_answer : (first : List Book) (domain : Bytes) (now : Session) (line : List ℕ) (request : Request) (ids : ChaCha) (t : Seated) (text : List ℕ) (why : NoAnswer) → spelled domain now.ids line ≡ Ok (request, ids) → now.seat.seen ≡ t.seen → t.calls ≡ now.seat.calls + 1 → text ≡ no_answer_json (now.lines + 1) why → IsPlainly first domain now line (asked now t ids) (as_line text)
+by_no_answer first domain now line request ids t text no.NoMemory e same calls printed = inl (is_not_run first domain now line request ids t text e (ap (λ x. books_from first (batches_of x)) (sym same)) calls printed)
+by_no_answer first domain now line request ids t text no.NoEntry e same calls printed = inr (ap as_line printed)
 
-by_call : Laws → (domain : Bytes) (now : Session) (line : List ℕ) (request : Request) (ids : ChaCha) (t : Seated) (text : List ℕ) → spelled domain now.ids line ≡ Ok (request, ids) → 1 ≤ request.tries → OwnIsSeen now.seat → SawItsOwn now.seat → SawItsOwn t
-    → AnswersCall domain now.seat request (now.lines + 1) t text → IsPlainly domain now line (asked now t ids) (as_line text) × OwnIsSeen t
-by_call laws domain now line request ids t text e one es os ot (replied query caught own printed) =
+by_call : Laws → (first : List Book) (domain : Bytes) (now : Session) (line : List ℕ) (request : Request) (ids : ChaCha) (t : Seated) (text : List ℕ) → spelled domain now.ids line ≡ Ok (request, ids) → 1 ≤ request.tries → OwnIsSeen now.seat → SawItsOwn now.seat → SawItsOwn t
+    → AnswersCall first domain now.seat request (now.lines + 1) t text → IsPlainly first domain now line (asked now t ids) (as_line text) × OwnIsSeen t
+by_call laws first domain now line request ids t text e one es os ot (replied query caught own printed) =
     let a = caught.after_call in
     let same = saw_the_same now.seat t es a.own os ot a.seen own in
-    (inl (without_commit laws domain now line request ids t text e same a.calls (laws.queries request.batch (books_seen now.seat) query) printed), a.own)
-by_call laws domain now line request ids t text e one es os ot (no_reply why query unchanged own printed) =
+    (inl (without_commit laws first domain now line request ids t text e same a.calls (laws.queries request.batch (books_seen first now.seat) query) printed), a.own)
+by_call laws first domain now line request ids t text e one es os ot (no_reply why query unchanged own printed) =
     let a = unchanged.after_call in
-    (by_no_answer domain now line request ids t text why e (sym unchanged.same) a.calls printed, a.own)
-by_call laws domain now line request ids t text e one es os ot (submitted outcome changes a learnt is printed) =
-    (by_outcome laws domain now line request ids t text outcome e one a es os ot is printed, a.own)
+    (by_no_answer first domain now line request ids t text why e (sym unchanged.same) a.calls printed, a.own)
+by_call laws first domain now line request ids t text e one es os ot (submitted outcome changes a learnt is printed) =
+    (by_outcome laws first domain now line request ids t text outcome e one a es os ot is printed, a.own)
 
 -- ---- a request has at least one try
 
@@ -264,68 +270,68 @@ spelled-tries domain ids after line request e =
 
 -- ---- one line after another
 
-calls_of_call : (domain : Bytes) (s t : Seated) (request : Request) (line : ℕ) (text : List ℕ) → AnswersCall domain s request line t text → t.calls ≤ s.calls + 1
-calls_of_call domain s t request line text (replied query caught own printed) = let a = caught.after_call.calls in omega (arith, a)
-calls_of_call domain s t request line text (no_reply why query unchanged own printed) = let a = unchanged.after_call.calls in omega (arith, a)
-calls_of_call domain s t request line text (submitted outcome changes after learnt is printed) = let a = after.calls in omega (arith, a)
+calls_of_call : (first : List Book) (domain : Bytes) (s t : Seated) (request : Request) (line : ℕ) (text : List ℕ) → AnswersCall first domain s request line t text → t.calls ≤ s.calls + 1
+calls_of_call first domain s t request line text (replied query caught own printed) = let a = caught.after_call.calls in omega (arith, a)
+calls_of_call first domain s t request line text (no_reply why query unchanged own printed) = let a = unchanged.after_call.calls in omega (arith, a)
+calls_of_call first domain s t request line text (submitted outcome changes after learnt is printed) = let a = after.calls in omega (arith, a)
 
-by_line : Laws → (domain : Bytes) (now next : Session) (line reply : List ℕ) → now.seat.calls < 2 ^ 48 → OwnIsSeen now.seat → SawItsOwn now.seat → SawItsOwn next.seat → AnswersRequest domain now line next reply
-    → IsPlainly domain now line next reply × (OwnIsSeen next.seat × (next.seat.calls ≤ now.seat.calls + 1))
-by_line laws domain now next line reply few es os ot (refused fault e n r) =
-    let P : Session → Type 0 = λ x. IsPlainly domain now line x reply × (OwnIsSeen x.seat × (x.seat.calls ≤ now.seat.calls + 1)) in
+by_line : Laws → (first : List Book) (domain : Bytes) (now next : Session) (line reply : List ℕ) → now.seat.calls < 2 ^ 48 → OwnIsSeen now.seat → SawItsOwn now.seat → SawItsOwn next.seat → AnswersRequest first domain now line next reply
+    → IsPlainly first domain now line next reply × (OwnIsSeen next.seat × (next.seat.calls ≤ now.seat.calls + 1))
+by_line laws first domain now next line reply few es os ot (refused fault e n r) =
+    let P : Session → Type 0 = λ x. IsPlainly first domain now line x reply × (OwnIsSeen x.seat × (x.seat.calls ≤ now.seat.calls + 1)) in
     subst P (sym n) (inl (plain_refused fault e refl r), (es, omega arith))
-by_line laws domain now next line reply few es os ot (not_read n r) =
-    let P : Session → Type 0 = λ x. IsPlainly domain now line x reply × (OwnIsSeen x.seat × (x.seat.calls ≤ now.seat.calls + 1)) in
+by_line laws first domain now next line reply few es os ot (not_read n r) =
+    let P : Session → Type 0 = λ x. IsPlainly first domain now line x reply × (OwnIsSeen x.seat × (x.seat.calls ≤ now.seat.calls + 1)) in
     subst P (sym n) (inl (plain_not_read refl r), (es, omega arith))
-by_line laws domain now next line reply few es os ot (spent request ids e most n r) = absurd (omega (arith, few, most))
-by_line laws domain now next line reply few es os ot (answered request ids seat text e a n r) =
-    let P : Session → Type 0 = λ x. IsPlainly domain now line x reply × (OwnIsSeen x.seat × (x.seat.calls ≤ now.seat.calls + 1)) in
+by_line laws first domain now next line reply few es os ot (spent request ids e most n r) = absurd (omega (arith, few, most))
+by_line laws first domain now next line reply few es os ot (answered request ids seat text e a n r) =
+    let P : Session → Type 0 = λ x. IsPlainly first domain now line x reply × (OwnIsSeen x.seat × (x.seat.calls ≤ now.seat.calls + 1)) in
     let seen : SawItsOwn seat = subst (λ (x : Session). SawItsOwn x.seat) n ot in
-    let call = by_call laws domain now line request ids seat text e (spelled-tries domain now.ids ids line request e) es os seen a in
-    let calls : seat.calls ≤ now.seat.calls + 1 = calls_of_call domain now.seat seat request (now.lines + 1) text a in
-    subst P (sym n) (subst (λ x. IsPlainly domain now line (asked now seat ids) x) (sym r) call.0, (call.1, calls))
+    let call = by_call laws first domain now line request ids seat text e (spelled-tries domain now.ids ids line request e) es os seen a in
+    let calls : seat.calls ≤ now.seat.calls + 1 = calls_of_call first domain now.seat seat request (now.lines + 1) text a in
+    subst P (sym n) (subst (λ x. IsPlainly first domain now line (asked now seat ids) x) (sym r) call.0, (call.1, calls))
 
 -- the text is that of `plain` from a state on, or there is a line answered L8
-data RunsFrom (domain : Bytes) (first : Session) (lines : List (List ℕ)) (last : Session) (text : List ℕ) : Type 0 where
-  plainly : IsRun (Answers domain) (plain_state first) lines (plain_state last) text → RunsFrom domain first lines last text
-  refused_at : (before : List (List ℕ)) (line : List ℕ) (after : List (List ℕ)) (mid : Session) (front rest : List ℕ) → lines ≡ before ++ line ∷ after → IsRun (Answers domain) (plain_state first) before (plain_state mid) front → text ≡ front ++ (as_line (seat_refusal_json (mid.lines + 1) NotAdmitted) ++ rest) → RunsFrom domain first lines last text
+data RunsFrom (first : List Book) (domain : Bytes) (start : Session) (lines : List (List ℕ)) (last : Session) (text : List ℕ) : Type 0 where
+  plainly : IsRun (Answers domain) (plain_state first start) lines (plain_state first last) text → RunsFrom first domain start lines last text
+  refused_at : (before : List (List ℕ)) (line : List ℕ) (after : List (List ℕ)) (mid : Session) (front rest : List ℕ) → lines ≡ before ++ line ∷ after → IsRun (Answers domain) (plain_state first start) before (plain_state first mid) front → text ≡ front ++ (as_line (seat_refusal_json (mid.lines + 1) NotAdmitted) ++ rest) → RunsFrom first domain start lines last text
 
-one_more : (domain : Bytes) (first next last : Session) (line : List ℕ) (lines : List (List ℕ)) (reply rest text : List ℕ) → Answers domain (plain_state first) line (plain_state next) reply → text ≡ reply ++ rest → RunsFrom domain next lines last rest → RunsFrom domain first (line ∷ lines) last text
-one_more domain first next last line lines reply rest text a e (plainly run) = plainly (plain_state next, reply, rest, a, e, run)
-one_more domain first next last line lines reply rest text a e (refused_at before other after mid front behind f run g) =
-    refused_at (line ∷ before) other after mid (reply ++ front) behind (ap (λ l. line ∷ l) f) (plain_state next, reply, front, a, refl, run) (e ∙ (ap (λ x. reply ++ x) g ∙ sym (append_assoc reply front _)))
+one_more : (first : List Book) (domain : Bytes) (start next last : Session) (line : List ℕ) (lines : List (List ℕ)) (reply rest text : List ℕ) → Answers domain (plain_state first start) line (plain_state first next) reply → text ≡ reply ++ rest → RunsFrom first domain next lines last rest → RunsFrom first domain start (line ∷ lines) last text
+one_more first domain start next last line lines reply rest text a e (plainly run) = plainly (plain_state first next, reply, rest, a, e, run)
+one_more first domain start next last line lines reply rest text a e (refused_at before other after mid front behind f run g) =
+    refused_at (line ∷ before) other after mid (reply ++ front) behind (ap (λ l. line ∷ l) f) (plain_state first next, reply, front, a, refl, run) (e ∙ (ap (λ x. reply ++ x) g ∙ sym (append_assoc reply front _)))
 
-runs_from : Laws → SessionsGrow → (domain : Bytes) (lines : List (List ℕ)) (first last : Session) (text : List ℕ) → first.seat.calls + length lines ≤ 2 ^ 48 → OwnIsSeen first.seat → SawItsOwn last.seat → IsRun (AnswersRequest domain) first lines last text → RunsFrom domain first lines last text
-runs_from laws grow domain [] first last text few es own run =
-    let P : Session → Type 0 = λ x. RunsFrom domain first [] x text in
+runs_from : Laws → SessionsGrow → (first : List Book) (domain : Bytes) (lines : List (List ℕ)) (start last : Session) (text : List ℕ) → start.seat.calls + length lines ≤ 2 ^ 48 → OwnIsSeen start.seat → SawItsOwn last.seat → IsRun (AnswersRequest first domain) start lines last text → RunsFrom first domain start lines last text
+runs_from laws grow first domain [] start last text few es own run =
+    let P : Session → Type 0 = λ x. RunsFrom first domain start [] x text in
     subst P (sym run.0) (plainly (refl, run.1))
-runs_from laws grow domain (line ∷ lines) first last text few es own run =
+runs_from laws grow first domain (line ∷ lines) start last text few es own run =
     let next : Session = run.0 in
-    let later = grow domain lines next last run.2 run.5 in
-    let whole = grow domain (line ∷ lines) first last text run in
-    let os : SawItsOwn first.seat = saw_before first.seat last.seat (sym whole.number) whole.seen own in
+    let later = grow first domain lines next last run.2 run.5 in
+    let whole = grow first domain (line ∷ lines) start last text run in
+    let os : SawItsOwn start.seat = saw_before start.seat last.seat (sym whole.number) whole.seen own in
     let ot : SawItsOwn next.seat = saw_before next.seat last.seat (sym later.number) later.seen own in
-    let step = by_line laws domain first next line run.1 (omega (arith, few)) es os ot run.3 in
+    let step = by_line laws first domain start next line run.1 (omega (arith, few)) es os ot run.3 in
     let calls = step.1.1 in
     elim step.0 [
-      | inl a ↦ one_more domain first next last line lines run.1 run.2 text a run.4 (runs_from laws grow domain lines next last run.2 (omega (arith, few, calls)) step.1.0 own run.5)
-      | inr l8 ↦ refused_at [] line lines first [] run.2 refl (refl, refl) (run.4 ∙ ap (λ x. x ++ run.2) l8)
+      | inl a ↦ one_more first domain start next last line lines run.1 run.2 text a run.4 (runs_from laws grow first domain lines next last run.2 (omega (arith, few, calls)) step.1.0 own run.5)
+      | inr l8 ↦ refused_at [] line lines start [] run.2 refl (refl, refl) (run.4 ∙ ap (λ x. x ++ run.2) l8)
     ]
 
-finished : (domain : Bytes) (seed : List ℕ) (lines : List (List ℕ)) (first last : Session) (text : List ℕ) → plain_state first ≡ plain_start seed → RunsFrom domain first lines last text → RunsAsPlain domain seed lines last text
-finished domain seed lines first last text e (plainly run) =
-    let P : Running → Type 0 = λ s. IsRun (Answers domain) s lines (plain_state last) text in
+finished : (first : List Book) (domain : Bytes) (seed : List ℕ) (lines : List (List ℕ)) (start last : Session) (text : List ℕ) → plain_state first start ≡ plain_start_on first seed → RunsFrom first domain start lines last text → RunsAsPlain first domain seed lines last text
+finished first domain seed lines start last text e (plainly run) =
+    let P : Running → Type 0 = λ s. IsRun (Answers domain) s lines (plain_state first last) text in
     as_plain (subst P e run)
-finished domain seed lines first last text e (refused_at before line after mid front rest f run g) =
-    let P : Running → Type 0 = λ s. IsRun (Answers domain) s before (plain_state mid) front in
+finished first domain seed lines start last text e (refused_at before line after mid front rest f run g) =
+    let P : Running → Type 0 = λ s. IsRun (Answers domain) s before (plain_state first mid) front in
     not_admitted before line after mid front rest f (subst P e run) g
 
 pub alone_are_plain : Laws → SessionsGrow → SessionsAloneArePlain
 unfolding most_lines
-alone_are_plain laws grow domain seed seat lines last text new many run own =
-    let first : Session = session_start seat (first_ids seed) in
+alone_are_plain laws grow first domain seed seat lines last text new many run own =
+    let start : Session = session_start seat (first_ids seed) in
     let calls = new.calls in
     let few : seat.calls + length lines ≤ 2 ^ 48 = omega (arith, many, calls) in
     let es : OwnIsSeen seat = ap (calls_of seat.number) new.seen ∙ sym new.own in
-    let begins : plain_state first ≡ plain_start seed = ap (λ x. state_of (books_of (batches_of x)) (first_ids seed) seat.calls 0) new.seen ∙ ap (λ c. state_of first_books (first_ids seed) c 0) new.calls in
-    finished domain seed lines first last text begins (runs_from laws grow domain lines first last text few es own run)
+    let begins : plain_state first start ≡ plain_start_on first seed = ap (λ x. state_of (books_from first (batches_of x)) (first_ids seed) seat.calls 0) new.seen ∙ ap (λ c. state_of first (first_ids seed) c 0) new.calls in
+    finished first domain seed lines start last text begins (runs_from laws grow first domain lines start last text few es own run)

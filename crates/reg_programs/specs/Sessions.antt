@@ -2,7 +2,8 @@
 use Rattle.std.specs.Prelude.{◌≡◌, ◌≤◌, ◌^◌, ℕ, ◌+◌, true, false, List, [], Result, Ok, Err}
 use Rattle.rand_chacha.specs.ChaCha.{ChaCha}
 use Rattle.entry_book.specs.Batches.{is_query}
-use Rattle.entry_book.specs.History.{books_of, reply_to}
+use Rattle.entry_book.specs.Book.{Book}
+use Rattle.entry_book.specs.History.{books_from, reply_to}
 use Rattle.entry_book.specs.Rows.{Bytes}
 use mathlib.Core.List.{IsPrefix}
 use Rattle.commit_head.specs.Journals.{IsLawfulJournal, batches_of}
@@ -63,21 +64,21 @@ submit_json call line NoEntry = seat_refusal_json line NotAdmitted
 -- The printed answer to a request, and the seat after it. A query gets the reply of the plain book on the books of the journal
 -- that the seat has then seen. A batch of changes gets an outcome that the registry allows, with the number of tries of the
 -- request.
-pub data AnswersCall (domain : Bytes) (s : Seated) (request : Request) (line : ℕ) (t : Seated) (text : List ℕ) : Type 0 where
-  replied : is_query request.batch.ops ≡ true → CaughtUp domain s t → t.own ≡ s.own → text ≡ reply_json t.calls (reply_to request.batch (books_of (batches_of t.seen))) → AnswersCall domain s request line t text
-  no_reply : (why : NoAnswer) → is_query request.batch.ops ≡ true → SawNothingNew domain s t → t.own ≡ s.own → text ≡ no_answer_json line why → AnswersCall domain s request line t text
-  submitted : (outcome : Outcome) → is_query request.batch.ops ≡ false → AfterCall domain s t → HasSeenLearnt s t outcome → IsSubmitted s t request.batch request.tries outcome → text ≡ submit_json t.calls line outcome → AnswersCall domain s request line t text
+pub data AnswersCall (first : List Book) (domain : Bytes) (s : Seated) (request : Request) (line : ℕ) (t : Seated) (text : List ℕ) : Type 0 where
+  replied : is_query request.batch.ops ≡ true → CaughtUp first domain s t → t.own ≡ s.own → text ≡ reply_json t.calls (reply_to request.batch (books_from first (batches_of t.seen))) → AnswersCall first domain s request line t text
+  no_reply : (why : NoAnswer) → is_query request.batch.ops ≡ true → SawNothingNew first domain s t → t.own ≡ s.own → text ≡ no_answer_json line why → AnswersCall first domain s request line t text
+  submitted : (outcome : Outcome) → is_query request.batch.ops ≡ false → AfterCall first domain s t → HasSeenLearnt s t outcome → IsSubmitted first s t request.batch request.tries outcome → text ≡ submit_json t.calls line outcome → AnswersCall first domain s request line t text
 
 -- ---- a line, and its reply
 
 -- The reply that a line may get in a session, and the state after it. A line that represents a request makes one call of the
 -- seat, and draws the ids of its creates, whatever its answer; a seat without a call number left makes none. If memory runs out
 -- while a line is read, the reply says so, and the line changes nothing.
-pub data AnswersRequest (domain : Bytes) (now : Session) (line : List ℕ) (next : Session) (reply : List ℕ) : Type 0 where
-  refused : (fault : Fault) → spelled domain now.ids line ≡ Err fault → next ≡ session_skips now → reply ≡ as_line (fault_json (now.lines + 1) fault) → AnswersRequest domain now line next reply
-  not_read : next ≡ session_skips now → reply ≡ as_line (no_memory_json (now.lines + 1)) → AnswersRequest domain now line next reply
-  spent : (request : Request) (ids : ChaCha) → spelled domain now.ids line ≡ Ok (request, ids) → 2 ^ 48 ≤ now.seat.calls → next ≡ asked now now.seat ids → reply ≡ as_line (seat_refusal_json (now.lines + 1) Spent) → AnswersRequest domain now line next reply
-  answered : (request : Request) (ids : ChaCha) (seat : Seated) (text : List ℕ) → spelled domain now.ids line ≡ Ok (request, ids) → AnswersCall domain now.seat request (now.lines + 1) seat text → next ≡ asked now seat ids → reply ≡ as_line text → AnswersRequest domain now line next reply
+pub data AnswersRequest (first : List Book) (domain : Bytes) (now : Session) (line : List ℕ) (next : Session) (reply : List ℕ) : Type 0 where
+  refused : (fault : Fault) → spelled domain now.ids line ≡ Err fault → next ≡ session_skips now → reply ≡ as_line (fault_json (now.lines + 1) fault) → AnswersRequest first domain now line next reply
+  not_read : next ≡ session_skips now → reply ≡ as_line (no_memory_json (now.lines + 1)) → AnswersRequest first domain now line next reply
+  spent : (request : Request) (ids : ChaCha) → spelled domain now.ids line ≡ Ok (request, ids) → 2 ^ 48 ≤ now.seat.calls → next ≡ asked now now.seat ids → reply ≡ as_line (seat_refusal_json (now.lines + 1) Spent) → AnswersRequest first domain now line next reply
+  answered : (request : Request) (ids : ChaCha) (seat : Seated) (text : List ℕ) → spelled domain now.ids line ≡ Ok (request, ids) → AnswersCall first domain now.seat request (now.lines + 1) seat text → next ≡ asked now seat ids → reply ≡ as_line text → AnswersRequest first domain now line next reply
 
 -- ---- a run
 
@@ -87,20 +88,20 @@ LeavesSeat left last end = (end ≡ []) × (last.seat ≡ left)
 
 -- The result of a run of the engine over an input and an output: it is a run of lines, and if it succeeded, this is the seat at
 -- the end.
-abbrev pub RunsSession : {T : Type 0} → Bytes → Seated → ChaCha → InputState → InputState → OutputState → OutputState → Seated → Result T RunFault → Type 0
-RunsSession domain seat ids input rest output out left result = RunsOver (AnswersRequest domain) (LeavesSeat left) ⊥ (session_start seat ids) input rest output out result
+abbrev pub RunsSession : {T : Type 0} → List Book → Bytes → Seated → ChaCha → InputState → InputState → OutputState → OutputState → Seated → Result T RunFault → Type 0
+RunsSession first domain seat ids input rest output out left result = RunsOver (AnswersRequest first domain) (LeavesSeat left) ⊥ (session_start seat ids) input rest output out result
 
 -- ---- a theorem: what the seat of a session has seen only grows
 
 -- The seat is the same, has made no fewer calls, and has learnt of nothing else. What it has seen extends what it had seen, and
 -- is a lawful journal if that was one.
-pub record Grew (domain : Bytes) (s t : Seated) : Type 0 where
+pub record Grew (first : List Book) (domain : Bytes) (s t : Seated) : Type 0 where
   pub number : t.number ≡ s.number
   pub calls : s.calls ≤ t.calls
   pub seen : IsPrefix s.seen t.seen
-  pub lawful : IsLawfulJournal domain s.seen → IsLawfulJournal domain t.seen
+  pub lawful : IsLawfulJournal first domain s.seen → IsLawfulJournal first domain t.seen
   pub learnt : t.learnt ≡ s.learnt
 
 -- So, if the journal is lawful, a session is answered on the books of its prefixes: of what the seat has seen at the end.
 abbrev pub SessionsGrow : Type 0
-SessionsGrow = (domain : Bytes) (lines : List (List ℕ)) (first last : Session) (text : List ℕ) → IsRun (AnswersRequest domain) first lines last text → Grew domain first.seat last.seat
+SessionsGrow = (first : List Book) (domain : Bytes) (lines : List (List ℕ)) (start last : Session) (text : List ℕ) → IsRun (AnswersRequest first domain) start lines last text → Grew first domain start.seat last.seat

@@ -1,6 +1,7 @@
 //! How are the connections of a server answered by several workers?
 
 ghost use Rattle.std.specs.Prelude.{◌≡◌, ◌<◌, ◌≤◌, ◌⊎◌, [], Err, IfOk, get_or, length, vec_capacity, vec_items, vec_len, ℕ};
+ghost use Rattle.entry_book.specs.History.{first_books};
 ghost use Rattle.shared_registry.specs.OneList.{AreOneList};
 ghost use Rattle.shared_registry.specs.Seated.{Seated};
 ghost use Rattle.reg_programs.specs.Served.{EachGrew, HaveSeenOneList};
@@ -102,6 +103,7 @@ fn serve_registry<
     server: Server<'_>,
 ) -> Result<(), ServeFault>
     requires history { new_history.seen.book ≡ J.history }
+    requires first { J.first ≡ first_books }
     requires registry_domain { registry_domain ≡ J.domain }
     requires domain { server.domain.now ≡ J.domain }
     requires workers { 0 < server.plan.workers }
@@ -239,7 +241,7 @@ pub fn serve_connections<
 ) -> (Vec<Seat<J>>, Result<(), ServeFault>)
     requires workers { 0 < length queues.now }
     requires seats { vec_len seats ≡ length queues.now }
-    ensures grew { (result.1 ≡ Err OutOfMemory) ⊎ EachGrew J.domain (vec_items seats) (vec_items result.0) }
+    ensures grew { (result.1 ≡ Err OutOfMemory) ⊎ EachGrew J.first J.domain (vec_items seats) (vec_items result.0) }
     ensures one_list { HaveSeenOneList (vec_items result.0) }
 {
     let (seats, served) = serve_by_workers(context, seats, queues, listener, connections);
@@ -262,7 +264,7 @@ fn serve_by_workers<
 ) -> (Vec<Seat<J>>, Result<(), ServeFault>)
     requires workers { 0 < length queues.now }
     requires seats { vec_len seats ≡ length queues.now }
-    ensures { (result.1 ≡ Err OutOfMemory) ⊎ EachGrew J.domain (vec_items seats) (vec_items result.0) }
+    ensures { (result.1 ≡ Err OutOfMemory) ⊎ EachGrew J.first J.domain (vec_items seats) (vec_items result.0) }
 {
     let (rt, alloc) = (context.rt, context.alloc);
     let Ok(left) = Vec::with_capacity(alloc, queues.len()) else {
@@ -281,7 +283,7 @@ fn serve_by_workers<
             requires room { length queues.now ≤ vec_capacity workers }
             requires empty { vec_items left ≡ [] }
             requires space { length queues.now ≤ vec_capacity left }
-            ensures { (result.1 ≡ Err OutOfMemory) ⊎ EachGrew J.domain (vec_items seats) (vec_items result.0) }
+            ensures { (result.1 ≡ Err OutOfMemory) ⊎ EachGrew J.first J.domain (vec_items seats) (vec_items result.0) }
         {
             for seat in seats {
                 let queue = &queues[workers.len()];
@@ -309,7 +311,7 @@ struct GrownFrom<J: RegistryId>(Snapshot<Seat<J>>);
 impl<J: RegistryId> Promise<Seat<J>> for GrownFrom<J> {
     ghost use Rattle.reg_programs.specs.Sessions.{Grew};
 
-    ghost kept_by = { λ promise seat. Grew J.domain promise.0.value seat };
+    ghost kept_by = { λ promise seat. Grew J.first J.domain promise.0.value seat };
 }
 
 /// Waits until each worker has ended, and appends its seat to `seats`, which is empty and has room for all of them.
@@ -321,7 +323,7 @@ fn seats_at_end<J: RegistryId, R: Threads>(
     requires empty { vec_items seats ≡ [] }
     requires room { vec_len workers ≤ vec_capacity seats }
     ensures count { vec_len result ≡ vec_len workers }
-    ensures grew { (i : ℕ) (w : _) (s : Seated) → i < vec_len workers → Grew J.domain (get_or (vec_items workers) i w).promise.0.value (get_or (vec_items result) i s) }
+    ensures grew { (i : ℕ) (w : _) (s : Seated) → i < vec_len workers → Grew J.first J.domain (get_or (vec_items workers) i w).promise.0.value (get_or (vec_items result) i s) }
 {
     for worker in workers {
         let Ok(()) = seats.push(worker.join(rt)) else {
@@ -355,7 +357,7 @@ fn work<J: RegistryId, R: Wait>(
     mut seat: Seat<J>,
     queue: &Queue,
 ) -> Seat<J>
-    ensures { Grew J.domain seat result }
+    ensures { Grew J.first J.domain seat result }
 {
     for _ in context.rt.forever() {
         let Some(connection) = queue.take(context.rt) else {
@@ -375,7 +377,7 @@ fn attend<J: RegistryId, R: Wait>(
     seat: Seat<J>,
     connection: &Connection,
 ) -> Seat<J>
-    ensures { Grew J.domain seat result }
+    ensures { Grew J.first J.domain seat result }
 {
     // so a reply is sent without delay; if the option can't be set, replies are sent all the same
     let _ = connection.stream.set_nodelay(true);

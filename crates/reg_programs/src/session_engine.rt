@@ -41,8 +41,8 @@ pub fn session<J: RegistryId, R: Wait, S: Source, K: Sink>(
     requires input { input.old.failures ≡ 0 }
     requires output { output.old.failures ≡ 0 }
     requires none_held { output.old.held ≡ [] }
-    ensures runs { RunsSession J.domain seat ids input.old input.new output.old output.new result.0 result.1 }
-    ensures grew { Grew J.domain seat result.0 }
+    ensures runs { RunsSession J.first J.domain seat ids input.old input.new output.old output.new result.0 result.1 }
+    ensures grew { Grew J.first J.domain seat result.0 }
 {
     let mut run = SessionRun {
         rt,
@@ -100,9 +100,9 @@ impl<'a, J: RegistryId, R: Wait> LineHandler for SessionRun<'a, J, R> {
 
     ghost represents = { SessionRepresents };
 
-    ghost preserves = { λ first r. Grew J.domain first.seat r.seat };
+    ghost preserves = { λ start r. Grew J.first J.domain start.seat r.seat };
 
-    ghost answers = { λ _. AnswersRequest J.domain };
+    ghost answers = { λ _. AnswersRequest J.first J.domain };
 
     ghost ends = { λ _. false };
 
@@ -110,7 +110,7 @@ impl<'a, J: RegistryId, R: Wait> LineHandler for SessionRun<'a, J, R> {
 
     ghost may_lack_memory = { ⊥ };
 
-    ghost some_answer = { λ _. a_request_answer J.domain };
+    ghost some_answer = { λ _. a_request_answer J.first J.domain };
 
     fn answer<K: Sink>(
         &mut self,
@@ -158,10 +158,10 @@ fn print_found<J: RegistryId, K: Sink>(
     batch: &Batch,
     output: &mut Output<K>,
 ) -> bool
-    requires found { MaySeeFound J.domain seat.now }
+    requires found { MaySeeFound J.first J.domain seat.now }
     requires query { is_query batch.now.ops ≡ true }
     requires domain { batch.now.domain ≡ J.domain }
-    ensures { MatchBool result (Puts output.old output.new (as_line (found_json seat.now batch.now))) (output.new ≡ output.old) }
+    ensures { MatchBool result (Puts output.old output.new (as_line (found_json J.first seat.now batch.now))) (output.new ≡ output.old) }
 {
     match seat.answer(batch) {
         Ok(reply) => {
@@ -175,8 +175,8 @@ fn print_found<J: RegistryId, K: Sink>(
 
 /// Prints the reply to a line that was taken. Afterwards the seat has seen the journal that its reply was computed from.
 fn print_taken<J: RegistryId, K: Sink>(seat: &mut Seat<J>, taken: &Taken, output: &mut Output<K>)
-    requires { IsToAnswer J.domain seat.old taken.now }
-    ensures { (text : List ℕ) × IsPrinted seat.old taken.now seat.new text × Puts output.old output.new (as_line text) }
+    requires { IsToAnswer J.first J.domain seat.old taken.now }
+    ensures { (text : List ℕ) × IsPrinted J.first seat.old taken.now seat.new text × Puts output.old output.new (as_line text) }
 {
     match taken {
         Taken::Answered(call, answer) => {
@@ -207,10 +207,10 @@ fn take<J: RegistryId, R: Wait>(
     line: &[u8],
 ) -> Taken
     requires domain { domain.now ≡ J.domain }
-    ensures asked { IsToAnswer J.domain seat.new result }
-    ensures grew { (printed : Seated) (text : List ℕ) → IsPrinted seat.new result printed text → Grew J.domain seat.old printed }
-    ensures line { (lines : ℕ) (printed : Seated) (text : List ℕ) → number ≡ lines + 1 → IsPrinted seat.new result printed text
-        → TakesRequestLine J.domain (record { seat = seat.old; ids = ids.old; lines = lines }) line.now text printed ids.new }
+    ensures asked { IsToAnswer J.first J.domain seat.new result }
+    ensures grew { (printed : Seated) (text : List ℕ) → IsPrinted J.first seat.new result printed text → Grew J.first J.domain seat.old printed }
+    ensures line { (lines : ℕ) (printed : Seated) (text : List ℕ) → number ≡ lines + 1 → IsPrinted J.first seat.new result printed text
+        → TakesRequestLine J.first J.domain (record { seat = seat.old; ids = ids.old; lines = lines }) line.now text printed ids.new }
 {
     match read_request(alloc, domain, ids, line, number) {
         Err(refusal) => Taken::NotRead(refusal),
@@ -237,9 +237,9 @@ fn call<J: RegistryId, R: Wait>(
 ) -> Taken
     requires domain { request.batch.domain ≡ J.domain }
     requires calls { seat.old.calls < 2 ^ 48 }
-    ensures asked { IsToAnswer J.domain seat.new result }
-    ensures answers { (printed : Seated) (text : List ℕ) → IsPrinted seat.new result printed text
-        → AnswersCall J.domain seat.old request line printed text }
+    ensures asked { IsToAnswer J.first J.domain seat.new result }
+    ensures answers { (printed : Seated) (text : List ℕ) → IsPrinted J.first seat.new result printed text
+        → AnswersCall J.first J.domain seat.old request line printed text }
 {
     let Request { batch, tries } = request;
     if batch.is_query() {

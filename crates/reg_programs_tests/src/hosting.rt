@@ -1,6 +1,7 @@
 //! A server over TCP and its clients, in one process.
 
 ghost use Rattle.std.specs.Prelude.{◌≡◌, ◌<◌, length, vec_len};
+ghost use Rattle.entry_book.specs.History.{first_books};
 
 use crate::staged::{Staged, TURNS, Watched, become_closed};
 use reg_programs::{
@@ -217,6 +218,7 @@ fn host_by<
     callers: &C,
 ) -> Result<Hosted, Fail>
     requires history { new_history.seen.book ≡ J.history }
+    requires first { J.first ≡ first_books }
     requires kept { kept ≡ J.domain }
     requires domain { domain.now ≡ J.domain }
     requires workers { 0 < plan.workers }

@@ -1,6 +1,7 @@
 //! How many workers get a seat?
 
 ghost use Rattle.std.specs.Prelude.{◌≡◌};
+ghost use Rattle.entry_book.specs.History.{first_books};
 
 use crate::wanted::holds;
 use reg_programs::{ServeFault, seats_of};
@@ -21,6 +22,7 @@ fn seated<J: RegistryId, R: Wait>(
     workers: usize,
 ) -> Result<Option<ServeFault>, Fail>
     requires history { new_history.seen.book ≡ J.history }
+    requires first { J.first ≡ first_books }
     requires registry_domain { registry_domain ≡ J.domain }
 {
     let registry = Registry::<J>::new(alloc, new_history, registry_domain)?;

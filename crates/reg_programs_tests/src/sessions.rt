@@ -1,6 +1,7 @@
 //! Sessions over memory, and over devices that fail: a seat that is alone on a registry replies what a plain book replies.
 
 ghost use Rattle.std.specs.Prelude.{◌≡◌};
+ghost use Rattle.entry_book.specs.History.{first_books};
 
 use crate::engine::{Engine, Table};
 use crate::failing::{fail_each_read, fail_each_write};
@@ -57,6 +58,7 @@ fn session_of<J: RegistryId, R: Wait>(
     fake_writer: &mut FakeWriter,
 ) -> Result<Result<(), RunFault>, Fail>
     requires history { new_history.seen.book ≡ J.history }
+    requires first { J.first ≡ first_books }
     requires kept { kept ≡ J.domain }
     requires domain { domain.now ≡ J.domain }
 {

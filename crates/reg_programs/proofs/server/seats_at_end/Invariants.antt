@@ -11,5 +11,5 @@ invariant-loop-worker g l =
     let done = vec_len l.seats in let rest = l.worker-iterator in let first = l.initial.worker-iterator in
     (done + into_iter_len rest ≡ into_iter_len first)
     × ((k : ℕ) (d : _) → k < into_iter_len rest → get_or (into_iter_items rest) k d ≡ get_or (into_iter_items first) (done + k) d)
-    × ((k : ℕ) (w : _) (s : Seated) → k < done → Grew g.J.RegistryId.domain (get_or (into_iter_items first) k w).promise.0.value (get_or (vec_items l.seats) k s))
+    × ((k : ℕ) (w : _) (s : Seated) → k < done → Grew g.J.RegistryId.first g.J.RegistryId.domain (get_or (into_iter_items first) k w).promise.0.value (get_or (vec_items l.seats) k s))
     × (into_iter_len first ≤ vec_capacity l.seats)

@@ -1,5 +1,5 @@
 use Rattle.std.proofs.Common.{ℕ, ⊎_elim, ap, subst, sym, ◌∙◌}
-use Rattle.entry_book.specs.History.{books_of, reply_to}
+use Rattle.entry_book.specs.History.{books_from, reply_to}
 use Rattle.commit_head.specs.Journals.{batches_of}
 use Rattle.reg_lines.specs.Replies.{reply_json}
 use Rattle.shared_registry.specs.Outcomes.{IsSubmitted}
@@ -14,6 +14,7 @@ use Rattle.reg_programs.proofs.session_engine.call.Goals as goal
 
 pub returns-in-Ok : goal.returns-in-Ok
 returns-in-Ok g c =
+    let first = g.J.RegistryId.first in
     let domain = g.J.RegistryId.domain in
     let query = sym c.is_query.ensures.query ∙ c.if-is_query.true in
     let looked = c.in-Ok.ensures in
@@ -21,9 +22,9 @@ returns-in-Ok g c =
     record {
       asked = (looked.found, query, c.requires.domain);
       answers = λ t text p. ⊎_elim
-          (λ a. replied query (entered domain c.args.seat.now u t looked.is_unchanged looked.found a.0) (ap (λ (s : Seated). s.own) a.0 ∙ looked.own)
-          (a.1 ∙ sym (ap (λ (s : Seated). reply_json s.calls (reply_to c.args.request.batch (books_of (batches_of s.seen)))) a.0)))
-          (λ a. subst (λ (s : Seated). AnswersCall domain c.args.seat.now c.args.request c.args.line s text) (sym a.0) (no_reply no.NoMemory query looked.is_unchanged looked.own a.1))
+          (λ a. replied query (entered first domain c.args.seat.now u t looked.is_unchanged looked.found a.0) (ap (λ (s : Seated). s.own) a.0 ∙ looked.own)
+          (a.1 ∙ sym (ap (λ (s : Seated). reply_json s.calls (reply_to c.args.request.batch (books_from first (batches_of s.seen)))) a.0)))
+          (λ a. subst (λ (s : Seated). AnswersCall first domain c.args.seat.now c.args.request c.args.line s text) (sym a.0) (no_reply no.NoMemory query looked.is_unchanged looked.own a.1))
           p;
     }
 
@@ -31,14 +32,15 @@ returns-in-Ok g c =
 
 pub returns-in-Err : goal.returns-in-Err
 returns-in-Err g c =
+    let first = g.J.RegistryId.first in
     let domain = g.J.RegistryId.domain in
     let looked = c.look.ensures in
     let query = sym c.is_query.ensures.query ∙ c.if-is_query.true in
     record {
-      asked = to_answer domain c.look.new.self c.not_answered.result _ c.not_answered.ensures;
+      asked = to_answer first domain c.look.new.self c.not_answered.result _ c.not_answered.ensures;
       answers = λ t text p.
-          let a = printed_as c.look.new.self t c.not_answered.result _ text c.not_answered.ensures p in
-          subst (λ (s : Seated). AnswersCall domain c.args.seat.now c.args.request c.args.line s text) (sym a.0)
+          let a = printed_as first c.look.new.self t c.not_answered.result _ text c.not_answered.ensures p in
+          subst (λ (s : Seated). AnswersCall first domain c.args.seat.now c.args.request c.args.line s text) (sym a.0)
           (no_reply c.in-Err.why query looked.is_unchanged looked.own a.1);
     }
 
@@ -46,13 +48,14 @@ returns-in-Err g c =
 
 pub returns-else-is_query : goal.returns-else-is_query
 returns-else-is_query g c =
+    let first = g.J.RegistryId.first in
     let domain = g.J.RegistryId.domain in
     let learnt = subst (λ (n : ℕ). HasText c.outcome_of.result (submit_json n c.args.line c.submit-outcome.result)) c.calls.ensures c.outcome_of.ensures in
-    let made = subst (λ (n : ℕ). IsSubmitted c.args.seat.now c.submit-outcome.new.seat c.args.request.batch n c.submit-outcome.result) c.count.ensures.value c.submit-outcome.ensures.answer in
+    let made = subst (λ (n : ℕ). IsSubmitted first c.args.seat.now c.submit-outcome.new.seat c.args.request.batch n c.submit-outcome.result) c.count.ensures.value c.submit-outcome.ensures.answer in
     record {
-      asked = to_answer domain c.submit-outcome.new.seat c.outcome_of.result _ learnt;
+      asked = to_answer first domain c.submit-outcome.new.seat c.outcome_of.result _ learnt;
       answers = λ t text p.
-          let a = printed_as c.submit-outcome.new.seat t c.outcome_of.result _ text learnt p in
-          subst (λ (s : Seated). AnswersCall domain c.args.seat.now c.args.request c.args.line s text) (sym a.0)
+          let a = printed_as first c.submit-outcome.new.seat t c.outcome_of.result _ text learnt p in
+          subst (λ (s : Seated). AnswersCall first domain c.args.seat.now c.args.request c.args.line s text) (sym a.0)
           (submitted c.submit-outcome.result (sym c.is_query.ensures.query ∙ c.if-is_query.false) c.submit-outcome.ensures.after_call c.submit-outcome.ensures.seen_learnt made a.1);
     }

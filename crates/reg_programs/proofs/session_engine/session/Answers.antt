@@ -9,9 +9,9 @@ pub returns-clause-runs : goal.returns-clause-runs
 returns-clause-runs g c =
     let left = c.into_seat.result in
     let is : c.run_lines-ran.new.handler.seat ≡ left = sym c.into_seat.ensures in
-    RunsOver-closes (AnswersRequest g.J.RegistryId.domain) _ (LeavesSeat left) ⊥ (session_start c.args.seat c.args.ids) _ _ _ _ _ (λ now end k. (k.0, ap (λ (s : Session). s.seat) k.1.1 ∙ is)) (c.run_lines-ran.ensures.runs (session_start c.args.seat c.args.ids) refl refl)
+    RunsOver-closes (AnswersRequest g.J.RegistryId.first g.J.RegistryId.domain) _ (LeavesSeat left) ⊥ (session_start c.args.seat c.args.ids) _ _ _ _ _ (λ now end k. (k.0, ap (λ (s : Session). s.seat) k.1.1 ∙ is)) (c.run_lines-ran.ensures.runs (session_start c.args.seat c.args.ids) refl refl)
 
 pub returns-clause-grew : goal.returns-clause-grew
 returns-clause-grew g c =
-    let grew = c.run_lines-ran.ensures.preserves (record { seat = c.args.seat; ids = c.args.ids }) (grew_same g.J.RegistryId.domain c.args.seat) in
-    subst (λ (s : Seated). Grew g.J.RegistryId.domain c.args.seat s) (sym c.into_seat.ensures) grew
+    let grew = c.run_lines-ran.ensures.preserves (record { seat = c.args.seat; ids = c.args.ids }) (grew_same g.J.RegistryId.first g.J.RegistryId.domain c.args.seat) in
+    subst (λ (s : Seated). Grew g.J.RegistryId.first g.J.RegistryId.domain c.args.seat s) (sym c.into_seat.ensures) grew

@@ -27,7 +27,7 @@ loop-seat-preserved g c =
 pub returns : goal.returns
 returns g c =
     let was = c.loop-seat.invariant in let workers = vec_items c.loop-seat.workers in
-    let began = c.into_iter-seat-iterator.ensures.into_iter_gives in let domain = g.J.RegistryId.domain in
+    let began = c.into_iter-seat-iterator.ensures.into_iter_gives in let domain = g.J.RegistryId.domain in let opening = g.J.RegistryId.first in
     let whole : vec_len c.loop-seat.workers ≡ vec_len c.captures.seats = omega (arith, was.0, c.in-None.ensures.steps.0, c.requires.seats) in
     inr (record {
       count = omega (arith, c.seats_at_end.result.ok.0, c.seats_at_end.ensures.count, whole, c.captures.seats.ok.0);
@@ -35,5 +35,5 @@ returns g c =
           let at : i < vec_len c.loop-seat.workers = omega (arith, whole, low, c.captures.seats.ok.0) in
           let within : i < length workers = omega (arith, at, c.loop-seat.workers.ok.0) in
           let w = some_item workers i within in
-          subst (λ (x : Seated). Grew domain x (get_or (vec_items c.seats_at_end.result) i t)) (was.2 i w s at ∙ ap (λ (items : List Seated). get_or items i s) began.0) (c.seats_at_end.ensures.grew i w t at);
+          subst (λ (x : Seated). Grew opening domain x (get_or (vec_items c.seats_at_end.result) i t)) (was.2 i w s at ∙ ap (λ (items : List Seated). get_or items i s) began.0) (c.seats_at_end.ensures.grew i w t at);
     })
