@@ -303,7 +303,7 @@ impl<J: RegistryId> Seat<J> {
         ensures answer { IfOk result (λ reply. reply ≡ reply_to batch.now (books_from J.first (batches_of self.now.found))) }
         ensures place { IfOk result (λ reply. reply.place ≡ place_after J.first self.now.found) }
     {
-        borrowed_answer(self.alloc, &self.view.snapshot, batch)
+        borrowed_answer::<J>(self.alloc, &self.view.snapshot, batch)
     }
 
     /// Lets the seat see what it has found. Takes no memory.
