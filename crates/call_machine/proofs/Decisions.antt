@@ -1,5 +1,5 @@
 -- What a head's decision on the commit of a call means for the machine.
-use Rattle.std.proofs.Common.{◌≡◌, ℕ, ◌+◌, List, [], ◌∷◌, ◌++◌, length, Some, IfSome, refl, sym, ap, subst, ◌∙◌, inl, inr}
+use Rattle.std.proofs.Common.{◌≡◌, ℕ, ◌+◌, ◌-◌, List, [], ◌∷◌, ◌++◌, length, take, Some, IfSome, refl, sym, ap, subst, ◌∙◌, inl, inr, arith}
 use Rattle.entry_book.specs.declared.limit.Limit.{Limit}
 use Rattle.entry_book.specs.declared.reply.OpReply.{OpReply}
 use Rattle.entry_book.specs.declared.reply.ReplyOutcome.TheVariants.{Committed as WasCommitted, Refused}
@@ -13,7 +13,7 @@ use Rattle.batch_work.proofs.Ready.{same_replies}
 use Rattle.commit_head.specs.declared.commit.Commit.{Commit}
 use Rattle.commit_head.specs.declared.commit.Commit.TheVariants.{Committed, Conflict, Full, NoMemory}
 use Rattle.commit_head.specs.Heads.{BeganOn, Head, IsCommit, IsCommitted, IsRefused, IsUnchangedHead}
-use Rattle.commit_head.specs.Journals.{batches_of}
+use Rattle.commit_head.specs.Journals.{Leads, batches_of, empty_version}
 use Rattle.commit_head.specs.Outcomes.{IsHitSince, IsReadyOn, IsUnchangedSince, answer_to}
 use Rattle.commit_head.proofs.OnBooks.{batches_join, commit_on_books, count_of_batches}
 use Rattle.entry_book.specs.declared.reply.CallAnswer.{CallAnswer}
@@ -37,7 +37,9 @@ may_prepare h w whole rests s =
 
 -- it is ready on the head's journal
 ready_on : (h : Head) (w : Work) (r : IsAwaiting w) → RestsOn (head_domain h) h.kept w → status_of w ≡ Ready → IsReadyOn first_books (head_domain h) h.kept w r.base
-ready_on h w r rests s = record { made = rests.made; ready = s; base_is = r.base_is; leads = (began h w r rests).leads }
+ready_on h w r rests s =
+    let n : r.base.newest.number - 0 ≡ r.base.newest.number = omega arith in
+    record { made = rests.made; ready = s; base_is = r.base_is; leads = subst (λ k. Leads (empty_version (head_domain h)) (take k h.kept) r.base.newest) (sym n) (began h w r rests).leads }
 
 decided_committed : (old new : Head) (w : Work) (seat call : ℕ) (replies : List OpReply) (place : ℕ) → HasWholeJournal old → RestsOn (head_domain old) old.kept w → status_of w ≡ Ready → HasReplies w replies → IsCommitted old seat call w place new → IsDecided old w (Replied (record { place = place; outcome = WasCommitted replies })) to.Committed place new
 decided_committed old new w seat call replies place whole rests s has commit =
@@ -53,7 +55,7 @@ decided_committed old new w seat call replies place whole rests s has commit =
         commits = ap (λ (r : Reply). is_committed r.outcome) reply;
         stage_is = ap committed (sym reply);
         decision_is = refl;
-        place_is = on.number ∙ ap (λ n. n + 1) (sym (count_of_batches old.kept));
+        place_is = let n = on.number in let c = count_of_batches old.kept in omega arith;
         journal_is = ap batches_of commit.appended.kept ∙ (batches_join old.kept (commit.item ∷ []) ∙ ap (λ b. journal_of old ++ b ∷ []) commit.of_work.batch_is);
       });
       extends = went_on old new commit.item whole commit.joins commit.appended;
@@ -63,7 +65,7 @@ decided_full : (old new : Head) (w : Work) (limit : Limit) (place : ℕ) → Has
 decided_full old new w limit place whole rests s is_unchanged refused =
     let r = ready_is w s in
     let on = commit_on_books first_books old.kept old 0 0 w r.base (Full limit place) new (empty_is_first (head_domain old)) whole (ready_on old w r rests s) (is_unchanged, refused) in
-    let length_is : place ≡ length (journal_of old) = on.0 ∙ sym (count_of_batches old.kept) in
+    let length_is : place ≡ length (journal_of old) = (let n = on.0 in let c = count_of_batches old.kept in omega arith) in
     record {
       base = r.base.newest.number;
       in_turn = r.stage;
@@ -82,7 +84,7 @@ decided_conflict : (old new : Head) (w : Work) (place : ℕ) → HasWholeJournal
 decided_conflict old new w place whole rests s is_unchanged refused =
     let r = ready_is w s in
     let on = commit_on_books first_books old.kept old 0 0 w r.base (Conflict place) new (empty_is_first (head_domain old)) whole (ready_on old w r rests s) (is_unchanged, refused) in
-    let length_is : place ≡ length (journal_of old) = on.0 ∙ sym (count_of_batches old.kept) in
+    let length_is : place ≡ length (journal_of old) = (let n = on.0 in let c = count_of_batches old.kept in omega arith) in
     record {
       base = r.base.newest.number;
       in_turn = r.stage;

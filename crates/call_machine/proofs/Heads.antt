@@ -20,7 +20,7 @@ pub first_batches : (n : ℕ) (items : List Item) → take n (batches_of items) 
 first_batches n items = take-map (λ item. item.batch) n items
 
 pub place_is : (h : Head) → HasWholeJournal h → place_at h ≡ length (journal_of h)
-place_is h w = (led_to first_books (head_domain h) h.kept (newest_of h) (omega arith) w.leads).number ∙ sym (count_of_batches h.kept)
+place_is h w = let n = (led_to first_books (head_domain h) h.kept (newest_of h) (omega arith) w.leads).number in let c = count_of_batches h.kept in omega arith
 
 -- ---- a begin
 
