@@ -1,6 +1,7 @@
 use Rattle.std.proofs.Common.{◌∙◌, sym, ap, subst, IfOk}
 use mathlib.Core.List.{IsPrefix}
 use Rattle.entry_book.specs.Batches.{IsMadeFor}
+use Rattle.shared_registry.specs.Seated.{Seated}
 use Rattle.shared_registry.specs.ShownPrivate.{ShowsJournal}
 use Rattle.shared_registry.specs.Works.{IsAtEnd, IsRead}
 use Rattle.shared_registry.proofs.Calls.{calls_same}
@@ -21,6 +22,17 @@ returns-clause-own g c =
     let count = ok_of _ _ _ c.in-Ok.is c.find-found.ensures.count in
     let more : IsPrefix c.self.inside.view.seen c.in-Ok.prefix = ok_of _ _ _ c.in-Ok.is c.find-found.ensures.seen in
     rw (c.find-found.ensures.same) (calls_same c.self.inside.view.number _ _ more (sym (count ∙ c.self.invariant.1)) ∙ ap (λ s. s.own) c.self.view_is)
+
+pub returns-clause-during_call : goal.returns-clause-during_call
+returns-clause-during_call g c =
+    let is = c.self.view_is in
+    let more : IsPrefix c.self.inside.view.seen c.in-Ok.prefix = ok_of _ _ _ c.in-Ok.is c.find-found.ensures.seen in
+    rw (c.find-found.ensures.same) (record {
+      number = ap (λ s. s.number) is;
+      calls = ap (λ s. s.calls) is;
+      learnt = ap (λ s. s.learnt) is;
+      seen = subst (λ (s : Seated). IsPrefix s.seen c.in-Ok.prefix) is more;
+    })
 
 pub returns-clause-seen_learnt : goal.returns-clause-seen_learnt
 returns-clause-seen_learnt g c =
