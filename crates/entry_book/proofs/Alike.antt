@@ -83,9 +83,9 @@ alike_with books others (answers replies) a = a
 alike_with books others (adds replies c) a = record {
   count = length-append books (c ∷ []) ∙ (ap (λ n. n + 1) a.count ∙ sym (length-append others (c ∷ [])));
   kept =
-    last_more books c
-    ∙ (ap (λ n. drop (n - 63 - (n - 64)) (last_of 64 books) ++ c ∷ []) a.count
-    ∙ (ap (λ l. drop (length others - 63 - (length others - 64)) l ++ c ∷ []) a.kept ∙ sym (last_more others c)));
+      last_more books c
+      ∙ (ap (λ n. drop (n - 63 - (n - 64)) (last_of 64 books) ++ c ∷ []) a.count
+      ∙ (ap (λ l. drop (length others - 63 - (length others - 64)) l ++ c ∷ []) a.kept ∙ sym (last_more others c)));
 }
 alike_with books others (repeats n replies) a = a
 

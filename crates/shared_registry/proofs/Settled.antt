@@ -261,9 +261,9 @@ repeated_by first domain t batch w reply rs r l q a o =
     let row = kept_row batch.token (last_book books) k.kept k.there in
     let led : Led first domain batches books = record { is_first = l.is_first; made = l.made; committed = l.committed; books_are = refl } in
     ⊎_elim
-      (λ (stored : Within (last_book first).tokens k.kept). inr (repeats_row first t batch reply rs k e o row.1 stored))
-      (λ (was : WasCommitted first batches k.kept). inl (repeats_item first domain t batch reply rs k l e o row.1 was))
-      (kept_committed first domain batches books k.kept led row.0)
+    (λ (stored : Within (last_book first).tokens k.kept). inr (repeats_row first t batch reply rs k e o row.1 stored))
+    (λ (was : WasCommitted first batches k.kept). inl (repeats_item first domain t batch reply rs k l e o row.1 was))
+    (kept_committed first domain batches books k.kept led row.0)
 
 pub repeated_is : (first : List Book) (domain : Bytes) (t : Seated) (batch : Batch) (w : Work) (reply : Reply) → IsRead first domain t.seen batch w → IsLawfulJournal first domain t.seen → is_query batch.ops ≡ false → IsAnswer w reply → is_repeated reply.outcome ≡ true → RepeatsBatch first t batch reply
 repeated_is first domain t batch w reply r l q a o = let rs = repeats_of reply.outcome o in repeated_by first domain t batch w reply rs.0 r l q a rs.1
