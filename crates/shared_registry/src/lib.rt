@@ -15,9 +15,10 @@
 //! - [`Answer`]: the reply to a query. [`NoAnswer`] and [`NoEntry`]: why a query, or a request for news, has no answer.
 //! - [`Receipt`]: what a seat had seen, or all items at some time, for another seat to learn.
 //! - [`commits_law`]: after a commit a seat may answer queries without a look. [`one_list`], [`one_list_of_receipts`] and
-//!   [`one_list_with_receipt`]: what any two callers have seen are prefixes of one list.
-//! - [`RegistryId`] and [`NewHistory`]: which registry it is, and its empty history. The types ensure that seats, receipts and
-//!   registries of one registry belong together.
+//!   [`one_list_with_receipt`]: what any two callers have seen are prefixes of one list. [`repeats_law`]: which repeats there are
+//!   in a history that begins with the empty book.
+//! - [`RegistryId`] and [`NewHistory`]: which registry it is, with the books that its history begins with, and its empty history.
+//!   The types ensure that seats, receipts and registries of one registry belong together.
 //! - [`ClosedRegistry`]: what is left of a registry that was closed. Nobody has seen more than it shows.
 //! - [`PublishedValue`], [`History`], [`HistoryEntry`] and [`HistoryPrefix`] occur in contracts: what the writer publishes, the
 //!   history with the right to append to it, an entry of it, and a prefix of it.
@@ -30,6 +31,8 @@
 //! - found: the journal of the snapshot that a seat has; seen: the prefix that its answers were computed from; learnt: the
 //!   longest prefix that it learnt of.
 //! - own: the numbers of the calls that a seat has committed.
+//! - first books: the list of books that the history begins with; a place counts the books after the first one of these, so for a
+//!   registry that begins with the empty book it counts items.
 //!
 //! The definitions are in `specs/`. `Outcomes` defines the outcome of a batch of changes, `Shown` the published value, `Seated`
 //! and `SeatCalls` a seat, `OneList` how the journals of two callers are related, and `Rules` the history's entries. The others are
