@@ -64,9 +64,9 @@ impl PlainBook {
         })
     }
 
-    /// Runs a batch that was made for this book's trust domain. The reply and the new state are functions of the batch and
-    /// the state. They agree with every list of books that the state represents, whatever books it begins with. The error is out of memory; it leaves the
-    /// book unchanged.
+    /// Runs a batch that was made for this book's trust domain. The reply and the new state are functions of the batch and the
+    /// state. They agree with every list of books that the state represents, whatever books it begins with. The error is out of
+    /// memory; it leaves the book unchanged.
     pub fn run(&mut self, batch: &Batch) -> Result<Reply, AllocError>
         requires made_for { batch.now.domain ≡ self.old.domain }
         ensures answered { IfOk result (λ reply. reply ≡ reply_on batch.now self.old) }
