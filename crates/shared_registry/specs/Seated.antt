@@ -18,7 +18,8 @@ pub record Seated : Type 0 where
   pub found : List Item
 
 -- A call that takes a call number: the number is above those of the seat's own calls so far. What is seen is then a lawful
--- journal of a history that begins with the first books, and begins with what was seen before. Its items of this seat are the seat's own calls. `learnt` stays the same.
+-- journal of a history that begins with the first books, and begins with what was seen before. Its items of this seat are the
+-- seat's own calls. `learnt` stays the same.
 pub record AfterCall (first : List Book) (domain : Bytes) (s t : Seated) : Type 0 where
   pub number : t.number ≡ s.number
   pub calls : t.calls ≡ s.calls + 1
