@@ -1,6 +1,6 @@
 use Rattle.std.proofs.Common.{◌≡◌, true, false, arith, subst, sym, ap, ◌∙◌}
 use Rattle.std.proofs.lemmas.Grind.{common_steps}
-use Rattle.entry_book.specs.History.{books_of}
+use Rattle.entry_book.specs.History.{books_of, first_books}
 use Rattle.line_reading.specs.RecordViews.{recorded}
 use Rattle.reg_lines.specs.Replies.{reply_json}
 use Rattle.call_audit.specs.Audits.{batches_of_records, is_reply_right, is_past, is_text_of}
@@ -44,7 +44,7 @@ returns-then-not-branch-clause-judged c = λ records k.
     let stamped : c.is_stamped.result ≡ true = grind (arith, common_steps) in
     let late : is_past claimed.replied own.latest ≡ false = ap (λ n. is_past claimed.replied n) (ap (λ s. s.latest) c.self.view_is) ∙ (sym c.is_late.ensures ∙ c.if-is_late.false) in
     let other : c.in_ok-is_reply.field-0 ≡ false = grind (arith, common_steps) in
-    let given : c.in_ok-is_reply.field-0 ≡ is_reply_right claimed records = c.in_ok-is_reply.ensures ∙ ap (λ reply. is_text_of claimed.reply (reply_json claimed.call reply)) (c.in_ok-reply.ensures.reply (books_of (batches_of_records records)) old.books) in
+    let given : c.in_ok-is_reply.field-0 ≡ is_reply_right claimed records = c.in_ok-is_reply.ensures ∙ ap (λ reply. is_text_of claimed.reply (reply_json claimed.call reply)) (c.in_ok-reply.ensures.reply first_books (books_of (batches_of_records records)) old.books) in
     cause_reply records claimed
     (sym (knows claimed.call own.calls.keys records old.calls) ∙ (sym c.contains.ensures ∙ c.if-contains.false))
     (sym c.is_stamped.ensures ∙ stamped)
@@ -59,7 +59,7 @@ returns-clause-judged c = λ records k.
     let stamped : c.is_stamped.result ≡ true = grind (arith, common_steps) in
     let late : is_past claimed.replied own.latest ≡ false = ap (λ n. is_past claimed.replied n) (ap (λ s. s.latest) c.self.view_is) ∙ (sym c.is_late.ensures ∙ c.if-is_late.false) in
     let same : c.in_ok-is_reply.field-0 ≡ true = grind (arith, common_steps) in
-    let given : c.in_ok-is_reply.field-0 ≡ is_reply_right claimed records = c.in_ok-is_reply.ensures ∙ ap (λ reply. is_text_of claimed.reply (reply_json claimed.call reply)) (c.in_ok-reply.ensures.reply (books_of (batches_of_records records)) old.books) in
+    let given : c.in_ok-is_reply.field-0 ≡ is_reply_right claimed records = c.in_ok-is_reply.ensures ∙ ap (λ reply. is_text_of claimed.reply (reply_json claimed.call reply)) (c.in_ok-reply.ensures.reply first_books (books_of (batches_of_records records)) old.books) in
     let new = sym c.contains.ensures ∙ c.if-contains.false in (
       cause_none records claimed
           (sym (knows claimed.call own.calls.keys records old.calls) ∙ new)
@@ -67,7 +67,7 @@ returns-clause-judged c = λ records k.
           (sym (old.latest claimed) ∙ late)
           (sym given ∙ same),
       keeps-next _ _ records claimed old
-          (c.in_ok-reply.ensures.books (books_of (batches_of_records records)) old.books)
+          (c.in_ok-reply.ensures.books first_books (books_of (batches_of_records records)) old.books)
           (c.in_ok-insert.ensures.keys ∙ added claimed.call own.calls.keys new)
           c.max-self-inside.ensures,
     )
