@@ -12,7 +12,8 @@
 //!   given.
 //! - [`Outcome`]: the outcome of a batch of changes, from which the answer to its call follows. [`Gate`]: a test hook at each
 //!   [`Point`] of a try; [`OpenGate`] does nothing.
-//! - [`Answer`]: the reply to a query. [`NoAnswer`] and [`NoEntry`]: why a query, or a request for news, has no answer.
+//! - [`Answer`]: the reply to a query. [`NoAnswer`] and [`NoEntry`]: why a query, a batch of changes or a request for news has no
+//!   answer.
 //! - [`Receipt`]: what a seat had seen, or all items at some time, for another seat to learn.
 //! - [`commits_law`]: after a commit a seat may answer queries without a look. [`one_list`], [`one_list_of_receipts`] and
 //!   [`one_list_with_receipt`]: what any two callers have seen are prefixes of one list. [`repeats_law`]: which repeats there are

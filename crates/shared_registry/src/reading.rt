@@ -80,7 +80,7 @@ fn continues<J: RegistryId>(
     published.count(number) == count && seen.begins(&prefix) && learnt.begins(&prefix)
 }
 
-/// What a seat looks with: its reader, which is there between two looks, its number, what it has seen, with the number of its own
+/// What a seat looks with: its reader, which a look takes and puts back, its number, what it has seen, with the number of its own
 /// calls among that, what it has learnt of, and the snapshot that it last found.
 #[derive(Drop)]
 pub(crate) struct SeatView<J: RegistryId> {
@@ -95,8 +95,8 @@ pub(crate) struct SeatView<J: RegistryId> {
 impl<J: RegistryId> SeatView<J> {
     ghost use Rattle.std.specs.Prelude.{◌≡◌, ◌<◌, length, IfOk, IsSome};
 
-    /// Looks, and returns the published journal. The error is `NoEntry` if that doesn't begin with what the seat has seen and
-    /// learnt of, or has another number of its calls.
+    /// Looks, and returns the published journal. The error is `NoEntry` if the reader isn't let in, or if the journal doesn't begin with
+    /// what the seat has seen and learnt of, or has another number of its calls; or memory ran out.
     pub(crate) fn find(&mut self) -> Result<HistoryPrefix<J>, NoAnswer>
         requires reader { IsSome self.old.reader }
         requires number { self.old.number < 32 }

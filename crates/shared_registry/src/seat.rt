@@ -24,12 +24,13 @@ use std::mem::replace;
 /// The reply to a query, which owns its rows.
 pub type Answer = Reply;
 
-/// Why a query has no answer.
+/// Why a query or a batch of changes has no answer.
 #[derive(Clone, Copy, Debug, PartialEq, Eq, Drop)]
 pub enum NoAnswer {
     /// Memory ran out.
     NoMemory,
-    /// The seat couldn't enter the registry, or the published state doesn't extend what the seat has seen and learnt.
+    /// The seat couldn't enter the registry, the published state doesn't extend what the seat has seen and learnt, or the history has
+    /// calls under the seat's number that are not the seat's own.
     NoEntry,
 }
 
