@@ -1,14 +1,13 @@
 -- Journals: where their items lead, in relation to the list of all books.
 use Rattle.std.proofs.Common.{◌≡◌, ℕ, ◌+◌, ◌-◌, ◌<◌, List, [], ◌∷◌, ◌++◌, length, take, refl, sym, ap, subst, ◌∙◌, arith}
-use Rattle.std.specs.Prelude.{map, slice_get, Some}
+use Rattle.std.specs.Prelude.{map}
 use Rattle.std.proofs.lemmas.List.{append_assoc, map-append, take-append-drop}
 use Rattle.entry_book.specs.declared.reply.Reply.{Reply}
 use Rattle.entry_book.specs.Rows.{Bytes}
 use Rattle.entry_book.specs.Book.{Book}
-use Rattle.entry_book.specs.History.{IsFirst, place_of as place_in, adds, reply_with, books_with, books_after, books_from, first_books, last_book}
+use Rattle.entry_book.specs.History.{place_of as place_in, adds, reply_with, books_with, books_after, books_from, first_books, last_book}
 use Rattle.entry_book.specs.Limits.{IsWithinLimits}
-use Rattle.entry_book.proofs.Alike.{last_there}
-use Rattle.entry_book.proofs.Histories.{empty_is_first, history_bounded}
+use Rattle.entry_book.proofs.Histories.{history_bounded}
 use Rattle.version_book.specs.CommittedRows.{VersionState, book_of, numbered, row_of}
 use Rattle.version_book.specs.History.{CommitsOn, Follows, IsLast, version_with, replies_on}
 use Rattle.version_book.proofs.Batches.{books_join, replies_follow}
@@ -118,12 +117,7 @@ journal_begins own_domain h w e =
     }
 
 pub has_begun : (own_domain : Bytes) (h : Head) → h.window ≡ record { older = []; newest = empty_version own_domain } → h.kept ≡ [] → HasJournal h
-has_begun own_domain h w e = record {
-  first = first_books;
-  is_first = empty_is_first h.window.newest.domain;
-  items = [];
-  journal = journal_begins own_domain h w e;
-}
+has_begun own_domain h w e = ([], journal_begins own_domain h w e)
 
 pub journal_starts : JournalStarts
 journal_starts first h newest shown e = record { leads = sym newest; ending = ([], sym e); shown = shown }
@@ -132,10 +126,9 @@ journal_starts first h newest shown e = record { leads = sym newest; ending = ([
 
 pub within : (h : Head) → HasJournal h → IsWithinLimits (book_of h.window.newest.rows)
 within h k =
-    let begins : IsFirst h.window.newest.domain k.first = k.is_first in
-    let start = first_version h.window.newest.domain k.first in
-    let last : IsWithinLimits (last_book k.first) = begins.within (place_in k.first) (last_book k.first) (last_there k.first begins.some) in
-    limits_follow (batches_of k.items) start h.window.newest (subst IsWithinLimits (sym (book_numbered (place_in k.first) (last_book k.first))) last) (leads_follow k.items start h.window.newest k.journal.leads)
+    let start = empty_version h.window.newest.domain in
+    let none : IsWithinLimits (book_of start.rows) = record { entries = omega arith; agents = omega arith; bundles = omega arith; tokens = omega arith } in
+    limits_follow (batches_of k.0) start h.window.newest none (leads_follow k.0 start h.window.newest k.1.leads)
 
 -- ---- lawful journals
 
@@ -178,25 +171,17 @@ pub finished : (old : Head) (p : Prepared) (window : Window) (kept : List Item) 
 finished old p window kept room k g w e =
     let new : Head = record { window = window; kept = kept; room = room } in
     let appended : window ≡ pushed (version_with p.item.batch (newest_of old)) old.window = w ∙ ap (λ s. pushed s old.window) g.version in
-    record {
-      first = k.first;
-      is_first = subst (λ v. IsFirst v.newest.domain k.first) (sym appended) k.is_first;
-      items = k.items ++ p.item ∷ [];
-      journal = journal_extends k.first k.items p.item old new k.journal g.joins (record { window = appended; kept = e });
-    }
+    (k.0 ++ p.item ∷ [], journal_extends first_books k.0 p.item old new k.1 g.joins (record { window = appended; kept = e }))
 
 pub dropped : (old : Head) (kept : List Item) (room : ℕ) → HasJournal old → kept ≡ last_items old.kept → HasJournal (record { window = old.window; kept = kept; room = room })
 dropped old kept room k e =
     let n = length old.kept - 64 in
     let front : old.kept ≡ take n old.kept ++ kept = sym (take-append-drop n old.kept) ∙ ap (λ l. take n old.kept ++ l) (sym e) in
-    let journal : IsJournal k.first k.items old = k.journal in
-    record {
-      first = k.first;
-      is_first = k.is_first;
-      items = k.items;
-      journal = record {
+    let journal : IsJournal first_books k.0 old = k.1 in (
+      k.0,
+      record {
         leads = journal.leads;
         ending = (journal.ending.0 ++ take n old.kept, journal.ending.1 ∙ (ap (λ l. journal.ending.0 ++ l) front ∙ sym (append_assoc journal.ending.0 (take n old.kept) kept)));
         shown = journal.shown;
-      };
-    }
+      },
+    )

@@ -1,5 +1,5 @@
 -- What the outcome of a commit means for the list of all books of the head's journal.
-use Rattle.std.proofs.Common.{◌≡◌, ℕ, ◌+◌, ◌-◌, ◌<◌, List, ◌∷◌, ◌++◌, length, length-append, take, drop, Some, None, refl, sym, ap, subst, ◌∙◌, arith}
+use Rattle.std.proofs.Common.{◌≡◌, ℕ, ◌+◌, ◌-◌, ◌<◌, List, ◌∷◌, ◌++◌, length, length-append, take, drop, Some, None, sym, ap, subst, ◌∙◌, arith}
 use Rattle.std.specs.List.{AllByRecursion}
 use Rattle.std.proofs.lemmas.List.{append_assoc, length-map, map-append, take-append-drop, take-map}
 use Rattle.entry_book.specs.declared.limit.Limit.{Limit}
@@ -9,7 +9,7 @@ use Rattle.entry_book.specs.Order.{Within}
 use Rattle.entry_book.specs.Rows.{Bytes}
 use Rattle.entry_book.specs.Batches.{Batch, IsMadeFor, past_place}
 use Rattle.entry_book.specs.Book.{Book}
-use Rattle.entry_book.specs.History.{CommitAll, IsFirst, books_after, books_from, books_of, last_book, place_of as place_in, refuses, reply_to, reply_with, verdict}
+use Rattle.entry_book.specs.History.{CommitAll, books_after, books_from, books_of, last_book, place_of as place_in, refuses, reply_to, reply_with, verdict}
 use Rattle.entry_book.proofs.Histories.{count_of_books}
 use Rattle.entry_book.proofs.PastPages.{changes_newest}
 use Rattle.entry_book.proofs.Sets.{from_any}
@@ -28,9 +28,9 @@ use Rattle.batch_work.proofs.Ready.{ready_has_read}
 use Rattle.commit_head.specs.declared.commit.Commit.TheVariants.{Conflict, Full, Committed, NoMemory}
 use Rattle.commit_head.specs.declared.item.Item.{Item}
 use Rattle.commit_head.specs.Heads.{Head, IsCommitted, IsDueOnVersions, IsJournal, ReadsAreUnchanged, newest_of, head_place}
-use Rattle.commit_head.specs.Journals.{Leads, batches_of, first_version}
+use Rattle.commit_head.specs.Journals.{Leads, batches_of, empty_version, first_version}
 use Rattle.commit_head.specs.Laws.{BatchesJoin, CountOfBatches, LeadsOnBooks}
-use Rattle.commit_head.specs.Outcomes.{CommitOnBooks, CommitsOnBooks, IsHitSince, IsReadyOn, IsUnchangedSince, UnchangedSinceEmpty}
+use Rattle.commit_head.specs.Outcomes.{CommitOnBooks, CommitsOnBooks, HitSinceEmpty, IsHitSince, IsReadyOn, IsUnchangedSince, ReadyOnEmpty, UnchangedSinceEmpty}
 use Rattle.commit_head.proofs.Begun.{began_inside, journal_kept}
 use Rattle.commit_head.proofs.Journals.{first_last, items_follow, joins_on_books, journal_extends, journal_last}
 
@@ -155,3 +155,36 @@ unchanged_since_empty journal base marks =
     let n : base - 0 ≡ base = omega arith in
     let P : ℕ → Type 0 = λ k. AllByRecursion (Agree (last_book (books_of (take k journal))) (last_book (books_of journal))) marks in
     (λ u. subst P n u, λ u. subst P (sym n) u)
+
+pub hit_since_empty : HitSinceEmpty
+hit_since_empty journal base marks = (
+    λ h. record {
+      before = h.before;
+      other = h.other;
+      later = h.later;
+      split = h.split;
+      since = let since = h.since in omega arith;
+      mark = h.mark;
+      read = h.read;
+      write = h.write;
+      is_made = h.is_made;
+      hit = h.hit;
+    },
+    λ h. record {
+      before = h.before;
+      other = h.other;
+      later = h.later;
+      split = h.split;
+      since = let since = h.since in omega arith;
+      mark = h.mark;
+      read = h.read;
+      write = h.write;
+      is_made = h.is_made;
+      hit = h.hit;
+    },
+  )
+
+pub ready_on_empty : ReadyOnEmpty
+ready_on_empty own_domain items w base r =
+    let n : base.newest.number - 0 ≡ base.newest.number = omega arith in
+    subst (λ k. Leads (empty_version own_domain) (take k items) base.newest) n r.leads

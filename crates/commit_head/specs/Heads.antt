@@ -4,7 +4,7 @@ use Rattle.std.specs.List.{AllByRecursion, list_any}
 use Rattle.entry_book.specs.declared.reply.Refusal.TheVariants.{Full as TooMuch}
 use Rattle.entry_book.specs.Book.{Book}
 use Rattle.entry_book.specs.Batches.{Batch}
-use Rattle.entry_book.specs.History.{verdict, refuses, books_from, IsFirst}
+use Rattle.entry_book.specs.History.{verdict, refuses, books_from, first_books}
 use Rattle.version_book.specs.CommittedRows.{VersionState, book_of}
 use Rattle.version_book.specs.History.{any_hits, version_with}
 use Rattle.version_book.specs.Marks.{Agree}
@@ -37,12 +37,9 @@ pub record IsJournal (first : List Book) (items : List Item) (h : Head) : Type 0
   pub ending : IsSuffix items h.kept
   pub shown : WindowRepresents h.window (books_from first (batches_of items))
 
--- The head has a journal, which begins with some books that a history may begin with.
-pub record HasJournal (h : Head) : Type 0 where
-  pub first : List Book
-  pub is_first : IsFirst h.window.newest.domain first
-  pub items : List Item
-  pub journal : IsJournal first items h
+-- some items are the head's journal, which begins with the empty book
+abbrev pub HasJournal : Head → Type 0
+HasJournal h = (items : List Item) × IsJournal first_books items h
 
 -- the item of commit n, if it is retained
 abbrev pub item_at : ℕ → Head → Option Item

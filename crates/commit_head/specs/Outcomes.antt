@@ -1,5 +1,5 @@
 -- The outcome of a commit, in terms of the specification.
-use Rattle.std.specs.Prelude.{◌≡◌, ◌↔◌, ℕ, ◌+◌, ◌-◌, ◌<◌, true, List, [], ◌∷◌, ◌++◌, length, take, Option, Some, None}
+use Rattle.std.specs.Prelude.{◌≡◌, ◌↔◌, ℕ, ◌+◌, ◌-◌, ◌<◌, ◌≤◌, true, List, [], ◌∷◌, ◌++◌, length, take, Option, Some, None}
 use Rattle.std.specs.List.{AllByRecursion}
 use Rattle.entry_book.specs.declared.reply.CallAnswer.{CallAnswer}
 use Rattle.entry_book.specs.declared.reply.CallAnswer.TheVariants as gave
@@ -21,7 +21,7 @@ use Rattle.commit_head.specs.declared.commit.Commit.{Commit}
 use Rattle.commit_head.specs.declared.commit.Commit.TheVariants.{Conflict, Full, Committed, NoMemory}
 use Rattle.commit_head.specs.declared.item.Item.{Item}
 use Rattle.commit_head.specs.Heads.{Head, IsCommit, IsItemOf, IsJournal}
-use Rattle.commit_head.specs.Journals.{Leads, batches_of, first_version, place_after}
+use Rattle.commit_head.specs.Journals.{Leads, batches_of, empty_version, first_version, place_after}
 
 -- Among these batches, committed on the first books, is one, `other`, that added a later book than number `base`: it was committed as
 -- book `length before + length first`. One of its writes, made on the last book before it, hits one of these marks.
@@ -37,7 +37,8 @@ pub record IsHitSince (first : List Book) (journal : List Batch) (base : ℕ) (m
   pub is_made : Within (writes_of other (length before + length first) (last_book (books_from first before))) write
   pub hit : hits write mark ≡ true
 
--- At each of these marks, the last book after these batches, committed on the first books, reads the same as book `base`.
+-- At each of these marks, the last book after these batches, committed on the first books, reads the same as book `base`, which isn't
+-- before the last of the first books.
 abbrev pub IsUnchangedSince : List Book → List Batch → ℕ → List MarkKind → Type 0
 IsUnchangedSince first journal base marks = AllByRecursion (Agree (last_book (books_from first (take (base - place_of first) journal))) (last_book (books_from first journal))) marks
 
@@ -73,6 +74,27 @@ AnswersOnBooks first items seat call w base NoMemory new = IsJournal first items
 -- if the history begins with the empty book, book `base` is the one after the first `base` batches
 abbrev pub UnchangedSinceEmpty : Type 0
 UnchangedSinceEmpty = (journal : List Batch) (base : ℕ) (marks : List MarkKind) → IsUnchangedSince first_books journal base marks ↔ AllByRecursion (Agree (last_book (books_of (take base journal))) (last_book (books_of journal))) marks
+
+-- If the history begins with the empty book, among these committed batches is one, `other`, after the first `base` ones: it was
+-- committed as book `length before + 1`. One of its writes, made on the last book before it, hits one of these marks.
+pub record IsHitAfter (journal : List Batch) (base : ℕ) (marks : List MarkKind) : Type 0 where
+  pub before : List Batch
+  pub other : Batch
+  pub later : List Batch
+  pub split : journal ≡ before ++ other ∷ later
+  pub since : base ≤ length before
+  pub mark : MarkKind
+  pub read : Within marks mark
+  pub write : RowWrite
+  pub is_made : Within (writes_of other (length before + 1) (last_book (books_of before))) write
+  pub hit : hits write mark ≡ true
+
+abbrev pub HitSinceEmpty : Type 0
+HitSinceEmpty = (journal : List Batch) (base : ℕ) (marks : List MarkKind) → IsHitSince first_books journal base marks ↔ IsHitAfter journal base marks
+
+-- and the first items that lead to the version on which a work began are as many as its number
+abbrev pub ReadyOnEmpty : Type 0
+ReadyOnEmpty = (own_domain : Bytes) (items : List Item) (w : Work) (base : Base) → IsReadyOn first_books own_domain items w base → Leads (empty_version own_domain) (take base.newest.number items) base.newest
 
 -- the answer to a call whose commit had this outcome, given the replies to its operations; none if memory ran out
 abbrev pub answer_to : List OpReply → Commit → Option CallAnswer

@@ -4,7 +4,7 @@
 //! `specs/Outcomes.antt`; a caller may rely on it after the call.
 
 ghost use Rattle.commit_head.specs.Laws.{BatchesJoin, BeganExtends, BeganHere, BeganInside, BeganKept, BeganUnchanged, CountOfBatches, EmptyIsFirstVersion, EmptyPlace, ItemsFollow, JoinsOnBooks, JournalBegins, JournalBounded, JournalExtends, JournalIsLawful, JournalKept, JournalLast, JournalReadsFew, JournalStarts, JournalUnchanged, LeadsFurther, LeadsInParts, LeadsOnBooks, LeadsToOne};
-ghost use Rattle.commit_head.specs.Outcomes.{CommitOnBooks, UnchangedSinceEmpty};
+ghost use Rattle.commit_head.specs.Outcomes.{CommitOnBooks, HitSinceEmpty, ReadyOnEmpty, UnchangedSinceEmpty};
 
 /// What a head's journal implies for its versions and for the list of all books, which may begin with given books. Its items have one
 /// batch each, in order; the version to which they lead has the last book after these batches. Its number counts them, from the place of
@@ -35,6 +35,8 @@ pub fn journals()
 pub fn commit_outcomes()
     ensures commit { CommitOnBooks }
     ensures empty { UnchangedSinceEmpty }
+    ensures hit { HitSinceEmpty }
+    ensures ready { ReadyOnEmpty }
 {}
 
 /// The version on which a work began remains one of a head's history.
