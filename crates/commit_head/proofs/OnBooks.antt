@@ -158,31 +158,31 @@ unchanged_since_empty journal base marks =
 
 pub hit_since_empty : HitSinceEmpty
 hit_since_empty journal base marks = (
-    λ h. record {
-      before = h.before;
-      other = h.other;
-      later = h.later;
-      split = h.split;
-      since = let since = h.since in omega arith;
-      mark = h.mark;
-      read = h.read;
-      write = h.write;
-      is_made = h.is_made;
-      hit = h.hit;
-    },
-    λ h. record {
-      before = h.before;
-      other = h.other;
-      later = h.later;
-      split = h.split;
-      since = let since = h.since in omega arith;
-      mark = h.mark;
-      read = h.read;
-      write = h.write;
-      is_made = h.is_made;
-      hit = h.hit;
-    },
-  )
+  λ h. record {
+    before = h.before;
+    other = h.other;
+    later = h.later;
+    split = h.split;
+    since = let since = h.since in omega arith;
+    mark = h.mark;
+    read = h.read;
+    write = h.write;
+    is_made = h.is_made;
+    hit = h.hit;
+  },
+  λ h. record {
+    before = h.before;
+    other = h.other;
+    later = h.later;
+    split = h.split;
+    since = let since = h.since in omega arith;
+    mark = h.mark;
+    read = h.read;
+    write = h.write;
+    is_made = h.is_made;
+    hit = h.hit;
+  },
+)
 
 pub ready_on_empty : ReadyOnEmpty
 ready_on_empty own_domain items w base r =

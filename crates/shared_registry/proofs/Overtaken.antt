@@ -5,7 +5,7 @@ use mathlib.Core.List.{IsPrefix}
 use Rattle.entry_book.specs.Rows.{Bytes}
 use Rattle.entry_book.specs.Batches.{Batch, IsMadeFor}
 use Rattle.entry_book.specs.Book.{Book}
-use Rattle.entry_book.specs.History.{books_from, place_of}
+use Rattle.entry_book.specs.History.{books_from, first_books, place_of}
 use Rattle.batch_work.specs.declared.status.Status.TheVariants.{Ready}
 use Rattle.batch_work.specs.Reads.{footprint_of}
 use Rattle.batch_work.specs.Working.{Work, base_in, footprint_there, status_of}
@@ -16,9 +16,9 @@ use Rattle.commit_head.specs.Journals.{Leads, batches_of, first_version, place_a
 use Rattle.commit_head.specs.Laws.{IsInside}
 use Rattle.commit_head.specs.Outcomes.{IsHitSince, IsReadyOn}
 use Rattle.commit_head.proofs.Begun.{began_inside}
-use Rattle.commit_head.proofs.OnBooks.{batches_join, count_of_batches, led_to}
+use Rattle.commit_head.proofs.OnBooks.{batches_join, count_of_batches, hit_since_empty, led_to}
 use Rattle.shared_registry.specs.WriterStates.{IsTied}
-use Rattle.shared_registry.specs.Outcomes.{IsOvertaken}
+use Rattle.shared_registry.specs.Outcomes.{IsOvertaken, OvertakenAreHit}
 use Rattle.shared_registry.specs.Works.{IsRead}
 
 -- ---- a work that has read
@@ -72,3 +72,14 @@ overtaken_there first domain seen log w n r p e hit =
     subst (λ l. IsHitSince first l (length seen + place_of first) marks) (sym whole)
     (subst (λ b. IsHitSince first (batches_of log) b marks) number
     (subst (IsHitSince first (batches_of log) r.snapshot.window.newest.number) reads hit))
+
+-- ---- a history that begins with the empty book
+
+pub overtaken_are_hit : OvertakenAreHit
+overtaken_are_hit journal batch base upto o =
+    let n : upto - 0 ≡ upto = omega arith in
+    let b : base + 0 ≡ base = omega arith in
+    let marks = footprint_of batch (books_from first_books (take base journal)) in
+    (hit_since_empty (take upto journal) base marks).0
+    (subst (λ m. IsHitSince first_books (take upto journal) m marks) b
+    (subst (λ k. IsHitSince first_books (take k journal) (base + 0) marks) n o))

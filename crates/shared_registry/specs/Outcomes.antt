@@ -9,13 +9,13 @@ use Rattle.entry_book.specs.declared.reply.Refusal.{Refusal}
 use Rattle.entry_book.specs.declared.reply.Reply.{Reply}
 use Rattle.entry_book.specs.Batches.{Batch}
 use Rattle.entry_book.specs.Book.{Book}
-use Rattle.entry_book.specs.History.{books_from, first_books, last_book, place_of, reply_to}
+use Rattle.entry_book.specs.History.{books_from, books_of, first_books, last_book, place_of, reply_to}
 use Rattle.entry_book.specs.Order.{Within}
 use Rattle.entry_book.specs.Rows.{Bytes}
 use Rattle.batch_work.specs.Reads.{footprint_of}
 use Rattle.commit_head.specs.declared.item.Item.{Item}
 use Rattle.commit_head.specs.Journals.{batches_of, place_after}
-use Rattle.commit_head.specs.Outcomes.{IsHitSince}
+use Rattle.commit_head.specs.Outcomes.{IsHitAfter, IsHitSince}
 use Rattle.shared_registry.specs.declared.outcome.Outcome.{Outcome}
 use Rattle.shared_registry.specs.declared.outcome.Outcome.TheVariants.{Committed, Repeated, Refused, Conflict, NoMemory, NoEntry}
 use Rattle.shared_registry.specs.declared.seat.NoAnswer.{NoAnswer}
@@ -133,7 +133,13 @@ CommitsMayBeSeen = (first : List Book) (domain : Bytes) (s t : Seated) (batch : 
 abbrev pub ConflictsTakeCommits : Type 0
 ConflictsTakeCommits = (first : List Book) (domain : Bytes) (s t : Seated) (batch : Batch) (tries : ℕ) (o : Outcome) → AfterCall first domain s t → IsSubmitted first s t batch tries o → TookCommits s t tries o
 
--- ---- the theorem: if the history begins with the empty book, each repeat is of an item that was seen
+-- ---- the theorems: if the history begins with the empty book, a batch that overtook a try was committed after the first `base`
+-- ones, where the try began, and it is among the first `upto`
+
+abbrev pub OvertakenAreHit : Type 0
+OvertakenAreHit = (journal : List Batch) (batch : Batch) (base upto : ℕ) → IsOvertaken first_books journal batch base (upto - place_of first_books) → IsHitAfter (take upto journal) base (footprint_of batch (books_of (take base journal)))
+
+-- and each repeat is of an item that was seen
 
 abbrev pub RepeatsAreSeen : Type 0
 RepeatsAreSeen = (t : Seated) (batch : Batch) (reply : Reply) → RepeatsBatch first_books t batch reply → RepeatsItem first_books t batch reply

@@ -1,7 +1,7 @@
 //! What follows from the contracts of a seat's calls?
 
 ghost use Rattle.shared_registry.specs.OneList.{AreOneList};
-ghost use Rattle.shared_registry.specs.Outcomes.{CommitsMayBeSeen, ConflictsTakeCommits, RepeatsAreSeen};
+ghost use Rattle.shared_registry.specs.Outcomes.{CommitsMayBeSeen, ConflictsTakeCommits, OvertakenAreHit, RepeatsAreSeen};
 
 use crate::history::RegistryId;
 use crate::seat::{Receipt, Seat};
@@ -16,6 +16,12 @@ pub fn commits_law()
 /// more than before it. This function does nothing at run time: its contract is the theorem.
 pub fn conflicts_take_commits()
     ensures { ConflictsTakeCommits }
+{}
+
+/// If a history begins with the empty book, a conflict is with a batch that was committed after as many batches as there were where the
+/// try began, and not after more than the conflict's number says. This function does nothing at run time: its contract is the theorem.
+pub fn overtaken_law()
+    ensures { OvertakenAreHit }
 {}
 
 /// If a history begins with the empty book, each repeat is of an item that was seen, since the empty book stores no batch. This

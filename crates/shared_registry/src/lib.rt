@@ -16,8 +16,8 @@
 //!   answer.
 //! - [`Receipt`]: what a seat had seen, or all items at some time, for another seat to learn.
 //! - [`commits_law`]: after a commit a seat may answer queries without a look. [`one_list`], [`one_list_of_receipts`] and
-//!   [`one_list_with_receipt`]: what any two callers have seen are prefixes of one list. [`repeats_law`]: which repeats there are
-//!   in a history that begins with the empty book.
+//!   [`one_list_with_receipt`]: what any two callers have seen are prefixes of one list. [`repeats_law`] and [`overtaken_law`]: which
+//!   repeats and conflicts there are in a history that begins with the empty book.
 //! - [`RegistryId`] and [`NewHistory`]: which registry it is, with the books that its history begins with, and its empty history.
 //!   The types ensure that seats, receipts and registries of one registry belong together.
 //! - [`ClosedRegistry`]: what is left of a registry that was closed. Nobody has seen more than it shows.
@@ -74,7 +74,7 @@ pub use gate::{Gate, OpenGate, Point};
 pub use history::{History, HistoryPrefix, NewHistory, RegistryId};
 pub use laws::{
     commits_law, conflicts_take_commits, one_list, one_list_of_receipts, one_list_with_receipt,
-    repeats_law,
+    overtaken_law, repeats_law,
 };
 pub use outcome::Outcome;
 pub use published::PublishedValue;

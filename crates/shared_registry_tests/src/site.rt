@@ -11,7 +11,7 @@ use entry_book::Batch;
 use shared_registry::{
     Answer, ClosedRegistry, Gate, NewHistory, OpenGate, Outcome, Receipt, Registry, RegistryId,
     Seat, commits_law, conflicts_take_commits, one_list_of_receipts, one_list_with_receipt,
-    repeats_law,
+    overtaken_law, repeats_law,
 };
 use spiffe_name::TrustDomain;
 use std::alloc::Global;
@@ -102,6 +102,7 @@ fn query_after<J: RegistryId, R: Wait>(
     }
     commits_law();
     conflicts_take_commits();
+    overtaken_law();
     repeats_law();
     match registry.submit(rt, seat, &OpenGate, changes, 1) {
         Outcome::Committed(_) => {
