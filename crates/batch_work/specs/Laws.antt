@@ -107,7 +107,8 @@ pub record OnBooks (batch : Batch) (w : Window) (books : List Book) : Type 0 whe
 abbrev pub WindowRepresentsBooks : Type 0
 WindowRepresentsBooks = (batch : Batch) (w : Window) (books : List Book) → WindowRepresents w books → OnBooks batch w books
 
--- A history begins with one version, with the number 0. The window of this version alone represents the list of its book.
+-- A history that begins with the empty book does so with one version, with the number 0. The window of this version alone
+-- represents the list of its book.
 abbrev pub WindowBegins : Type 0
 WindowBegins = (s : VersionState) → s.number ≡ 0 → WindowRepresents (record { older = []; newest = s }) (book_in s ∷ [])
 

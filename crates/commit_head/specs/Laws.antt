@@ -58,7 +58,7 @@ LeadsOnBooks = (first : List Book) (own_domain : Bytes) (items : List Item) (s :
 abbrev pub JournalBegins : Type 0
 JournalBegins = (own_domain : Bytes) (h : Head) → h.window ≡ record { older = []; newest = empty_version own_domain } → h.kept ≡ [] → IsJournal first_books [] h
 
--- so has that of a head whose window represents the first books
+-- nor has that of a head whose newest version is `first_version`, and whose window represents the first books
 abbrev pub JournalStarts : Type 0
 JournalStarts = (first : List Book) (h : Head) → h.window.newest ≡ first_version h.window.newest.domain first → WindowRepresents h.window first → h.kept ≡ [] → IsJournal first [] h
 

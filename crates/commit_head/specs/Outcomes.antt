@@ -37,8 +37,8 @@ pub record IsHitSince (first : List Book) (journal : List Batch) (base : ℕ) (m
   pub is_made : Within (writes_of other (length before + length first) (last_book (books_from first before))) write
   pub hit : hits write mark ≡ true
 
--- At each of these marks, the last book after these batches, committed on the first books, reads the same as book `base`, which isn't
--- before the last of the first books.
+-- At each of these marks, the last book after these batches, committed on the first books, reads the same as book `base`. That book
+-- isn't before the last of the first books: with a smaller number, the comparison is with the last of the first books.
 abbrev pub IsUnchangedSince : List Book → List Batch → ℕ → List MarkKind → Type 0
 IsUnchangedSince first journal base marks = AllByRecursion (Agree (last_book (books_from first (take (base - place_of first) journal))) (last_book (books_from first journal))) marks
 

@@ -20,7 +20,7 @@ use Rattle.entry_book.specs.Limits.{limit_passed, IsWithinLimits}
 use Rattle.entry_book.specs.Lawful.{Lawful}
 use Rattle.entry_book.specs.Batches.{Batch, IsMadeFor, is_query, past_place}
 
--- ---- the list of all books, beginning with an empty one; their numbers count from 0
+-- ---- the list of all books; their numbers count from 0
 
 -- the last book of a list; b if it is empty
 abbrev pub last_or : Book → List Book → Book
@@ -179,8 +179,8 @@ books_of batches = books_from first_books batches
 
 -- ---- histories that begin at given books
 
--- What the list of all books may begin with. It isn't empty, and it is no longer than a history can be. Each of its books is
--- lawful as the book of its number, and within the limits. `first_books` is one such list.
+-- What the list of all books may begin with. It isn't empty, and it has at most as many books as a history can have. Each of its
+-- books is lawful as the book of its number, and within the limits. `first_books` is one such list.
 pub record IsFirst (own_domain : Bytes) (first : List Book) : Type 0 where
   pub some : 0 < length first
   pub few : length first ≤ 2 ^ 48 + 1

@@ -32,7 +32,7 @@ pub record Lawful (own_domain : Bytes) (most : ℕ) (b : Book) : Type 0 where
   pub sequences : (d : Bundle) → Within b.bundles d → d.sequence ≤ most
   -- the operations of a stored batch, with its token, are a batch for this trust domain
   pub proper_tokens : (k : KeptBatch) → Within b.tokens k → IsMadeFor own_domain (record { domain = own_domain; ops = k.ops; after = 0; token = Some k.token })
-  -- and it was committed: its place is positive, and in book n at most n
+  -- its place is positive, and in book n at most n
   pub places : (k : KeptBatch) → Within b.tokens k → (0 < k.place) × (64 * k.place ≤ most)
 
 -- No revision and no sequence is above 2^63, so that the next one fits in 64 bits. Each lawful book of a history satisfies this.

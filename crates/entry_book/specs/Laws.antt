@@ -501,7 +501,7 @@ ExactlyOnce = (first : List Book) (own_domain token : Bytes) (batch other : Batc
 abbrev pub first_reply : KeptBatch → Reply
 first_reply k = record { place = k.place; outcome = Committed k.replies }
 
--- the stored batch
+-- the stored batch, with `after` 0, since `after` isn't stored
 abbrev pub stored_batch : Bytes → KeptBatch → Batch
 stored_batch own_domain k = record { domain = own_domain; ops = k.ops; after = 0; token = Some k.token }
 
@@ -557,7 +557,7 @@ HistoryExtends = (first : List Book) (own_domain : Bytes) (batch : Batch) (books
 abbrev pub EmptyIsFirst : Type 0
 EmptyIsFirst = (own_domain : Bytes) → IsFirst own_domain first_books
 
--- so is a list that begins at a place below 2^48 with a book that is lawful there and within the limits
+-- so is a list that begins at a place of at most 2^48 with a book that is lawful there and within the limits
 abbrev pub StartIsFirst : Type 0
 StartIsFirst = (own_domain : Bytes) (q : ℕ) (b : Book) → q ≤ 2 ^ 48 → Lawful own_domain (64 * q) b → IsWithinLimits b → IsFirst own_domain (starting_at q b)
 

@@ -12,6 +12,6 @@ pub record EachGrew (first : List Book) (domain : Bytes) (start end : List Seate
   pub grew : (i : ℕ) (s t : Seated) → i < length start → Grew first domain (get_or start i s) (get_or end i t)
 
 -- What any two of the seats have seen is one list: of the two journals one is a prefix of the other, with the same commit at each
--- place that both have.
+-- index that both have.
 abbrev pub HaveSeenOneList : List Seated → Type 0
 HaveSeenOneList seats = (i j : ℕ) (s t : Seated) → i < length seats → j < length seats → AreOneList (get_or seats i s).seen (get_or seats j t).seen

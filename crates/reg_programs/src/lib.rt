@@ -6,7 +6,8 @@
 //! - [`run_settings`]: the program that the [`Settings`] request, over an input and an output; [`told`]: the end of one without a
 //!   book.
 //! - [`session`]: the lines of one connection, answered through a seat of a shared registry; [`sessions_law`]: what the
-//!   seat has seen only grows; [`session_alone_law`]: if nobody else uses the registry, it writes what `plain` writes.
+//!   seat has seen only grows; [`session_alone_law`]: if nobody else uses the registry, which begins with the empty book, it writes
+//!   what `plain` writes.
 //! - [`serve`]: the program `regd serve`, with a session for each connection; [`Server`]: its parameters. [`serve_connections`]:
 //!   the same at an existing listener, with what the workers share ([`ServerContext`]), their seats ([`seats_of`]) and a
 //!   [`Queue`] of connections for each ([`queues_of`]); a [`QueueState`] says which worker sleeps. Its contract states that what

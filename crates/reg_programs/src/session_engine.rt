@@ -295,8 +295,9 @@ pub fn sessions_law()
     ensures { SessionsGrow }
 {}
 
-/// A session through a new seat writes what `plain` writes with the same seed, if all commits that the seat has seen are its own:
-/// then no commit of others decided an answer. A line that is answered L8 ends this, since `plain` has no such answer. This
+/// A session through a new seat writes what `plain` writes with the same seed, if the history begins with the empty book and all
+/// commits that the seat has seen are its own: then no commit of others decided an answer. For other first books, it writes what
+/// `plain` would write if it started on these. A line that is answered L8 ends this, since `plain` has no such answer. This
 /// function does nothing at run time: its contract is the theorem.
 pub fn session_alone_law()
     ensures { SessionsAloneArePlain }

@@ -47,7 +47,8 @@ impl<J: RegistryId> ClosedRegistry<J> {
         ClosedRegistry { history, published }
     }
 
-    /// Returns the number of its commits.
+    /// Returns the number of its commits since the first books. If these are the empty book alone, it is the number of the last
+    /// commit.
     pub fn place(&self) -> u64
         ensures place { result ≡ length self.now }
         ensures lawful { IsLawfulJournal J.first J.domain self.now }

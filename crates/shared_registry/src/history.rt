@@ -123,7 +123,7 @@ pub trait RegistryId {
 }
 
 /// The proof of a caller chooses the members for its own registry (`ghosts-..` in the `Invariants.antt` of the caller), and uses
-/// none of those that are given here.
+/// none of those that are given here. With these there is no registry: no history begins with the empty list (`IsFirst`).
 impl RegistryId for Brand {
     ghost use Rattle.std.specs.Prelude.{[]};
 

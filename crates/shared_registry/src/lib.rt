@@ -26,14 +26,15 @@
 //!
 //! The words of this crate:
 //!
-//! - journal: the list of all committed items; prefix: its first items, given by their number.
+//! - journal: the list of all items committed since the first books; prefix: its first items, given by their number.
 //! - published state: the window of the last books, and the number of commits of each seat; published value ([`PublishedValue`]): a
 //!   published state with the prefix that it shows; snapshot: the published value that a seat has.
 //! - found: the journal of the snapshot that a seat has; seen: the prefix that its answers were computed from; learnt: the
 //!   longest prefix that it learnt of.
 //! - own: the numbers of the calls that a seat has committed.
-//! - first books: the list of books that the history begins with; a place counts the books after the first one of these, so for a
-//!   registry that begins with the empty book it counts items.
+//! - first books: the list of books that the history begins with.
+//! - place: the number of the last book. In a registry that begins with the empty book it is the number of items. The methods
+//!   named `place` return the number of items since the first books.
 //!
 //! The definitions are in `specs/`. `Outcomes` defines the outcome of a batch of changes, `Shown` the published value, `Seated`
 //! and `SeatCalls` a seat, `OneList` how the journals of two callers are related, and `Rules` the history's entries. The others are

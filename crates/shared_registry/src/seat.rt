@@ -71,7 +71,7 @@ impl<J: RegistryId> Receipt<J> {
         &self.seen
     }
 
-    /// Returns the number of its items.
+    /// Returns the number of its items since the first books. If these are the empty book alone, it is the number of the last commit.
     pub fn place(&self) -> u64
         ensures place { result ≡ length self.now }
         ensures lawful { IsLawfulJournal J.first J.domain self.now }
@@ -109,7 +109,8 @@ impl<J: RegistryId> Seat<J> {
     ghost use Rattle.std.specs.Prelude.{◌≡◌, ◌<◌, ◌^◌, ◌+◌, ◌++◌, ◌∷◌, [], length, nat_lt, IfOk, MatchResult, true};
     ghost use Rattle.shared_registry.specs.Works.{IsRead};
 
-    /// Returns the number of items that it has seen.
+    /// Returns the number of items since the first books that it has seen. If these are the empty book alone, it is the number of
+    /// the last commit that it has seen.
     pub fn place(&self) -> u64
         ensures place { result ≡ length self.now.seen }
         ensures lawful { IsLawfulJournal J.first J.domain self.now.seen }
