@@ -22,7 +22,7 @@ hashed_after before (line ∷ lines) = hashed_line before line ∷ hashed_after 
 abbrev pub hashed : List (List ℕ) → List (List ℕ)
 hashed lines = hashed_after [] lines
 
--- The file has these lines and perhaps the next of the others, each with its hash, and it ends as a crash may leave it.
+-- The file has these lines and the first k of the others, for some k, each with its hash, and it ends as a crash may leave it.
 pub record IsLeft (mixes : Bool) (lines others : List (List ℕ)) (file : List ℕ) : Type 0 where
   pub found : List (List ℕ)
   pub rest : List (List ℕ)

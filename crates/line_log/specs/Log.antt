@@ -30,7 +30,7 @@ pub record IsCutOff (file : List ℕ) (cut : ℕ) : Type 0 where
   pub blank : (i : ℕ) → length (text_of (lines_in file)) + cut ≤ i → i < length file → slice_index file i ≡ 13
   pub last : 0 < cut → slice_index file (length (text_of (lines_in file)) + cut - 1) ≢ 13
 
--- the file has the old lines and perhaps the first of the new ones, and it ends as a crash may leave it
+-- the file has the old lines and the first k of the new ones, for some k, and it ends as a crash may leave it
 pub record IsCrashed (mixes : Bool) (old new : List (List ℕ)) (file : List ℕ) : Type 0 where
   pub lines : IsBetween old new (lines_in file)
   pub end : MayEnd mixes (tail_in file)

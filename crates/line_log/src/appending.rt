@@ -1,7 +1,7 @@
 //! How are lines added to a log, each with its hash?
 
 ghost use Rattle.std.specs.Prelude.{◌≡◌, ◌++◌, ℕ, Bool, List, IsTrue, IfErr, OnOk};
-ghost use Rattle.line_log.specs.Failures.{LeavesLog, JustifiesRefusal};
+ghost use Rattle.line_log.specs.Failures.{LeavesLog, IsTooMuch, JustifiesRefusal};
 ghost use Rattle.line_log.specs.Lines.{IsText, lines_in};
 ghost use Rattle.line_log.specs.Hashes.{IsLeft};
 ghost use Rattle.line_log.specs.Log.{HasLines, IsSynced, MixesIf};
@@ -16,10 +16,11 @@ use std::alloc::Global;
 
 impl<D: Disk> LineLog<D> {
     /// Adds whole lines, each with its hash, and syncs. At `Ok` each crash from then on leaves a file with them. A crash at any
-    /// moment of the call leaves the lines from before it and some of the new ones, in order.
+    /// moment of the call leaves the lines from before it and the first k of the new ones, for some k.
     ///
     /// Lines of more than 64 KiB with their hashes are refused, and a line of more than 8 MiB (`TooMuch`). That, `TooLong` and `NoMemory`
-    /// leave the log as it was. At any other `Err` open the file again.
+    /// leave the log as it was. At `Disk` it isn't known whether the lines were added: drop the log with its disk, and open the file as at a
+    /// start. The next start may find them, so a caller must not report that they were refused.
     pub fn append(&mut self, alloc: Global, text: &[u8]) -> Result<(), LogError>
         requires usable { IsTrue (D.Disk.is_usable self.old.file.disk) }
         requires synced { IsTrue (D.Disk.is_clean self.old.file.disk) → IsSynced D.Disk.seen D.Disk.may_leave self.old.file }
@@ -32,6 +33,7 @@ impl<D: Disk> LineLog<D> {
         ensures any_moment { IsTrue (D.Disk.is_clean self.old.file.disk) → (mixes : Bool) → MixesIf D.Disk.is_mixing mixes
             → (lines : List (List ℕ)) → HasLines D.Disk.seen D.Disk.may_leave self.old lines
             → (c : List ℕ) → D.Disk.may_leave self.new.file.disk c → IsLeft mixes lines (lines_in text.now) c }
+        ensures small { OnOk result (IsTooMuch text.now → ⊥) }
         ensures refused { IfErr result (λ e. LeavesLog e → self.new ≡ self.old) }
         ensures justified { IfErr result (λ e. JustifiesRefusal text.now self.old.file.len (D.Disk.faults self.old.file.disk) (D.Disk.faults self.new.file.disk) e) }
     {

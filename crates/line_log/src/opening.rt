@@ -43,7 +43,7 @@ fn read_text<D: Disk>(alloc: Global, reader: &mut LogReader<D>) -> Result<Vec<u8
 /// fits into memory. An error hands the file back.
 pub fn open_log<D: Disk>(alloc: Global, disk: D) -> Result<(LineLog<D>, Vec<u8>), (LogError, D)>
     requires usable { IsTrue (D.Disk.is_usable disk) }
-    // After a restart, what is read is what is on the disk.
+    // What is read is what is on the disk: the file was synced since it was opened.
     requires durable { Only (D.Disk.seen disk) (D.Disk.may_leave disk) }
     ensures usable { IfOk result (λ r. IsTrue (D.Disk.is_usable r.0.file.disk)) }
     ensures clean { IfOk result (λ r. IsTrue (D.Disk.is_clean r.0.file.disk) → IsTrue (D.Disk.is_clean disk)) }

@@ -111,13 +111,38 @@ impl<D: Disk> LogReader<D> {
         Ok(true)
     }
 
+    /// Returns how many bytes `finish` would cut off, so that a caller can keep a copy of them before. The blanks at the end don't count.
+    /// Fails as `finish` does, and writes nothing.
+    pub fn rest_len(&mut self, alloc: Global) -> Result<usize, LogError>
+        requires usable { IsTrue (D.Disk.is_usable self.old.disk) }
+        ensures usable { IsTrue (D.Disk.is_usable self.new.disk) }
+        ensures clean { IsTrue (D.Disk.is_clean self.new.disk) → IsTrue (D.Disk.is_clean self.old.disk) }
+        ensures seen { D.Disk.seen self.new.disk ≡ D.Disk.seen self.old.disk }
+        ensures crash { (c : List ℕ) → D.Disk.may_leave self.new.disk c → D.Disk.may_leave self.old.disk c }
+        ensures kept { IsTrue (D.Disk.is_clean self.new.disk) → (lines : List (List ℕ)) → HasReadLines (D.Disk.seen self.old.disk) self.old lines
+            → HasReadLines (D.Disk.seen self.old.disk) self.new lines }
+        ensures last { OnOk result (IsTrue (D.Disk.is_clean self.new.disk) → (lines : List (List ℕ)) → HasReadLines (D.Disk.seen self.old.disk) self.old lines
+            → lines_in (D.Disk.seen self.old.disk) ≡ hashed lines) }
+        ensures end { OnOk result (IsTrue (D.Disk.is_clean self.new.disk) → (lines : List (List ℕ)) → HasReadLines (D.Disk.seen self.old.disk) self.old lines
+            → MayEnd (D.Disk.is_mixing self.new.disk) (tail_in (D.Disk.seen self.old.disk))) }
+        ensures cut { IfOk result (λ cut. IsTrue (D.Disk.is_clean self.new.disk) → (lines : List (List ℕ)) → HasReadLines (D.Disk.seen self.old.disk) self.old lines → IsCutOff (D.Disk.seen self.old.disk) cut) }
+        ensures counted { IfErr result (λ e. (IsTrue (D.Disk.is_clean self.old.disk) → (lines : List (List ℕ)) × HasReadLines (D.Disk.seen self.old.disk) self.old lines)
+            → HasCause (D.Disk.faults self.old.disk) (D.Disk.faults self.new.disk) e) }
+        ensures faults { OnOk result (D.Disk.faults self.new.disk ≡ D.Disk.faults self.old.disk) }
+        ensures justified { IfErr result (λ e. IsTrue (D.Disk.is_clean self.new.disk) → (lines : List (List ℕ)) → HasReadLines (D.Disk.seen self.old.disk) self.old lines
+            → JustifiesFinish (D.Disk.is_mixing self.new.disk) (D.Disk.seen self.old.disk) lines e) }
+    {
+        let len = self.look_past(alloc)?;
+        Ok(len)
+    }
+
     /// Opens the log whose lines were all read: cuts off what a crash left behind them, and leaves a blank there. It may crash too, and
     /// then the file has the same lines. An error hands the file back. Nothing is written if a line follows (`Unread`), whole or too long
     /// (`LineTooLong`), or if the lines end in something that no crash leaves (`Damaged`). Also returns how many bytes were cut off, without
     /// the blanks at the end.
     pub fn finish(mut self, alloc: Global) -> Result<(LineLog<D>, usize), (LogError, D)>
         requires usable { IsTrue (D.Disk.is_usable self.disk) }
-        // After a restart, what is read is what is on the disk.
+        // What is read is what is on the disk: the file was synced since it was opened.
         requires durable { Only (D.Disk.seen self.disk) (D.Disk.may_leave self.disk) }
         requires read { IsTrue (D.Disk.is_clean self.disk) → (lines : List (List ℕ)) × HasReadLines (D.Disk.seen self.disk) self lines }
         ensures usable { IfOk result (λ r. IsTrue (D.Disk.is_usable r.0.file.disk)) }

@@ -24,7 +24,8 @@ fn blanks(alloc: Global, count: usize) -> Result<Vec<u8>, AllocError>
 
 impl<D: Disk> LineFile<D> {
     /// Adds whole lines, and syncs. At `Ok` each crash from then on leaves a file with them. A crash at any moment of the call
-    /// leaves the lines from before it and some of the new ones, in order. At an `Err` of the disk open the file again.
+    /// leaves the lines from before it and the first k of the new ones, for some k. At an `Err` of the disk it isn't known whether
+    /// they were added.
     pub(crate) fn append(&mut self, alloc: Global, text: &[u8]) -> Result<(), LogError>
         requires usable { IsTrue (D.Disk.is_usable self.old.disk) }
         requires synced { IsTrue (D.Disk.is_clean self.old.disk) → IsSynced D.Disk.seen D.Disk.may_leave self.old }
