@@ -7,7 +7,7 @@ use Rattle.std.specs.List.{AllByRecursion}
 use Rattle.line_log.specs.Lines.{lines_in, text_of, IsLogLine, IsBetween}
 use Rattle.line_log.specs.Tails.{tail_in, IsTornRest, MayEnd}
 use Rattle.line_log.specs.Log.{IsCrashed}
-use Rattle.line_log.proofs.TailLemmas.{past_text, blank_first, any_first, any_disk, faded_tail, faded_text_at, torn_tail, IsFadedText}
+use Rattle.line_log.proofs.TailLemmas.{past_text, filler_first, any_first, any_disk, faded_tail, faded_text_at, torn_tail, IsFadedText}
 use Rattle.line_log.proofs.LineLemmas.{shut, lines_of_text, text_append, all_append, text_gate, IsFaded, faded_lines}
 
 pub split_front : (p c : List ℕ) → length p ≤ length c → ((i : ℕ) → i < length p → slice_index c i ≡ slice_index p i) → c ≡ p ++ drop (length p) c
@@ -22,7 +22,7 @@ shut_at : (d : List ℕ) → slice_index d 0 ≢ 123 → lines_in d ≡ []
 shut_at [] other = refl
 shut_at (b ∷ d) other = shut b d other
 
-faded_at : (g d : List ℕ) → length g ≤ length d → ((i : ℕ) → i < length g → (slice_index d i ≡ 13) ⊎ (slice_index d i ≡ slice_index g i)) → slice_index d (length g) ≢ 123 → IsFaded g d
+faded_at : (g d : List ℕ) → length g ≤ length d → ((i : ℕ) → i < length g → (slice_index d i ≡ 30) ⊎ (slice_index d i ≡ slice_index g i)) → slice_index d (length g) ≢ 123 → IsFaded g d
 faded_at [] d le each other = shut_at d other
 faded_at (b ∷ g) [] le each other = absurd (omega arith)
 faded_at (b ∷ g) (c ∷ d) le each other = (each 0 (omega arith), faded_at g d (omega arith) (λ i low. each (suc i) (omega arith)) other)
@@ -46,12 +46,12 @@ module _ (ls : List (List ℕ)) (all : AllByRecursion IsLogLine ls) (end : ℕ) 
       let whole : c ≡ text_of ls ++ drop (length (text_of ls)) c = split_front (text_of ls) c (omega (arith, is)) (λ i low. same i (omega (arith, is))) in
       ap tail_in whole ∙ past_text ls (drop (length (text_of ls)) c) all ∙ ap (λ (n : ℕ). tail_in (drop n c)) (sym is)
 
-  -- a blank behind a text
-  pub blank_end : (c : List ℕ) → end ≤ length c → ((i : ℕ) → i < end → slice_index c i ≡ slice_index (text_of ls) i) → (end < length c → slice_index c end ≡ 13) → MayEnd true (tail_in c)
-  blank_end c within same blank =
+  -- a filler behind a text
+  pub filler_end : (c : List ℕ) → end ≤ length c → ((i : ℕ) → i < end → slice_index c i ≡ slice_index (text_of ls) i) → (end < length c → slice_index c end ≡ 30) → MayEnd true (tail_in c)
+  filler_end c within same filler =
       let zero_more : end + 0 ≡ end = omega arith in
       subst (MayEnd true) (sym (after_tail c within same))
-      (blank_first (drop end c) (λ (some : 0 < length (drop end c)). get_or-drop end c 0 0 ∙ ap (slice_index c) zero_more ∙ blank (omega (arith, some, length-drop end c))))
+      (filler_first (drop end c) (λ (some : 0 < length (drop end c)). get_or-drop end c 0 0 ∙ ap (slice_index c) zero_more ∙ filler (omega (arith, some, length-drop end c))))
 
   -- any byte but a gate behind a text
   pub shut_end : (c : List ℕ) → end ≤ length c → ((i : ℕ) → i < end → slice_index c i ≡ slice_index (text_of ls) i) → slice_index c end ≢ 123 → MayEnd false (tail_in c)
@@ -100,14 +100,14 @@ module _ (ls : List (List ℕ)) (all : AllByRecursion IsLogLine ls) (end : ℕ) 
   between_new : (c : List ℕ) → lines_in c ≡ ls ++ gs → IsBetween ls (ls ++ gs) (lines_in c)
   between_new c found = record { no_fewer = (gs, sym found); no_more = ([], append-nil (lines_in c) ∙ found) }
 
-  -- each byte of the text is there or blank
+  -- each byte of the text is there or a filler
   pub faded_after : (c : List ℕ) → end + length g < length c → ((i : ℕ) → i < end → slice_index c i ≡ slice_index (text_of ls) i)
-      → ((i : ℕ) → i < length g → (slice_index c (end + i) ≡ 13) ⊎ (slice_index c (end + i) ≡ slice_index g i)) → slice_index c (end + length g) ≢ 123 → IsBetween ls (ls ++ gs) (lines_in c)
+      → ((i : ℕ) → i < length g → (slice_index c (end + i) ≡ 30) ⊎ (slice_index c (end + i) ≡ slice_index g i)) → slice_index c (end + length g) ≢ 123 → IsBetween ls (ls ++ gs) (lines_in c)
   faded_after c within same each other =
       let d = drop end c in
       let at = λ (i : ℕ). get_or-drop end c i 0 in
       let faded : IsFaded g d = faded_at g d (omega (arith, length-drop end c))
-      (λ i low. elim (each i low) [ inl blank ↦ inl (get_or-drop end c i 0 ∙ blank) | inr new ↦ inr (get_or-drop end c i 0 ∙ new) ])
+      (λ i low. elim (each i low) [ inl filler ↦ inl (get_or-drop end c i 0 ∙ filler) | inr new ↦ inr (get_or-drop end c i 0 ∙ new) ])
       (λ e. other (sym (get_or-drop end c (length g) 0) ∙ e)) in
       let found = faded_lines gs d more (subst (λ (t : List ℕ). IsFaded t d) (sym g_is) faded) in
       let read = after_text ls all end is c (omega arith) same in
@@ -116,20 +116,20 @@ module _ (ls : List (List ℕ)) (all : AllByRecursion IsLogLine ls) (end : ℕ) 
         no_more = (found.0, ap (λ (l : List (List ℕ)). l ++ found.0) read ∙ append_assoc ls (lines_in d) found.0 ∙ ap (λ (l : List (List ℕ)). ls ++ l) found.1);
       }
 
-  -- each byte of the text is there or blank, a blank is behind it, and these are the bytes of a torn write
+  -- each byte of the text is there or a filler, a filler is behind it, and these are the bytes of a torn write
   pub faded_end : (c : List ℕ) → end + length g < length c → ((i : ℕ) → i < end → slice_index c i ≡ slice_index (text_of ls) i)
-      → ((i : ℕ) → i < length g → (slice_index c (end + i) ≡ 13) ⊎ (slice_index c (end + i) ≡ slice_index g i)) → slice_index c (end + length g) ≡ 13 → IsTornRest (drop end c) → MayEnd true (tail_in c)
-  faded_end c within same each blank torn =
+      → ((i : ℕ) → i < length g → (slice_index c (end + i) ≡ 30) ⊎ (slice_index c (end + i) ≡ slice_index g i)) → slice_index c (end + length g) ≡ 30 → IsTornRest (drop end c) → MayEnd true (tail_in c)
+  faded_end c within same each filler torn =
       let d = drop end c in
       let faded : IsFadedText g d = faded_text_at g d (omega (arith, length-drop end c))
       (λ i low. elim (each i low) [ inl old ↦ inl (get_or-drop end c i 0 ∙ old) | inr new ↦ inr (get_or-drop end c i 0 ∙ new) ])
-      (get_or-drop end c (length g) 0 ∙ blank) in
+      (get_or-drop end c (length g) 0 ∙ filler) in
       subst (MayEnd true) (sym (after_tail ls all end is c (omega arith) same)) (torn_tail d torn (faded_tail gs d more (subst (λ (t : List ℕ). IsFadedText t d) (sym g_is) faded)))
 
-  -- all of the text is there but the gate, which has any byte, and a blank is behind it
+  -- all of the text is there but the gate, which has any byte, and a filler is behind it
   pub gate_after : (c : List ℕ) → 0 < length g → end + length g < length c → ((i : ℕ) → i < end → slice_index c i ≡ slice_index (text_of ls) i)
-      → ((i : ℕ) → 0 < i → i < length g → slice_index c (end + i) ≡ slice_index g i) → slice_index c (end + length g) ≡ 13 → IsCrashed false ls (ls ++ gs) c
-  gate_after c some within same each blank = elim (cases_eq (slice_index c end) 123) [
+      → ((i : ℕ) → 0 < i → i < length g → slice_index c (end + i) ≡ slice_index g i) → slice_index c (end + length g) ≡ 30 → IsCrashed false ls (ls ++ gs) c
+  gate_after c some within same each filler = elim (cases_eq (slice_index c end) 123) [
     | inl open_gate ↦
         let gate : slice_index g 0 ≡ 123 = ap (λ (t : List ℕ). slice_index t 0) (sym g_is) ∙ text_gate gs more (omega (arith, ap length g_is)) in
         let added : (i : ℕ) → i < length g → slice_index c (end + i) ≡ slice_index g i = λ i low. elim (cases_eq i 0) [
@@ -138,11 +138,11 @@ module _ (ls : List (List ℕ)) (all : AllByRecursion IsLogLine ls) (end : ℕ) 
               ap (slice_index c) here ∙ open_gate ∙ sym gate ∙ ap (slice_index g) (sym first)
           | inr later ↦ each i (omega arith) low
         ] in
-        let no_gate : slice_index c (end + length g) ≢ 123 = λ e. omega (arith, blank, e) in
+        let no_gate : slice_index c (end + length g) ≢ 123 = λ e. omega (arith, filler, e) in
         let both = has_both c within same added no_gate in
         record {
           lines = between_new c (kept (ls ++ gs) (all_append ls gs all more) (end + length g) joined_length c both);
-          end = any_disk false (tail_in c) (blank_end (ls ++ gs) (all_append ls gs all more) (end + length g) joined_length c (omega arith) both.same (λ (some : end + length g < length c). blank));
+          end = any_disk false (tail_in c) (filler_end (ls ++ gs) (all_append ls gs all more) (end + length g) joined_length c (omega arith) both.same (λ (some : end + length g < length c). filler));
         }
     | inr shut_gate ↦ record {
       lines = between_old c (kept ls all end is c (record { within = omega arith; same = same; other = shut_gate }));

@@ -9,7 +9,7 @@ use Rattle.sha2.proofs.Facts256.{length-sha256}
 use Rattle.line_log.specs.Lines.{lines_in, text_of}
 use Rattle.line_log.specs.Tails.{tail_in, MayEnd}
 use Rattle.line_log.specs.Log.{IsCrashed}
-use Rattle.line_log.specs.Hashes.{hash_of, hashed_line, hashed_after, hashed, IsLeft}
+use Rattle.line_log.specs.Hashes.{hash_of, hashed_line, hashed_after, hashed, CrashMayLeave}
 use Rattle.line_log.specs.Damage.{HasWrongLine}
 use Rattle.line_log.proofs.TailLemmas.{any_disk}
 
@@ -36,7 +36,7 @@ hashed_front m (g ∷ gs) (x ∷ r0) r1 e =
     let (found, rest, is, front) = hashed_front (m ++ g ++ 10 ∷ []) gs r0 r1 (ap tail_of e) in
     (g ∷ found, rest, ap (λ (l : List (List ℕ)). g ∷ l) is, ap (λ (l : List ℕ). l ∷ r0) (ap head_of e) ∙ ap (λ (t : List (List ℕ)). hashed_line m g ∷ t) front)
 
-left_between : (mixes : Bool) (ls gs : List (List ℕ)) (c : List ℕ) → IsCrashed mixes (hashed ls) (hashed ls ++ hashed_after (text_of ls) gs) c → IsLeft mixes ls gs c
+left_between : (mixes : Bool) (ls gs : List (List ℕ)) (c : List ℕ) → IsCrashed mixes (hashed ls) (hashed ls ++ hashed_after (text_of ls) gs) c → CrashMayLeave mixes ls gs c
 left_between mixes ls gs c crashed =
     let between = crashed.lines in
     let r0 = between.no_fewer.0 in
@@ -51,7 +51,7 @@ left_between mixes ls gs c crashed =
       holds = sym between.no_fewer.1 ∙ ap (λ (l : List (List ℕ)). hashed ls ++ l) front ∙ sym (hashed_append [] ls found);
     }
 
-pub left_after : (mixes : Bool) (ls gs now added : List (List ℕ)) (c : List ℕ) → now ≡ hashed ls → added ≡ hashed_after (text_of ls) gs → IsCrashed mixes now (now ++ added) c → IsLeft mixes ls gs c
+pub left_after : (mixes : Bool) (ls gs now added : List (List ℕ)) (c : List ℕ) → now ≡ hashed ls → added ≡ hashed_after (text_of ls) gs → IsCrashed mixes now (now ++ added) c → CrashMayLeave mixes ls gs c
 left_after mixes ls gs now added c same more crashed =
     left_between mixes ls gs c (subst (λ (m : List (List ℕ)). IsCrashed mixes (hashed ls) (hashed ls ++ m) c) more (subst (λ (l : List (List ℕ)). IsCrashed mixes l (l ++ added) c) same crashed))
 
@@ -63,7 +63,7 @@ pub hashed_more : (m : List ℕ) (ls : List (List ℕ)) (l : List ℕ) → hashe
 hashed_more m ls l = hashed_append m ls (l ∷ [])
 
 -- a log whose file has these lines has these and none of the others
-pub left_none : (mixes : Bool) (ls gs : List (List ℕ)) (c : List ℕ) → lines_in c ≡ hashed ls → MayEnd true (tail_in c) → IsLeft mixes ls gs c
+pub left_none : (mixes : Bool) (ls gs : List (List ℕ)) (c : List ℕ) → lines_in c ≡ hashed ls → MayEnd true (tail_in c) → CrashMayLeave mixes ls gs c
 left_none mixes ls gs c is end = record { found = []; rest = gs; others_are = refl; end = any_disk mixes (tail_in c) end; holds = is ∙ ap hashed (sym (append-nil ls)) }
 
 -- one more line got its hash

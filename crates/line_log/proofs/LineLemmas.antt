@@ -79,13 +79,13 @@ text_gate [] all some = absurd (omega arith)
 text_gate ([] ∷ gs) all some = absurd (all.0)
 text_gate ((b ∷ line) ∷ gs) all some = all.0.0
 
--- ---- a text of which bytes are blank
+-- ---- a text of which bytes are fillers
 
--- each byte of the text is as it was or blank, and nothing counts behind it
+-- each byte of the text is as it was or a filler, and nothing counts behind it
 abbrev pub IsFaded : List ℕ → List ℕ → Type 0
 IsFaded [] d = lines_in d ≡ []
 IsFaded (b ∷ g) [] = ⊥
-IsFaded (b ∷ g) (c ∷ d) = ((c ≡ 13) ⊎ (c ≡ b)) × IsFaded g d
+IsFaded (b ∷ g) (c ∷ d) = ((c ≡ 30) ⊎ (c ≡ b)) × IsFaded g d
 
 none_before : (found gs : List (List ℕ)) → found ≡ [] → IsPrefix found gs
 none_before found gs none = (gs, ap (λ (l : List (List ℕ)). l ++ gs) none)
@@ -94,14 +94,14 @@ faded_inside : (x : ℕ) (line r : List ℕ) (gs : List (List ℕ)) (d : List �
     → IsFaded (r ++ 10 ∷ text_of gs) d → IsPrefix (lines_from (x ∷ line) d) ((x ∷ line ++ r) ∷ gs)
 faded_inside x line [] gs [] all later f = absurd f
 faded_inside x line [] gs (c ∷ d) all later f = elim (f.0) [
-  | inl blank ↦ none_before (lines_from (x ∷ line) (c ∷ d)) ((x ∷ line ++ []) ∷ gs) (breaks x line c d (omega arith) (omega arith))
+  | inl filler ↦ none_before (lines_from (x ∷ line) (c ∷ d)) ((x ∷ line ++ []) ∷ gs) (breaks x line c d (omega arith) (omega arith))
   | inr lf ↦
       let rest = later d f.1 in
       (rest.0, ap (λ (l : List (List ℕ)). l ++ rest.0) (ends x line c d lf) ∙ ap (λ (l : List (List ℕ)). (x ∷ line) ∷ l) rest.1 ∙ ap (λ (l : List ℕ). (x ∷ l) ∷ gs) (sym (append-nil line)))
 ]
 faded_inside x line (b ∷ r) gs [] all later f = absurd f
 faded_inside x line (b ∷ r) gs (c ∷ d) all later f = elim (f.0) [
-  | inl blank ↦ none_before (lines_from (x ∷ line) (c ∷ d)) ((x ∷ line ++ b ∷ r) ∷ gs) (breaks x line c d (omega arith) (omega arith))
+  | inl filler ↦ none_before (lines_from (x ∷ line) (c ∷ d)) ((x ∷ line ++ b ∷ r) ∷ gs) (breaks x line c d (omega arith) (omega arith))
   | inr same ↦
       let on = faded_inside x (line ++ b ∷ []) r gs d all.1 later f.1 in
       let high : 32 ≤ c = omega (arith, all.0, same) in
@@ -114,7 +114,7 @@ faded_lines [] d all f = none_before (lines_in d) [] f
 faded_lines ([] ∷ gs) d all f = absurd (all.0)
 faded_lines ((b ∷ line) ∷ gs) [] all f = absurd f
 faded_lines ((b ∷ line) ∷ gs) (c ∷ d) all f = elim (f.0) [
-  | inl blank ↦ none_before (lines_in (c ∷ d)) ((b ∷ line) ∷ gs) (shut c d (omega arith))
+  | inl filler ↦ none_before (lines_in (c ∷ d)) ((b ∷ line) ∷ gs) (shut c d (omega arith))
   | inr same ↦
       let on = faded_inside b [] line gs d all.0.1 (λ e g. faded_lines gs e all.1 g) f.1 in
       let read : lines_in (c ∷ d) ≡ lines_from (b ∷ []) d = opens c d (same ∙ all.0.0) ∙ ap (λ (k : ℕ). lines_from (k ∷ []) d) same in

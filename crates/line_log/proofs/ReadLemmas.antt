@@ -14,7 +14,7 @@ use Rattle.line_log.specs.WritingPrivate.{IsDiskFault}
 use Rattle.line_log.specs.Damage.{HasWrongEnd, JustifiesError, JustifiesFinish, IsLongLine, IsOutside}
 use Rattle.line_log.specs.Tails.{tail_in, unbroken, broken_by, shut_by, IsTornRest, MayEnd}
 use Rattle.line_log.specs.declared.error.LogError.{LogError}
-use Rattle.line_log.specs.declared.error.LogError.TheVariants.{NoMemory, Disk, TooLong, TooMuch, LineTooLong, Damaged, Unread}
+use Rattle.line_log.specs.declared.error.LogError.TheVariants.{NoMemory, Disk, FileTooLong, TextTooLong, LineTooLong, Damaged, Unread}
 use Rattle.line_log.specs.declared.reader.LogReader.{LogReader}
 use Rattle.line_log.specs.declared.first_line.FirstLine.TheVariants.{Whole, Part, Broken}
 use Rattle.line_log.proofs.LineLemmas.{text_append}
@@ -78,7 +78,7 @@ module _ (file held : List ℕ) (at : ℕ) (within : at + length held ≤ length
     torn_may torn rest = elim (cases_eq n 0) [
       | inl first ↦
           let shut_may : MayEnd mixes (shut_by (slice_index held n) (drop (n + 1) held ++ drop (length held) (drop at file))) = elim torn [
-            | inl blank ↦ inl blank
+            | inl filler ↦ inl filler
             | inr gate ↦ elim (gate.1) [
               | inl dis ↦ inr (inl dis)
               | inr one ↦ inr (inr (no_bytes (drop (n + 1) held ++ drop (length held) (drop at file)) (omega (arith, one, more_long first))))
@@ -86,8 +86,8 @@ module _ (file held : List ℕ) (at : ℕ) (within : at + length held ≤ length
           ] in
           subst (MayEnd mixes) (sym (shut first)) shut_may
       | inr later ↦
-          let blank : slice_index held n ≡ 13 = elim torn [ inl is ↦ is | inr gate ↦ absurd (later gate.0) ] in
-          subst (MayEnd mixes) (sym (broken (omega arith))) (blank, rest (omega arith))
+          let filler : slice_index held n ≡ 30 = elim torn [ inl is ↦ is | inr gate ↦ absurd (later gate.0) ] in
+          subst (MayEnd mixes) (sym (broken (omega arith))) (filler, rest (omega arith))
     ]
 
     pub torn_only : MayEnd mixes (tail_in (drop at file)) → IsTornAt mixes n (len - at) (slice_index held n)
@@ -95,7 +95,7 @@ module _ (file held : List ℕ) (at : ℕ) (within : at + length held ≤ length
       | inl first ↦
           let shut_may : MayEnd mixes (shut_by (slice_index held n) (drop (n + 1) held ++ drop (length held) (drop at file))) = subst (MayEnd mixes) (shut first) may in
           elim shut_may [
-            | inl blank ↦ inl blank
+            | inl filler ↦ inl filler
             | inr gate ↦ elim gate [
               | inl dis ↦ inr (first, inl dis)
               | inr none ↦ inr (first, inr (omega (arith, ap length none, more_long first)))
@@ -231,8 +231,8 @@ read_end file r lines read none = read.at ∙ ap (λ (l : List (List ℕ)). leng
 pub look_justified : {D : Type 0} {d : Ghosts D} (mixes : Bool) (file : List ℕ) (r : LogReader D d) (lines : List (List ℕ)) (e : LogError) → HasReadLines file r lines → IsLookFault file r e → JustifiesError mixes file lines e
 look_justified mixes file r lines NoMemory read fault = tt
 look_justified mixes file r lines (Disk e) read fault = tt
-look_justified mixes file r lines TooLong read fault = absurd fault
-look_justified mixes file r lines TooMuch read fault = absurd fault
+look_justified mixes file r lines FileTooLong read fault = absurd fault
+look_justified mixes file r lines TextTooLong read fault = absurd fault
 look_justified mixes file r lines (LineTooLong n) read fault =
     (fault.0 ∙ read.count, subst (λ (k : ℕ). IsLongLine (drop k file)) read.at fault.1)
 look_justified mixes file r lines (Damaged n) read fault = absurd fault
@@ -241,8 +241,8 @@ look_justified mixes file r lines Unread read fault = absurd fault
 pub next_justified : {D : Type 0} {d : Ghosts D} (mixes : Bool) (file : List ℕ) (r : LogReader D d) (lines : List (List ℕ)) (e : LogError) → HasReadLines file r lines → IsNextFault mixes file r e → JustifiesError mixes file lines e
 next_justified mixes file r lines NoMemory read fault = tt
 next_justified mixes file r lines (Disk e) read fault = tt
-next_justified mixes file r lines TooLong read fault = absurd fault
-next_justified mixes file r lines TooMuch read fault = absurd fault
+next_justified mixes file r lines FileTooLong read fault = absurd fault
+next_justified mixes file r lines TextTooLong read fault = absurd fault
 next_justified mixes file r lines (LineTooLong n) read fault = look_justified mixes file r lines (LineTooLong n) read fault
 next_justified mixes file r lines (Damaged n) read fault =
     let wrong : HasWrongEnd mixes file lines = record { all = read_all file r lines read fault.1; wrong = λ may. fault.2 (subst (MayEnd mixes) read.tail may) } in
@@ -252,8 +252,8 @@ next_justified mixes file r lines Unread read fault = absurd fault
 pub past_justified : {D : Type 0} {d : Ghosts D} (mixes : Bool) (file : List ℕ) (r : LogReader D d) (lines : List (List ℕ)) (e : LogError) → HasReadLines file r lines → IsPastFault mixes file r e → JustifiesFinish mixes file lines e
 past_justified mixes file r lines NoMemory read fault = tt
 past_justified mixes file r lines (Disk e) read fault = tt
-past_justified mixes file r lines TooLong read fault = absurd fault
-past_justified mixes file r lines TooMuch read fault = absurd fault
+past_justified mixes file r lines FileTooLong read fault = absurd fault
+past_justified mixes file r lines TextTooLong read fault = absurd fault
 past_justified mixes file r lines (LineTooLong n) read fault = next_justified mixes file r lines (LineTooLong n) read fault
 past_justified mixes file r lines (Damaged n) read fault = next_justified mixes file r lines (Damaged n) read fault
 past_justified mixes file r lines Unread read fault = (fault.0, fault.1, read.read ∙ ap (λ (l : List (List ℕ)). hashed lines ++ l) fault.2)
@@ -262,8 +262,8 @@ past_justified mixes file r lines Unread read fault = (fault.0, fault.1, read.re
 pub next_past : {D : Type 0} {d : Ghosts D} (mixes : Bool) (file now : List ℕ) (r s : LogReader D d) (e : LogError) → now ≡ file → s.at ≡ r.at → s.count ≡ r.count → IsNextFault mixes now s e → IsPastFault mixes file r e
 next_past mixes file now r s NoMemory same at count fault = tt
 next_past mixes file now r s (Disk e) same at count fault = tt
-next_past mixes file now r s TooLong same at count fault = absurd fault
-next_past mixes file now r s TooMuch same at count fault = absurd fault
+next_past mixes file now r s FileTooLong same at count fault = absurd fault
+next_past mixes file now r s TextTooLong same at count fault = absurd fault
 next_past mixes file now r s (LineTooLong n) same at count fault =
     (fault.0 ∙ count, subst (λ (k : ℕ). IsLongLine (drop k file)) at (subst (λ (f : List ℕ). IsLongLine (drop s.at f)) same fault.1))
 next_past mixes file now r s (Damaged n) same at count fault =
@@ -274,8 +274,8 @@ next_past mixes file now r s Unread same at count fault = absurd fault
 pub disk_finish : (mixes : Bool) (file : List ℕ) (lines : List (List ℕ)) (old new : ℕ) (e : LogError) → IsDiskFault old new e → JustifiesFinish mixes file lines e
 disk_finish mixes file lines old new NoMemory fault = absurd fault
 disk_finish mixes file lines old new (Disk e) fault = tt
-disk_finish mixes file lines old new TooLong fault = absurd fault
-disk_finish mixes file lines old new TooMuch fault = absurd fault
+disk_finish mixes file lines old new FileTooLong fault = absurd fault
+disk_finish mixes file lines old new TextTooLong fault = absurd fault
 disk_finish mixes file lines old new (LineTooLong n) fault = absurd fault
 disk_finish mixes file lines old new (Damaged n) fault = absurd fault
 disk_finish mixes file lines old new Unread fault = absurd fault
@@ -293,8 +293,8 @@ of_any_error (Err y) P e gives p = subst P (sym gives) p
 pub error_finish : (mixes : Bool) (file : List ℕ) (lines : List (List ℕ)) (e : LogError) → JustifiesError mixes file lines e → JustifiesFinish mixes file lines e
 error_finish mixes file lines NoMemory fault = tt
 error_finish mixes file lines (Disk e) fault = tt
-error_finish mixes file lines TooLong fault = absurd fault
-error_finish mixes file lines TooMuch fault = absurd fault
+error_finish mixes file lines FileTooLong fault = absurd fault
+error_finish mixes file lines TextTooLong fault = absurd fault
 error_finish mixes file lines (LineTooLong n) fault = fault
 error_finish mixes file lines (Damaged n) fault = fault
 error_finish mixes file lines Unread fault = absurd fault
@@ -303,8 +303,8 @@ error_finish mixes file lines Unread fault = absurd fault
 pub outside_fault : {D : Type 0} {d : Ghosts D} (file : List ℕ) (r : LogReader D d) (e : LogError) → IsOutside e → IsLookFault file r e
 outside_fault file r NoMemory outside = tt
 outside_fault file r (Disk e) outside = tt
-outside_fault file r TooLong outside = absurd outside
-outside_fault file r TooMuch outside = absurd outside
+outside_fault file r FileTooLong outside = absurd outside
+outside_fault file r TextTooLong outside = absurd outside
 outside_fault file r (LineTooLong n) outside = absurd outside
 outside_fault file r (Damaged n) outside = absurd outside
 outside_fault file r Unread outside = absurd outside

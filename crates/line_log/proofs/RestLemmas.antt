@@ -14,22 +14,22 @@ module _ (file block : List ℕ) (from at : ℕ) (same : (i : ℕ) → i < lengt
       let there : at + (i - at) ≡ i = omega arith in
       ap (slice_index file) (sym there) ∙ same (i - at) (omega arith)
 
-  pub end_more : (end used : ℕ) → HasEnd file from at end → used ≤ length block → ((i : ℕ) → used ≤ i → i < length block → slice_index block i ≡ 13) → slice_index block (used - 1) ≢ 13 → 0 < used
+  pub end_more : (end used : ℕ) → HasEnd file from at end → used ≤ length block → ((i : ℕ) → used ≤ i → i < length block → slice_index block i ≡ 30) → slice_index block (used - 1) ≢ 30 → 0 < used
       → HasEnd file from (at + length block) (at + used)
-  end_more end used has within blank last some = record {
+  end_more end used has within filler last some = record {
     above = omega (arith, has.above, has.below);
     below = omega (arith, within);
-    blank = λ i past low. in_block i (omega arith) low ∙ blank (i - at) (omega arith) (omega arith);
+    filler = λ i past low. in_block i (omega arith) low ∙ filler (i - at) (omega arith) (omega arith);
     last = λ more is.
         let back : at + used - 1 - at ≡ used - 1 = omega (arith, some) in
         last (ap (slice_index block) (sym back) ∙ sym (in_block (at + used - 1) (omega (arith, some)) (omega (arith, some, within))) ∙ is);
   }
 
-  pub end_same : (end : ℕ) → HasEnd file from at end → ((i : ℕ) → i < length block → slice_index block i ≡ 13) → HasEnd file from (at + length block) end
-  end_same end has blank = record {
+  pub end_same : (end : ℕ) → HasEnd file from at end → ((i : ℕ) → i < length block → slice_index block i ≡ 30) → HasEnd file from (at + length block) end
+  end_same end has filler = record {
     above = has.above;
     below = omega (arith, has.below);
-    blank = λ i past low. elim (cases_lt i at) [ inl before ↦ has.blank i past before | inr new ↦ in_block i new low ∙ blank (i - at) (omega arith) ];
+    filler = λ i past low. elim (cases_lt i at) [ inl before ↦ has.filler i past before | inr new ↦ in_block i new low ∙ filler (i - at) (omega arith) ];
     last = has.last;
   }
 
@@ -98,7 +98,7 @@ module _ (file : List ℕ) (from len end line : ℕ) (all : len ≡ length file)
 -- what follows the lines of a file
 pub is_cut : (file : List ℕ) (at cut : ℕ) → at ≡ length (text_of (lines_in file)) → HasEnd file at (length file) (at + cut) → IsCutOff file cut
 is_cut file at cut at_is has = record {
-  blank = λ i past low. has.blank i (omega (arith, at_is, past)) low;
+  filler = λ i past low. has.filler i (omega (arith, at_is, past)) low;
   last = λ some is.
       let here : at + cut - 1 ≡ length (text_of (lines_in file)) + cut - 1 = omega (arith, at_is) in
       has.last (omega (arith, some)) (ap (slice_index file) here ∙ is);

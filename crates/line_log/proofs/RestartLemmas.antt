@@ -6,7 +6,7 @@ use Rattle.std.specs.declared.alloc.Global.{Global}
 use mathlib.Core.List.{IsPrefix}
 use Rattle.line_log.specs.Lines.{lines_in, IsBetween}
 use Rattle.line_log.specs.Restarts.{lines_of_all}
-use Rattle.line_log.specs.Hashes.{hashed, IsLeft}
+use Rattle.line_log.specs.Hashes.{hashed, CrashMayLeave}
 
 pub lines_all_append : (xs ys : List (Vec ℕ Global)) → lines_of_all (xs ++ ys) ≡ lines_of_all xs ++ lines_of_all ys
 lines_all_append [] ys = refl
@@ -60,7 +60,7 @@ now_more base xs i x t now low read t_is is =
     ∙ ap (λ (l : List (List ℕ)). base ++ l) (ap (λ (b : List ℕ). lines_of_all (take i xs) ++ lines_in b) t_is ∙ sym (all_more xs i x low read))
 
 -- the lines that a crash left, without their hashes
-pub left_found : (mixes : Bool) (ls gs : List (List ℕ)) (c : List ℕ) → IsLeft mixes ls gs c → (found : List (List ℕ)) × (lines_in c ≡ hashed found) × IsBetween ls (ls ++ gs) found
+pub left_found : (mixes : Bool) (ls gs : List (List ℕ)) (c : List ℕ) → CrashMayLeave mixes ls gs c → (found : List (List ℕ)) × (lines_in c ≡ hashed found) × IsBetween ls (ls ++ gs) found
 left_found mixes ls gs c part = (
   ls ++ part.found,
   part.holds,

@@ -64,7 +64,7 @@ pub any_disk : (mixes : Bool) (t : Tail) → MayEnd true t → MayEnd mixes t
 any_disk true t may = may
 any_disk false (unbroken n) may = may
 any_disk false (broken_by b rest) may = may
-any_disk false (shut_by b bytes) may = elim may [ inl blank ↦ inl blank | inr other ↦ inr (inl refl) ]
+any_disk false (shut_by b bytes) may = elim may [ inl filler ↦ inl filler | inr other ↦ inr (inl refl) ]
 
 -- what this disk may leave, disks may leave that mix only if this one does
 pub each_disk : (mixing mixes : Bool) (t : Tail) → (IsTrue mixes → IsTrue mixing) → MayEnd mixing t → MayEnd mixes t
@@ -73,11 +73,11 @@ each_disk true false t same may = any_disk false t may
 each_disk false true t same may = absurd (false≢true (same refl))
 each_disk false false t same may = may
 
--- the bytes begin with a blank, if there are any
-pub blank_first : (d : List ℕ) → (0 < length d → slice_index d 0 ≡ 13) → MayEnd true (tail_in d)
-blank_first [] blank = omega arith
-blank_first (b ∷ d) blank =
-    let is : b ≡ 13 = blank (omega arith) in
+-- the bytes begin with a filler, if there are any
+pub filler_first : (d : List ℕ) → (0 < length d → slice_index d 0 ≡ 30) → MayEnd true (tail_in d)
+filler_first [] filler = omega arith
+filler_first (b ∷ d) filler =
+    let is : b ≡ 30 = filler (omega arith) in
     subst (MayEnd true) (sym (shuts b d (λ (e : b ≡ 123). omega (arith, is, e)))) (inl is)
 
 -- the bytes begin no line, on a disk that may leave any byte there
@@ -104,7 +104,7 @@ same_first mixes (b ∷ d) [] some other first is_shut short may = absurd (omega
 same_first mixes (b ∷ d) (x ∷ e) some other first is_shut short may =
     let was : MayEnd mixes (shut_by b d) = subst (MayEnd mixes) (shuts b d is_shut) may in
     let now : MayEnd mixes (shut_by x e) = elim was [
-      | inl blank ↦ inl (first ∙ blank)
+      | inl filler ↦ inl (first ∙ filler)
       | inr gate ↦ elim gate [
         | inl dis ↦ inr (inl dis)
         | inr none ↦
@@ -119,17 +119,17 @@ pub either_end : (mixes : Bool) (old new : Tail) → (mixes ≡ true → MayEnd 
 either_end true old new mixed any may = mixed refl may
 either_end false old new mixed any may = any may
 
--- each byte of the text is as it was or blank, and a blank is behind it
+-- each byte of the text is as it was or a filler, and a filler is behind it
 abbrev pub IsFadedText : List ℕ → List ℕ → Type 0
-IsFadedText [] d = 0 < length d → slice_index d 0 ≡ 13
+IsFadedText [] d = 0 < length d → slice_index d 0 ≡ 30
 IsFadedText (b ∷ g) [] = ⊥
-IsFadedText (b ∷ g) (c ∷ d) = ((c ≡ 13) ⊎ (c ≡ b)) × IsFadedText g d
+IsFadedText (b ∷ g) (c ∷ d) = ((c ≡ 30) ⊎ (c ≡ b)) × IsFadedText g d
 
--- a blank is what ends the lines, or the file ends there
-abbrev pub IsBlankEnd : Tail → Type 0
-IsBlankEnd (unbroken n) = n ≤ 1
-IsBlankEnd (broken_by b rest) = b ≡ 13
-IsBlankEnd (shut_by b rest) = b ≡ 13
+-- a filler is what ends the lines, or the file ends there
+abbrev pub IsFillerEnd : Tail → Type 0
+IsFillerEnd (unbroken n) = n ≤ 1
+IsFillerEnd (broken_by b rest) = b ≡ 30
+IsFillerEnd (shut_by b rest) = b ≡ 30
 
 -- what follows the byte that breaks a line is the rest of a torn write
 abbrev pub HasTornRest : Tail → Type 0
@@ -137,10 +137,10 @@ HasTornRest (unbroken n) = ⊤
 HasTornRest (broken_by b rest) = IsTornRest rest
 HasTornRest (shut_by b rest) = ⊤
 
-pub torn_end : (t : Tail) → IsBlankEnd t → HasTornRest t → MayEnd true t
-torn_end (unbroken n) blank torn = blank
-torn_end (broken_by b rest) blank torn = (blank, torn)
-torn_end (shut_by b rest) blank torn = inl blank
+pub torn_end : (t : Tail) → IsFillerEnd t → HasTornRest t → MayEnd true t
+torn_end (unbroken n) filler torn = filler
+torn_end (broken_by b rest) filler torn = (filler, torn)
+torn_end (shut_by b rest) filler torn = inl filler
 
 -- what is the rest of a torn write is so without its first byte
 torn_less : (b : ℕ) (d : List ℕ) → IsTornRest (b ∷ d) → IsTornRest d
@@ -163,44 +163,44 @@ torn_from (suc n) (b ∷ d) torn = elim (cases_eq b 10) [
   ]
 ]
 
--- the bytes are the rest of a torn write, and the lines end in a blank
-pub torn_tail : (d : List ℕ) → IsTornRest d → IsBlankEnd (tail_in d) → MayEnd true (tail_in d)
-torn_tail d torn blank = torn_end (tail_in d) blank (torn_from 0 d torn)
+-- the bytes are the rest of a torn write, and the lines end in a filler
+pub torn_tail : (d : List ℕ) → IsTornRest d → IsFillerEnd (tail_in d) → MayEnd true (tail_in d)
+torn_tail d torn filler = torn_end (tail_in d) filler (torn_from 0 d torn)
 
-blank_head : (d : List ℕ) → (0 < length d → slice_index d 0 ≡ 13) → IsBlankEnd (tail_in d)
-blank_head [] blank = omega arith
-blank_head (b ∷ d) blank =
-    let is : b ≡ 13 = blank (omega arith) in
-    subst IsBlankEnd (sym (shuts b d (λ (e : b ≡ 123). omega (arith, is, e)))) is
+filler_head : (d : List ℕ) → (0 < length d → slice_index d 0 ≡ 30) → IsFillerEnd (tail_in d)
+filler_head [] filler = omega arith
+filler_head (b ∷ d) filler =
+    let is : b ≡ 30 = filler (omega arith) in
+    subst IsFillerEnd (sym (shuts b d (λ (e : b ≡ 123). omega (arith, is, e)))) is
 
-faded_inside : (n : ℕ) (r : List ℕ) (gs : List (List ℕ)) (d : List ℕ) → AllByRecursion IsInside r → ((e : List ℕ) → IsFadedText (text_of gs) e → IsBlankEnd (tail_in e))
-    → IsFadedText (r ++ 10 ∷ text_of gs) d → IsBlankEnd (tail_from (suc n) d)
+faded_inside : (n : ℕ) (r : List ℕ) (gs : List (List ℕ)) (d : List ℕ) → AllByRecursion IsInside r → ((e : List ℕ) → IsFadedText (text_of gs) e → IsFillerEnd (tail_in e))
+    → IsFadedText (r ++ 10 ∷ text_of gs) d → IsFillerEnd (tail_from (suc n) d)
 faded_inside n [] gs [] all later f = absurd f
 faded_inside n [] gs (c ∷ d) all later f = elim (f.0) [
-  | inl blank ↦ subst IsBlankEnd (sym (breaks n c d (λ (e : c ≡ 10). omega (arith, blank, e)) (omega (arith, blank)))) blank
-  | inr lf ↦ subst IsBlankEnd (sym (ends n c d lf)) (later d f.1)
+  | inl filler ↦ subst IsFillerEnd (sym (breaks n c d (λ (e : c ≡ 10). omega (arith, filler, e)) (omega (arith, filler)))) filler
+  | inr lf ↦ subst IsFillerEnd (sym (ends n c d lf)) (later d f.1)
 ]
 faded_inside n (b ∷ r) gs [] all later f = absurd f
 faded_inside n (b ∷ r) gs (c ∷ d) all later f = elim (f.0) [
-  | inl blank ↦ subst IsBlankEnd (sym (breaks n c d (λ (e : c ≡ 10). omega (arith, blank, e)) (omega (arith, blank)))) blank
+  | inl filler ↦ subst IsFillerEnd (sym (breaks n c d (λ (e : c ≡ 10). omega (arith, filler, e)) (omega (arith, filler)))) filler
   | inr same ↦
       let high : 32 ≤ c = omega (arith, all.0, same) in
-      subst IsBlankEnd (sym (inside n c d high)) (faded_inside (suc n) r gs d all.1 later f.1)
+      subst IsFillerEnd (sym (inside n c d high)) (faded_inside (suc n) r gs d all.1 later f.1)
 ]
 
-pub faded_tail : (gs : List (List ℕ)) (d : List ℕ) → AllByRecursion IsLogLine gs → IsFadedText (text_of gs) d → IsBlankEnd (tail_in d)
-faded_tail [] d all f = blank_head d f
+pub faded_tail : (gs : List (List ℕ)) (d : List ℕ) → AllByRecursion IsLogLine gs → IsFadedText (text_of gs) d → IsFillerEnd (tail_in d)
+faded_tail [] d all f = filler_head d f
 faded_tail ([] ∷ gs) d all f = absurd (all.0)
 faded_tail ((b ∷ line) ∷ gs) [] all f = absurd f
 faded_tail ((b ∷ line) ∷ gs) (c ∷ d) all f = elim (f.0) [
-  | inl blank ↦ subst IsBlankEnd (sym (shuts c d (λ (e : c ≡ 123). omega (arith, blank, e)))) blank
-  | inr same ↦ subst IsBlankEnd (sym (opens c d (same ∙ all.0.0))) (faded_inside 0 line gs d all.0.1 (λ (e : List ℕ) (g : IsFadedText (text_of gs) e). faded_tail gs e all.1 g) f.1)
+  | inl filler ↦ subst IsFillerEnd (sym (shuts c d (λ (e : c ≡ 123). omega (arith, filler, e)))) filler
+  | inr same ↦ subst IsFillerEnd (sym (opens c d (same ∙ all.0.0))) (faded_inside 0 line gs d all.0.1 (λ (e : List ℕ) (g : IsFadedText (text_of gs) e). faded_tail gs e all.1 g) f.1)
 ]
 
-pub faded_text_at : (g d : List ℕ) → length g ≤ length d → ((i : ℕ) → i < length g → (slice_index d i ≡ 13) ⊎ (slice_index d i ≡ slice_index g i)) → slice_index d (length g) ≡ 13 → IsFadedText g d
-faded_text_at [] d le each blank = λ (some : 0 < length d). blank
-faded_text_at (b ∷ g) [] le each blank = absurd (omega arith)
-faded_text_at (b ∷ g) (c ∷ d) le each blank = (each 0 (omega arith), faded_text_at g d (omega arith) (λ i low. each (suc i) (omega arith)) blank)
+pub faded_text_at : (g d : List ℕ) → length g ≤ length d → ((i : ℕ) → i < length g → (slice_index d i ≡ 30) ⊎ (slice_index d i ≡ slice_index g i)) → slice_index d (length g) ≡ 30 → IsFadedText g d
+faded_text_at [] d le each filler = λ (some : 0 < length d). filler
+faded_text_at (b ∷ g) [] le each filler = absurd (omega arith)
+faded_text_at (b ∷ g) (c ∷ d) le each filler = (each 0 (omega arith), faded_text_at g d (omega arith) (λ i low. each (suc i) (omega arith)) filler)
 
 -- ---- what a reader finds
 
@@ -240,19 +240,19 @@ one_lf (l ∷ []) all one i low lf = elim (cases_lt i (length l)) [
 ]
 one_lf (l ∷ m ∷ ls) all one i low lf = absurd (omega arith)
 
--- the text of a torn write that is short or one line, each byte as it was or blank, and blanks behind it
+-- the text of a torn write that is short or one line, each byte as it was or a filler, and fillers behind it
 pub torn_text : (g d : List ℕ) → text_of (lines_in g) ≡ g → AllByRecursion IsLogLine (lines_in g) → (length g ≤ 2 ^ 16) ⊎ (length (lines_in g) ≤ 1)
-    → ((i : ℕ) → i < length g → i < length d → (slice_index d i ≡ 13) ⊎ (slice_index d i ≡ slice_index g i)) → ((i : ℕ) → length g ≤ i → i < length d → slice_index d i ≡ 13) → IsTornRest d
-torn_text g d whole all small each blank = elim small [
-  | inl few ↦ inl (λ i high low. blank i (omega (arith, few, high)) low)
+    → ((i : ℕ) → i < length g → i < length d → (slice_index d i ≡ 30) ⊎ (slice_index d i ≡ slice_index g i)) → ((i : ℕ) → length g ≤ i → i < length d → slice_index d i ≡ 30) → IsTornRest d
+torn_text g d whole all small each filler = elim small [
+  | inl few ↦ inl (λ i high low. filler i (omega (arith, few, high)) low)
   | inr one ↦ inr (λ i j before low lf. elim (cases_lt i (length g)) [
     | inl inside_text ↦ elim (each i inside_text (omega (arith, before, low))) [
-      | inl is_blank ↦ absurd (omega (arith, is_blank, lf))
+      | inl is_filler ↦ absurd (omega (arith, is_filler, lf))
       | inr same ↦
           let at_lf : slice_index (text_of (lines_in g)) i ≡ 10 = ap (λ (t : List ℕ). slice_index t i) whole ∙ sym same ∙ lf in
           let last = one_lf (lines_in g) all one i (omega (arith, inside_text, ap length whole)) at_lf in
-          blank j (omega (arith, last, ap length whole, before)) low
+          filler j (omega (arith, last, ap length whole, before)) low
     ]
-    | inr behind ↦ absurd (omega (arith, blank i (omega (arith, behind)) (omega (arith, before, low)), lf))
+    | inr behind ↦ absurd (omega (arith, filler i (omega (arith, behind)) (omega (arith, before, low)), lf))
   ])
 ]

@@ -5,7 +5,7 @@ use Rattle.line_log.specs.Lines.{lines_in, text_of, IsLineFront}
 use Rattle.line_log.specs.Hashes.{hashed_line, hashed}
 use Rattle.line_log.specs.Tails.{tail_in, MayEnd}
 use Rattle.line_log.specs.declared.error.LogError.{LogError}
-use Rattle.line_log.specs.declared.error.LogError.TheVariants.{NoMemory, Disk, Damaged, LineTooLong, TooLong, Unread}
+use Rattle.line_log.specs.declared.error.LogError.TheVariants.{NoMemory, Disk, Damaged, LineTooLong, FileTooLong, Unread}
 
 -- behind these lines the file has a line that is none with the right hash
 pub record HasWrongLine (file : List ℕ) (lines : List (List ℕ)) : Type 0 where
@@ -34,7 +34,7 @@ JustifiesError mixes file lines other = ⊥
 
 -- The log can't be opened: the file is longer than 2^60 bytes, behind these lines a line follows, or as above.
 abbrev pub JustifiesFinish : Bool → List ℕ → List (List ℕ) → LogError → Type 0
-JustifiesFinish mixes file lines TooLong = 2 ^ 60 < length file
+JustifiesFinish mixes file lines FileTooLong = 2 ^ 60 < length file
 JustifiesFinish mixes file lines Unread = (found : List ℕ) × (rest : List (List ℕ)) × (lines_in file ≡ hashed lines ++ found ∷ rest)
 JustifiesFinish mixes file lines other = JustifiesError mixes file lines other
 

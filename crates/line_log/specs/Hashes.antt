@@ -23,7 +23,7 @@ abbrev pub hashed : List (List ℕ) → List (List ℕ)
 hashed lines = hashed_after [] lines
 
 -- The file has these lines and the first k of the others, for some k, each with its hash, and it ends as a crash may leave it.
-pub record IsLeft (mixes : Bool) (lines others : List (List ℕ)) (file : List ℕ) : Type 0 where
+pub record CrashMayLeave (mixes : Bool) (lines others : List (List ℕ)) (file : List ℕ) : Type 0 where
   pub found : List (List ℕ)
   pub rest : List (List ℕ)
   pub others_are : others ≡ found ++ rest

@@ -19,16 +19,16 @@ pub record BeginsWith (file : List ℕ) (lines : List (List ℕ)) (end : ℕ) : 
 abbrev pub IsShutAt : List ℕ → ℕ → Type 0
 IsShutAt file end = end < length file → slice_index file end ≢ 123
 
--- the file has the text of its lines, which is so long, and then blanks (CRs, 13)
+-- the file has the text of its lines, which is so long, and then fillers (30, RS)
 pub record IsAtRest (file : List ℕ) (end : ℕ) : Type 0 where
   pub end_is : end ≡ length (text_of (lines_in file))
   pub text : (i : ℕ) → i < end → slice_index file i ≡ slice_index (text_of (lines_in file)) i
-  pub blank : (i : ℕ) → end ≤ i → i < length file → slice_index file i ≡ 13
+  pub filler : (i : ℕ) → end ≤ i → i < length file → slice_index file i ≡ 30
 
--- so many bytes follow the lines of the file, and then blanks to its end
+-- so many bytes follow the lines of the file, and then fillers to its end
 pub record IsCutOff (file : List ℕ) (cut : ℕ) : Type 0 where
-  pub blank : (i : ℕ) → length (text_of (lines_in file)) + cut ≤ i → i < length file → slice_index file i ≡ 13
-  pub last : 0 < cut → slice_index file (length (text_of (lines_in file)) + cut - 1) ≢ 13
+  pub filler : (i : ℕ) → length (text_of (lines_in file)) + cut ≤ i → i < length file → slice_index file i ≡ 30
+  pub last : 0 < cut → slice_index file (length (text_of (lines_in file)) + cut - 1) ≢ 30
 
 -- the file has the old lines and the first k of the new ones, for some k, and it ends as a crash may leave it
 pub record IsCrashed (mixes : Bool) (old new : List (List ℕ)) (file : List ℕ) : Type 0 where

@@ -27,10 +27,10 @@ pub record Tells {D : Type 0} {d : Ghosts D} (reader : LogReader D d) (found : F
   pub begins : BeginsAs (held_by reader) found
   pub whole : found ≡ Part → reader.at + length (held_by reader) ≡ reader.len
 
--- A crash may have left this byte behind the front of a line, where so many bytes of the file were not read: a blank, or in the place of
+-- A crash may have left this byte behind the front of a line, where so many bytes of the file were not read: a filler, or in the place of
 -- the line's first byte any.
 abbrev pub IsTornAt : Bool → ℕ → ℕ → ℕ → Type 0
-IsTornAt mixes front left byte = (byte ≡ 13) ⊎ ((front ≡ 0) × ((mixes ≡ false) ⊎ (left ≡ 1)))
+IsTornAt mixes front left byte = (byte ≡ 30) ⊎ ((front ≡ 0) × ((mixes ≡ false) ⊎ (left ≡ 1)))
 
 -- the next line is too long, and the error says how many were read, or the error is of the disk or of memory
 abbrev pub IsLookFault : {D : Type 0} {d : Ghosts D} → List ℕ → LogReader D d → LogError → Type 0

@@ -18,14 +18,14 @@ tail_from (suc n) (b ∷ bytes) = if b == 10 then tail_from 0 bytes else if nat_
 abbrev pub tail_in : List ℕ → Tail
 tail_in bytes = tail_from 0 bytes
 
--- A torn write may leave these bytes behind a blank: in the first 64 KiB any, and then blanks; or any up to an LF, and then blanks.
+-- A torn write may leave these bytes behind a filler: in the first 64 KiB any, and then fillers; or any up to an LF, and then fillers.
 abbrev pub IsTornRest : List ℕ → Type 0
-IsTornRest rest = ((i : ℕ) → 2 ^ 16 ≤ i → i < length rest → slice_index rest i ≡ 13) ⊎ ((i j : ℕ) → i < j → j < length rest → slice_index rest i ≡ 10 → slice_index rest j ≡ 13)
+IsTornRest rest = ((i : ℕ) → 2 ^ 16 ≤ i → i < length rest → slice_index rest i ≡ 30) ⊎ ((i j : ℕ) → i < j → j < length rest → slice_index rest i ≡ 10 → slice_index rest j ≡ 30)
 
--- A crash may leave this behind the lines: the end of the file, there or behind one byte more, since a blank (13) follows the lines of
--- a log; or a blank, behind a front with the rest of a torn write. In the place of a line's first byte it may also leave any byte, if the
+-- A crash may leave this behind the lines: the end of the file, there or behind one byte more, since a filler (30) follows the lines of
+-- a log; or a filler, behind a front with the rest of a torn write. In the place of a line's first byte it may also leave any byte, if the
 -- disk doesn't mix torn writes or if that is the last byte of the file.
 abbrev pub MayEnd : Bool → Tail → Type 0
 MayEnd mixes (unbroken n) = n ≤ 1
-MayEnd mixes (broken_by b rest) = (b ≡ 13) × IsTornRest rest
-MayEnd mixes (shut_by b bytes) = (b ≡ 13) ⊎ ((mixes ≡ false) ⊎ (bytes ≡ []))
+MayEnd mixes (broken_by b rest) = (b ≡ 30) × IsTornRest rest
+MayEnd mixes (shut_by b bytes) = (b ≡ 30) ⊎ ((mixes ≡ false) ⊎ (bytes ≡ []))

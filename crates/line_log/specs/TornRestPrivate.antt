@@ -2,13 +2,13 @@
 use Rattle.std.specs.Prelude.{◌≡◌, ◌≢◌, ℕ, ◌+◌, ◌-◌, ◌<◌, ◌≤◌, List, slice_index}
 use Rattle.line_log.specs.declared.torn_rest.Used.{Used}
 
--- The bytes of a file were looked through from one offset up to another. The last one that isn't a blank ends here, or there is none
+-- The bytes of a file were looked through from one offset up to another. The last one that isn't a filler ends here, or there is none
 -- and this is the first offset.
 pub record HasEnd (file : List ℕ) (from at end : ℕ) : Type 0 where
   pub above : from ≤ end
   pub below : end ≤ at
-  pub blank : (i : ℕ) → end ≤ i → i < at → slice_index file i ≡ 13
-  pub last : from < end → slice_index file (end - 1) ≢ 13
+  pub filler : (i : ℕ) → end ≤ i → i < at → slice_index file i ≡ 30
+  pub last : from < end → slice_index file (end - 1) ≢ 30
 
 -- In these bytes of a file of this length the first LF ends here, or there is none and this is the length.
 pub record HasLineEnd (file : List ℕ) (from at len end : ℕ) : Type 0 where

@@ -6,7 +6,7 @@ ghost use Rattle.line_log.specs.declared.error.LogError.TheVariants.{Disk, NoMem
 use std::alloc::{AllocError, AllocFailed};
 use std::io;
 
-/// Why a call of a log failed. After `NoMemory`, `TooMuch` and `TooLong` of [`crate::LineLog::append`] the log is as it was. After
+/// Why a call of a log failed. After `NoMemory`, `TextTooLong` and `FileTooLong` of [`crate::LineLog::append`] the log is as it was. After
 /// `Disk` it isn't known whether the lines were added: drop the log with its disk, and open the file as at a start. A system that returns
 /// the bytes of a failed sync as if they were on the disk must drop them first.
 #[derive(Clone, Copy, Debug, Drop)]
@@ -16,9 +16,9 @@ pub enum LogError {
     /// A call of the disk failed.
     Disk(io::Error),
     /// The file would be too long.
-    TooLong,
+    FileTooLong,
     /// Lines of more than 64 KiB with their hashes are to be added at once, or one of more than 8 MiB.
-    TooMuch,
+    TextTooLong,
     /// The line behind so many doesn't end within 8 MiB.
     LineTooLong(usize),
     /// What follows so many lines is no line with the right hash, and no end that a crash leaves.

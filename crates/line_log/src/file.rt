@@ -5,13 +5,13 @@ ghost use Rattle.std.specs.Prelude.{◌<◌};
 use sqlite_disk::Disk;
 
 /// The maximum length of a file.
-pub(crate) const MOST: usize = 1 << 60;
+pub(crate) const MAX_FILE_LEN: usize = 1 << 60;
 
 /// The maximum length of a line of a file, with its hash and its LF. No line that `regd` prints is as long.
-pub(crate) const LONGEST: usize = 1 << 23;
+pub(crate) const MAX_LINE_LEN: usize = 1 << 23;
 
 /// The maximum length of several lines that are added at once, with their hashes. A start takes no more than that for a torn write.
-pub(crate) const GROUP: usize = 1 << 16;
+pub(crate) const MAX_GROUP_LEN: usize = 1 << 16;
 
 /// The file of an open log, the length of the text of its lines, and that of the file.
 #[derive(Drop)]

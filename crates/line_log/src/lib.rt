@@ -1,12 +1,12 @@
 //! Which lines does a log file hold, whatever a crash made of it?
 //!
-//! A file has lines and then blanks (CRs). A line begins with `{`, has no byte below 32 and ends with an LF; the first byte that breaks this
+//! A file has lines and then fillers (bytes 30, RS). A line begins with `{`, has no byte below 32 and ends with an LF; the first byte that breaks this
 //! ends the lines. Each line has its hash behind it: a space and 32 hexadecimal digits, the first half of the SHA-256 of all lines up to it,
 //! each with its LF and without its hash. The theorems on crashes rest on no hash, only on what a disk promises
 //! (`sqlite_disk::Disk`). `docs/PROOFS.md` lists what that is in plain words.
 //!
 //! A file that was cut short inside a line is damaged. One that ends behind a line is a log with fewer lines, and so is one whose last lines
-//! became blanks: these can't be told from lines that were never added. A caller who must know keeps the number of the last line and its
+//! became fillers: these can't be told from lines that were never added. A caller who must know keeps the number of the last line and its
 //! hash elsewhere. `docs/DECISIONS.md` lists what else looks as after a crash.
 //!
 //! - [`LogReader`] reads a file line by line, in memory bounded by a line, tests the hashes, and opens the log at the end.

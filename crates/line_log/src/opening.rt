@@ -2,7 +2,7 @@
 
 ghost use Rattle.std.specs.Prelude.{◌≡◌, ℕ, List, [], IsTrue, IfOk, IfErr, OnOk};
 ghost use Rattle.line_log.specs.Damage.{JustifiesError, JustifiesFinish};
-ghost use Rattle.line_log.specs.Failures.{HasCause, KeepsFile, LeavesFile};
+ghost use Rattle.line_log.specs.Failures.{DiskErrorIsCounted, KeepsFile, LeavesFileUnchanged};
 ghost use Rattle.sqlite_disk.specs.Disk.{Only};
 ghost use Rattle.line_log.specs.Lines.{lines_in, text_of};
 ghost use Rattle.line_log.specs.Hashes.{hashed};
@@ -22,7 +22,7 @@ fn read_text<D: Disk>(alloc: Global, reader: &mut LogReader<D>) -> Result<Vec<u8
     ensures clean { IsTrue (D.Disk.is_clean reader.new.disk) → IsTrue (D.Disk.is_clean reader.old.disk) }
     ensures seen { D.Disk.seen reader.new.disk ≡ D.Disk.seen reader.old.disk }
     ensures crash { (c : List ℕ) → D.Disk.may_leave reader.new.disk c → D.Disk.may_leave reader.old.disk c }
-    ensures counted { IfErr result (λ e. (IsTrue (D.Disk.is_clean reader.old.disk) → HasReadLines (D.Disk.seen reader.old.disk) reader.old []) → HasCause (D.Disk.faults reader.old.disk) (D.Disk.faults reader.new.disk) e) }
+    ensures counted { IfErr result (λ e. (IsTrue (D.Disk.is_clean reader.old.disk) → HasReadLines (D.Disk.seen reader.old.disk) reader.old []) → DiskErrorIsCounted (D.Disk.faults reader.old.disk) (D.Disk.faults reader.new.disk) e) }
     ensures faults { OnOk result (D.Disk.faults reader.new.disk ≡ D.Disk.faults reader.old.disk) }
     ensures justified { IfErr result (λ e. IsTrue (D.Disk.is_clean reader.new.disk) → HasReadLines (D.Disk.seen reader.old.disk) reader.old [] → (lines : List (List ℕ)) × JustifiesError (D.Disk.is_mixing reader.new.disk) (D.Disk.seen reader.old.disk) lines e) }
     ensures text { IfOk result (λ text. IsTrue (D.Disk.is_clean reader.new.disk) → HasReadLines (D.Disk.seen reader.old.disk) reader.old [] → (lines : List (List ℕ)) × HasReadLines (D.Disk.seen reader.old.disk) reader.new lines × (text.items ≡ text_of lines)) }
@@ -50,8 +50,8 @@ pub fn open_log<D: Disk>(alloc: Global, disk: D) -> Result<(LineLog<D>, Vec<u8>)
     ensures clean_err { IfErr result (λ e. IsTrue (D.Disk.is_clean e.1) → IsTrue (D.Disk.is_clean disk)) }
     ensures synced { IfOk result (λ r. IsTrue (D.Disk.is_clean r.0.file.disk) → IsSynced D.Disk.seen D.Disk.may_leave r.0.file) }
     ensures opened { IfOk result (λ r. IsTrue (D.Disk.is_clean r.0.file.disk) → (lines : List (List ℕ)) × HasLines D.Disk.seen D.Disk.may_leave r.0 lines × (lines_in (D.Disk.seen disk) ≡ hashed lines) × (r.1.items ≡ text_of lines)) }
-    ensures kept { IfErr result (λ e. LeavesFile e.0 → KeepsFile D.Disk.seen D.Disk.may_leave disk e.1) }
-    ensures counted { IfErr result (λ e. HasCause (D.Disk.faults disk) (D.Disk.faults e.1) e.0) }
+    ensures kept { IfErr result (λ e. LeavesFileUnchanged e.0 → KeepsFile D.Disk.seen D.Disk.may_leave disk e.1) }
+    ensures counted { IfErr result (λ e. DiskErrorIsCounted (D.Disk.faults disk) (D.Disk.faults e.1) e.0) }
     ensures justified { IfErr result (λ e. IsTrue (D.Disk.is_clean e.1) → (lines : List (List ℕ)) × JustifiesFinish (D.Disk.is_mixing e.1) (D.Disk.seen disk) lines e.0) }
     ensures any_moment { IfOk result (λ r. IsTrue (D.Disk.is_clean r.0.file.disk) → (c : List ℕ) → D.Disk.may_leave r.0.file.disk c → KeepsLines D.Disk.is_mixing (D.Disk.seen disk) c) }
     ensures any_moment_err { IfErr result (λ e. IsTrue (D.Disk.is_clean e.1) → (c : List ℕ) → D.Disk.may_leave e.1 c → KeepsLines D.Disk.is_mixing (D.Disk.seen disk) c) }

@@ -3,7 +3,7 @@
 ghost use Rattle.std.specs.Prelude.{◌≡◌, ◌==◌, ◌+◌, ◌-◌, ◌^◌, ◌<◌, ◌≤◌, ◌++◌, ◌∷◌, [], ℕ, Bool, false, List, drop, length, min, slice_index, IsTrue, IfNone, IfOk, IfErr, IfSome, OnOk};
 ghost use Rattle.sqlite_disk.specs.Disk.{Only};
 ghost use Rattle.line_log.specs.Damage.{JustifiesError, JustifiesFinish, IsOutside};
-ghost use Rattle.line_log.specs.Failures.{HasCause, KeepsFile, LeavesFile};
+ghost use Rattle.line_log.specs.Failures.{DiskErrorIsCounted, KeepsFile, LeavesFileUnchanged};
 ghost use Rattle.line_log.specs.Lines.{lines_in, IsLineFront};
 ghost use Rattle.line_log.specs.Hashes.{hashed};
 ghost use Rattle.line_log.specs.Log.{HasLines, IsAtRest, IsCutOff, KeepsLines, MixesIf};
@@ -14,12 +14,12 @@ ghost use Rattle.line_log.specs.TornRestPrivate.{HasEnd};
 ghost use Rattle.line_log.specs.declared.first_line.FirstLine.TheVariants.{Whole};
 
 use crate::error::LogError;
-use crate::file::{LONGEST, LineFile, MOST};
+use crate::file::{MAX_LINE_LEN, LineFile, MAX_FILE_LEN};
 use crate::first_line::{FirstLine, first_line};
 use crate::hashing::take_line;
 use crate::log::LineLog;
 use crate::reader::LogReader;
-use crate::tail::{cut_tail, shut_tail};
+use crate::tail::{cut_tail, overwrite_brace};
 use crate::torn_rest::{is_torn_rest, used_from};
 use sha2::{Digest, Sha256};
 use sqlite_disk::Disk;
@@ -40,7 +40,7 @@ pub(crate) fn read_block<D: Disk>(
     ensures clean { IsTrue (D.Disk.is_clean disk.new) → IsTrue (D.Disk.is_clean disk.old) }
     ensures seen { D.Disk.seen disk.new ≡ D.Disk.seen disk.old }
     ensures crash { (c : List ℕ) → D.Disk.may_leave disk.new c → D.Disk.may_leave disk.old c }
-    ensures counted { IfErr result (λ e. (IsTrue (D.Disk.is_clean disk.old) → at + size ≤ length (D.Disk.seen disk.old)) → HasCause (D.Disk.faults disk.old) (D.Disk.faults disk.new) e) }
+    ensures counted { IfErr result (λ e. (IsTrue (D.Disk.is_clean disk.old) → at + size ≤ length (D.Disk.seen disk.old)) → DiskErrorIsCounted (D.Disk.faults disk.old) (D.Disk.faults disk.new) e) }
     ensures faults { OnOk result (D.Disk.faults disk.new ≡ D.Disk.faults disk.old) }
     ensures outside { IfErr result (λ e. IsOutside e) }
     ensures size { IfOk result (λ block. length block.items ≡ size) }
@@ -64,7 +64,7 @@ impl<D: Disk> LogReader<D> {
         ensures seen_err { IfErr result (λ e. D.Disk.seen e.1 ≡ D.Disk.seen disk) }
         ensures faults { IfOk result (λ r. D.Disk.faults r.disk ≡ D.Disk.faults disk) }
         ensures outside { IfErr result (λ e. IsOutside e.0) }
-        ensures counted { IfErr result (λ e. HasCause (D.Disk.faults disk) (D.Disk.faults e.1) e.0) }
+        ensures counted { IfErr result (λ e. DiskErrorIsCounted (D.Disk.faults disk) (D.Disk.faults e.1) e.0) }
         ensures read { IfOk result (λ r. IsTrue (D.Disk.is_clean r.disk) → HasReadLines (D.Disk.seen r.disk) r []) }
     {
         match disk.len() {
@@ -99,7 +99,7 @@ impl<D: Disk> LogReader<D> {
         ensures end { IfOk result (λ any. any ≡ false → IsTrue (D.Disk.is_clean self.new.disk) → (lines : List (List ℕ)) → HasReadLines (D.Disk.seen self.old.disk) self.old lines
             → MayEnd (D.Disk.is_mixing self.new.disk) (tail_in (D.Disk.seen self.old.disk))) }
         ensures counted { IfErr result (λ e. (IsTrue (D.Disk.is_clean self.old.disk) → (lines : List (List ℕ)) × HasReadLines (D.Disk.seen self.old.disk) self.old lines)
-            → HasCause (D.Disk.faults self.old.disk) (D.Disk.faults self.new.disk) e) }
+            → DiskErrorIsCounted (D.Disk.faults self.old.disk) (D.Disk.faults self.new.disk) e) }
         ensures faults { OnOk result (D.Disk.faults self.new.disk ≡ D.Disk.faults self.old.disk) }
         ensures justified { IfErr result (λ e. IsTrue (D.Disk.is_clean self.new.disk) → (lines : List (List ℕ)) → HasReadLines (D.Disk.seen self.old.disk) self.old lines
             → JustifiesError (D.Disk.is_mixing self.new.disk) (D.Disk.seen self.old.disk) lines e) }
@@ -107,11 +107,11 @@ impl<D: Disk> LogReader<D> {
         let Some(len) = self.next_len(alloc)? else {
             return Ok(false);
         };
-        self.take(len, line)?;
+        self.accept_line(len, line)?;
         Ok(true)
     }
 
-    /// Returns how many bytes `finish` would cut off, so that a caller can keep a copy of them before. The blanks at the end don't count.
+    /// Returns how many bytes `finish` would cut off, so that a caller can keep a copy of them before. The fillers at the end don't count.
     /// Fails as `finish` does, and writes nothing.
     pub fn rest_len(&mut self, alloc: Global) -> Result<usize, LogError>
         requires usable { IsTrue (D.Disk.is_usable self.old.disk) }
@@ -127,7 +127,7 @@ impl<D: Disk> LogReader<D> {
             → MayEnd (D.Disk.is_mixing self.new.disk) (tail_in (D.Disk.seen self.old.disk))) }
         ensures cut { IfOk result (λ cut. IsTrue (D.Disk.is_clean self.new.disk) → (lines : List (List ℕ)) → HasReadLines (D.Disk.seen self.old.disk) self.old lines → IsCutOff (D.Disk.seen self.old.disk) cut) }
         ensures counted { IfErr result (λ e. (IsTrue (D.Disk.is_clean self.old.disk) → (lines : List (List ℕ)) × HasReadLines (D.Disk.seen self.old.disk) self.old lines)
-            → HasCause (D.Disk.faults self.old.disk) (D.Disk.faults self.new.disk) e) }
+            → DiskErrorIsCounted (D.Disk.faults self.old.disk) (D.Disk.faults self.new.disk) e) }
         ensures faults { OnOk result (D.Disk.faults self.new.disk ≡ D.Disk.faults self.old.disk) }
         ensures justified { IfErr result (λ e. IsTrue (D.Disk.is_clean self.new.disk) → (lines : List (List ℕ)) → HasReadLines (D.Disk.seen self.old.disk) self.old lines
             → JustifiesFinish (D.Disk.is_mixing self.new.disk) (D.Disk.seen self.old.disk) lines e) }
@@ -136,10 +136,10 @@ impl<D: Disk> LogReader<D> {
         Ok(len)
     }
 
-    /// Opens the log whose lines were all read: cuts off what a crash left behind them, and leaves a blank there. It may crash too, and
+    /// Opens the log whose lines were all read: cuts off what a crash left behind them, and leaves a filler there. It may crash too, and
     /// then the file has the same lines. An error hands the file back. Nothing is written if a line follows (`Unread`), whole or too long
     /// (`LineTooLong`), or if the lines end in something that no crash leaves (`Damaged`). Also returns how many bytes were cut off, without
-    /// the blanks at the end.
+    /// the fillers at the end.
     pub fn finish(mut self, alloc: Global) -> Result<(LineLog<D>, usize), (LogError, D)>
         requires usable { IsTrue (D.Disk.is_usable self.disk) }
         // What is read is what is on the disk: the file was synced since it was opened.
@@ -153,8 +153,8 @@ impl<D: Disk> LogReader<D> {
         ensures end { IfOk result (λ r. IsTrue (D.Disk.is_clean r.0.file.disk) → (lines : List (List ℕ)) → HasReadLines (D.Disk.seen self.disk) self lines
             → (mixes : Bool) → MixesIf D.Disk.is_mixing mixes → MayEnd mixes (tail_in (D.Disk.seen self.disk))) }
         ensures cut { IfOk result (λ r. IsTrue (D.Disk.is_clean r.0.file.disk) → (lines : List (List ℕ)) → HasReadLines (D.Disk.seen self.disk) self lines → IsCutOff (D.Disk.seen self.disk) r.1) }
-        ensures kept { IfErr result (λ e. LeavesFile e.0 → KeepsFile D.Disk.seen D.Disk.may_leave self.disk e.1) }
-        ensures counted { IfErr result (λ e. HasCause (D.Disk.faults self.disk) (D.Disk.faults e.1) e.0) }
+        ensures kept { IfErr result (λ e. LeavesFileUnchanged e.0 → KeepsFile D.Disk.seen D.Disk.may_leave self.disk e.1) }
+        ensures counted { IfErr result (λ e. DiskErrorIsCounted (D.Disk.faults self.disk) (D.Disk.faults e.1) e.0) }
         ensures justified { IfErr result (λ e. IsTrue (D.Disk.is_clean e.1) → (lines : List (List ℕ)) → HasReadLines (D.Disk.seen self.disk) self lines
             → JustifiesFinish (D.Disk.is_mixing e.1) (D.Disk.seen self.disk) lines e.0) }
         ensures any_moment { IfOk result (λ r. IsTrue (D.Disk.is_clean r.0.file.disk) → (c : List ℕ) → D.Disk.may_leave r.0.file.disk c → KeepsLines D.Disk.is_mixing (D.Disk.seen self.disk) c) }
@@ -180,7 +180,7 @@ impl<D: Disk> LogReader<D> {
         }
     }
 
-    /// Cuts off what isn't a whole line, and leaves a blank behind the lines, all of which were read. Returns how many bytes were cut off.
+    /// Cuts off what isn't a whole line, and leaves a filler behind the lines, all of which were read. Returns how many bytes were cut off.
     fn trim(&mut self, alloc: Global) -> Result<usize, LogError>
         requires usable { IsTrue (D.Disk.is_usable self.old.disk) }
         requires durable { Only (D.Disk.seen self.old.disk) (D.Disk.may_leave self.old.disk) }
@@ -198,24 +198,24 @@ impl<D: Disk> LogReader<D> {
         ensures end { OnOk result (IsTrue (D.Disk.is_clean self.new.disk) → (lines : List (List ℕ)) → HasReadLines (D.Disk.seen self.old.disk) self.old lines
             → (mixes : Bool) → MixesIf D.Disk.is_mixing mixes → MayEnd mixes (tail_in (D.Disk.seen self.old.disk))) }
         ensures cut { IfOk result (λ cut. IsTrue (D.Disk.is_clean self.new.disk) → (lines : List (List ℕ)) → HasReadLines (D.Disk.seen self.old.disk) self.old lines → IsCutOff (D.Disk.seen self.old.disk) cut) }
-        ensures kept { IfErr result (λ e. LeavesFile e → KeepsFile D.Disk.seen D.Disk.may_leave self.old.disk self.new.disk) }
-        ensures counted { IfErr result (λ e. HasCause (D.Disk.faults self.old.disk) (D.Disk.faults self.new.disk) e) }
+        ensures kept { IfErr result (λ e. LeavesFileUnchanged e → KeepsFile D.Disk.seen D.Disk.may_leave self.old.disk self.new.disk) }
+        ensures counted { IfErr result (λ e. DiskErrorIsCounted (D.Disk.faults self.old.disk) (D.Disk.faults self.new.disk) e) }
         ensures justified { IfErr result (λ e. IsTrue (D.Disk.is_clean self.new.disk) → (lines : List (List ℕ)) → HasReadLines (D.Disk.seen self.old.disk) self.old lines
             → JustifiesFinish (D.Disk.is_mixing self.new.disk) (D.Disk.seen self.old.disk) lines e) }
         ensures any_moment { IsTrue (D.Disk.is_clean self.new.disk) → (c : List ℕ) → D.Disk.may_leave self.new.disk c → KeepsLines D.Disk.is_mixing (D.Disk.seen self.old.disk) c }
     {
         let cut = self.look_past(alloc)?;
         let end = self.at;
-        if end > MOST {
-            return Err(LogError::TooLong);
+        if end > MAX_FILE_LEN {
+            return Err(LogError::FileTooLong);
         }
-        let is_open = self.begins_line();
-        shut_tail(&mut self.disk, end, is_open)?;
+        let has_brace = self.begins_line();
+        overwrite_brace(&mut self.disk, end, has_brace)?;
         cut_tail(&mut self.disk, end)?;
         Ok(cut)
     }
 
-    /// Looks whether a line is left to read, which is an error, or damage. Returns how many bytes follow the lines, without the blanks at the
+    /// Looks whether a line is left to read, which is an error, or damage. Returns how many bytes follow the lines, without the fillers at the
     /// end.
     fn look_past(&mut self, alloc: Global) -> Result<usize, LogError>
         requires usable { IsTrue (D.Disk.is_usable self.old.disk) }
@@ -226,7 +226,7 @@ impl<D: Disk> LogReader<D> {
         ensures at { self.new.at ≡ self.old.at }
         ensures count { self.new.count ≡ self.old.count }
         ensures hasher { self.new.hasher ≡ self.old.hasher }
-        ensures counted { IfErr result (λ e. (IsTrue (D.Disk.is_clean self.old.disk) → IsPartOf (D.Disk.seen self.old.disk) self.old) → HasCause (D.Disk.faults self.old.disk) (D.Disk.faults self.new.disk) e) }
+        ensures counted { IfErr result (λ e. (IsTrue (D.Disk.is_clean self.old.disk) → IsPartOf (D.Disk.seen self.old.disk) self.old) → DiskErrorIsCounted (D.Disk.faults self.old.disk) (D.Disk.faults self.new.disk) e) }
         ensures faults { OnOk result (D.Disk.faults self.new.disk ≡ D.Disk.faults self.old.disk) }
         ensures part { IsTrue (D.Disk.is_clean self.new.disk) → IsPartOf (D.Disk.seen self.old.disk) self.old → IsPartOf (D.Disk.seen self.old.disk) self.new }
         ensures end { OnOk result (IsTrue (D.Disk.is_clean self.new.disk) → IsPartOf (D.Disk.seen self.old.disk) self.old → IsEnd (D.Disk.is_mixing self.new.disk) (drop self.old.at (D.Disk.seen self.old.disk))) }
@@ -252,7 +252,7 @@ impl<D: Disk> LogReader<D> {
         ensures at { self.new.at ≡ self.old.at }
         ensures count { self.new.count ≡ self.old.count }
         ensures hasher { self.new.hasher ≡ self.old.hasher }
-        ensures counted { IfErr result (λ e. (IsTrue (D.Disk.is_clean self.old.disk) → IsPartOf (D.Disk.seen self.old.disk) self.old) → HasCause (D.Disk.faults self.old.disk) (D.Disk.faults self.new.disk) e) }
+        ensures counted { IfErr result (λ e. (IsTrue (D.Disk.is_clean self.old.disk) → IsPartOf (D.Disk.seen self.old.disk) self.old) → DiskErrorIsCounted (D.Disk.faults self.old.disk) (D.Disk.faults self.new.disk) e) }
         ensures faults { OnOk result (D.Disk.faults self.new.disk ≡ D.Disk.faults self.old.disk) }
         ensures part { IsTrue (D.Disk.is_clean self.new.disk) → IsPartOf (D.Disk.seen self.old.disk) self.old → IsPartOf (D.Disk.seen self.old.disk) self.new }
         ensures whole { IfOk result (λ next. IfSome next (λ len. (len < length (held_by self.new)) × BeginsAs (held_by self.new) (Whole len))) }
@@ -260,7 +260,7 @@ impl<D: Disk> LogReader<D> {
         ensures held { IfOk result (λ next. IfNone next (IsTrue (D.Disk.is_clean self.new.disk) → IsPartOf (D.Disk.seen self.old.disk) self.old → self.new.at < length (D.Disk.seen self.old.disk) → 0 < length (held_by self.new))) }
         ensures fault { IfErr result (λ e. IsTrue (D.Disk.is_clean self.new.disk) → IsPartOf (D.Disk.seen self.old.disk) self.old → IsNextFault (D.Disk.is_mixing self.new.disk) (D.Disk.seen self.old.disk) self.old e) }
     {
-        match self.look(alloc)? {
+        match self.peek_line(alloc)? {
             FirstLine::Whole(len) => Ok(Some(len)),
             FirstLine::Part => {
                 let left = self.len - self.at;
@@ -282,12 +282,12 @@ impl<D: Disk> LogReader<D> {
     }
 
     /// Takes a whole line of this length from the bytes in memory, if it has the right hash.
-    fn take(&mut self, len: usize, line: &mut Vec<u8>) -> Result<(), LogError>
+    fn accept_line(&mut self, len: usize, line: &mut Vec<u8>) -> Result<(), LogError>
         requires len { len < length (held_by self.old) }
         requires line { BeginsAs (held_by self.old) (Whole len) }
         ensures disk { self.new.disk ≡ self.old.disk }
         ensures taken { OnOk result ((lines : List (List ℕ)) → (file : List ℕ) → HasReadLines file self.old lines → HasReadLines file self.new (lines ++ line.new.items ∷ [])) }
-        ensures counted { IfErr result (λ e. (old new : ℕ) → HasCause old new e) }
+        ensures counted { IfErr result (λ e. (old new : ℕ) → DiskErrorIsCounted old new e) }
         ensures justified { IfErr result (λ e. (mixes : Bool) → (lines : List (List ℕ)) → (file : List ℕ) → HasReadLines file self.old lines → JustifiesError mixes file lines e) }
     {
         let (_, held) = self.block.split_at(self.from);
@@ -302,7 +302,7 @@ impl<D: Disk> LogReader<D> {
         Ok(())
     }
 
-    /// Returns whether a crash may have left the byte that follows a front of this length: a blank, and where a torn write may
+    /// Returns whether a crash may have left the byte that follows a front of this length: a filler, and where a torn write may
     /// leave any byte, any in the place of its `{`. The same holds for a last byte, with which a file was made longer.
     fn is_torn(&self, len: usize) -> bool
         requires { len < length (held_by self.now) }
@@ -310,7 +310,7 @@ impl<D: Disk> LogReader<D> {
         ensures other { result ≡ false → IsTornAt (D.Disk.is_mixing self.now.disk) len (self.now.len - self.now.at) (slice_index self.now.block.items (self.now.from + len)) → ⊥ }
     {
         let byte = self.block[self.from + len];
-        if byte == b'\r' {
+        if byte == b'\x1e' {
             return true;
         }
         if len > 0 {
@@ -330,7 +330,7 @@ impl<D: Disk> LogReader<D> {
     }
 
     /// Returns what the unread bytes begin with. Reads more of them if those in memory don't tell.
-    fn look(&mut self, alloc: Global) -> Result<FirstLine, LogError>
+    fn peek_line(&mut self, alloc: Global) -> Result<FirstLine, LogError>
         requires usable { IsTrue (D.Disk.is_usable self.old.disk) }
         ensures usable { IsTrue (D.Disk.is_usable self.new.disk) }
         ensures clean { IsTrue (D.Disk.is_clean self.new.disk) → IsTrue (D.Disk.is_clean self.old.disk) }
@@ -339,28 +339,28 @@ impl<D: Disk> LogReader<D> {
         ensures at { self.new.at ≡ self.old.at }
         ensures count { self.new.count ≡ self.old.count }
         ensures hasher { self.new.hasher ≡ self.old.hasher }
-        ensures counted { IfErr result (λ e. (IsTrue (D.Disk.is_clean self.old.disk) → IsPartOf (D.Disk.seen self.old.disk) self.old) → HasCause (D.Disk.faults self.old.disk) (D.Disk.faults self.new.disk) e) }
+        ensures counted { IfErr result (λ e. (IsTrue (D.Disk.is_clean self.old.disk) → IsPartOf (D.Disk.seen self.old.disk) self.old) → DiskErrorIsCounted (D.Disk.faults self.old.disk) (D.Disk.faults self.new.disk) e) }
         ensures faults { OnOk result (D.Disk.faults self.new.disk ≡ D.Disk.faults self.old.disk) }
         ensures part { IsTrue (D.Disk.is_clean self.new.disk) → IsPartOf (D.Disk.seen self.old.disk) self.old → IsPartOf (D.Disk.seen self.old.disk) self.new }
         ensures tells { IfOk result (λ found. Tells self.new found) }
         ensures fault { IfErr result (λ e. IsTrue (D.Disk.is_clean self.new.disk) → IsPartOf (D.Disk.seen self.old.disk) self.old → IsLookFault (D.Disk.seen self.old.disk) self.old e) }
     {
-        if let Some(found) = self.tell() {
+        if let Some(found) = self.classify() {
             return Ok(found);
         }
         self.fill(alloc, BLOCK)?;
-        if let Some(found) = self.tell() {
+        if let Some(found) = self.classify() {
             return Ok(found);
         }
-        self.fill(alloc, LONGEST)?;
-        match self.tell() {
+        self.fill(alloc, MAX_LINE_LEN)?;
+        match self.classify() {
             Some(found) => Ok(found),
             None => Err(LogError::LineTooLong(self.count)),
         }
     }
 
     /// Returns what the unread bytes begin with, if those in memory tell.
-    fn tell(&self) -> Option<FirstLine>
+    fn classify(&self) -> Option<FirstLine>
         ensures tells { IfSome result (λ found. Tells self.now found) }
         ensures more { IfNone result (IsLineFront (held_by self.now) × (length (held_by self.now) < self.now.len - self.now.at)) }
     {
@@ -382,7 +382,7 @@ impl<D: Disk> LogReader<D> {
         ensures at { self.new.at ≡ self.old.at }
         ensures count { self.new.count ≡ self.old.count }
         ensures hasher { self.new.hasher ≡ self.old.hasher }
-        ensures counted { IfErr result (λ e. (IsTrue (D.Disk.is_clean self.old.disk) → IsPartOf (D.Disk.seen self.old.disk) self.old) → HasCause (D.Disk.faults self.old.disk) (D.Disk.faults self.new.disk) e) }
+        ensures counted { IfErr result (λ e. (IsTrue (D.Disk.is_clean self.old.disk) → IsPartOf (D.Disk.seen self.old.disk) self.old) → DiskErrorIsCounted (D.Disk.faults self.old.disk) (D.Disk.faults self.new.disk) e) }
         ensures faults { OnOk result (D.Disk.faults self.new.disk ≡ D.Disk.faults self.old.disk) }
         ensures part { IsTrue (D.Disk.is_clean self.new.disk) → IsPartOf (D.Disk.seen self.old.disk) self.old → IsPartOf (D.Disk.seen self.old.disk) self.new }
         ensures len { self.new.len ≡ self.old.len }

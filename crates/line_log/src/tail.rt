@@ -9,16 +9,16 @@ ghost use Rattle.line_log.specs.Log.{BeginsWith, IsAtRest, KeepsLines, IsShutAt}
 use crate::error::LogError;
 use sqlite_disk::Disk;
 
-/// Leaves a byte behind the lines that begins none, if there is a byte. The lines end at `end`, and `is_open` says whether a `{`
+/// Leaves a byte behind the lines that begins none, if there is a byte. The lines end at `end`, and `has_brace` says whether a `{`
 /// follows them.
-pub(crate) fn shut_tail<D: Disk>(disk: &mut D, end: usize, is_open: bool) -> Result<(), LogError>
+pub(crate) fn overwrite_brace<D: Disk>(disk: &mut D, end: usize, has_brace: bool) -> Result<(), LogError>
     requires usable { IsTrue (D.Disk.is_usable disk.old) }
     requires short { end ≤ 2 ^ 60 }
     requires durable { Only (D.Disk.seen disk.old) (D.Disk.may_leave disk.old) }
     requires end { IsTrue (D.Disk.is_clean disk.old) → end ≡ length (text_of (lines_in (D.Disk.seen disk.old))) }
-    requires within { IsTrue (D.Disk.is_clean disk.old) → IsTrue is_open → end < length (D.Disk.seen disk.old) }
-    requires brace { IsTrue (D.Disk.is_clean disk.old) → IsTrue is_open → slice_index (D.Disk.seen disk.old) end ≡ 123 }
-    requires shut { IsTrue (D.Disk.is_clean disk.old) → is_open ≡ false → IsShutAt (D.Disk.seen disk.old) end }
+    requires within { IsTrue (D.Disk.is_clean disk.old) → IsTrue has_brace → end < length (D.Disk.seen disk.old) }
+    requires brace { IsTrue (D.Disk.is_clean disk.old) → IsTrue has_brace → slice_index (D.Disk.seen disk.old) end ≡ 123 }
+    requires shut { IsTrue (D.Disk.is_clean disk.old) → has_brace ≡ false → IsShutAt (D.Disk.seen disk.old) end }
     ensures usable { OnOk result (IsTrue (D.Disk.is_usable disk.new)) }
     ensures clean { D.Disk.is_clean disk.new ≡ D.Disk.is_clean disk.old }
     ensures durable { OnOk result (Only (D.Disk.seen disk.new) (D.Disk.may_leave disk.new)) }
@@ -28,14 +28,14 @@ pub(crate) fn shut_tail<D: Disk>(disk: &mut D, end: usize, is_open: bool) -> Res
     ensures faults { OnOk result (D.Disk.faults disk.new ≡ D.Disk.faults disk.old) }
     ensures any_moment { IsTrue (D.Disk.is_clean disk.old) → (c : List ℕ) → D.Disk.may_leave disk.new c → KeepsLines D.Disk.is_mixing (D.Disk.seen disk.old) c }
 {
-    if is_open {
-        disk.write_at(end, b"\r")?;
+    if has_brace {
+        disk.write_at(end, b"\x1e")?;
         disk.sync()?;
     }
     Ok(())
 }
 
-/// Cuts off what is behind the lines, and leaves a blank there.
+/// Cuts off what is behind the lines, and leaves a filler there.
 pub(crate) fn cut_tail<D: Disk>(disk: &mut D, end: usize) -> Result<(), LogError>
     requires usable { IsTrue (D.Disk.is_usable disk.old) }
     requires short { end ≤ 2 ^ 60 }
@@ -54,7 +54,7 @@ pub(crate) fn cut_tail<D: Disk>(disk: &mut D, end: usize) -> Result<(), LogError
 {
     disk.set_len(end + 1)?;
     disk.sync()?;
-    disk.write_at(end, b"\r")?;
+    disk.write_at(end, b"\x1e")?;
     disk.sync()?;
     Ok(())
 }

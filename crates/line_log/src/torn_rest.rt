@@ -1,33 +1,33 @@
-//! May a torn write have left what follows a blank in a line?
+//! May a torn write have left what follows a filler in a line?
 
 ghost use Rattle.std.specs.Prelude.{◌≡◌, ◌≢◌, ◌⊎◌, ◌+◌, ◌-◌, ◌<◌, ◌≤◌, ℕ, false, List, drop, length, slice_index, IsTrue, IfErr, IfNone, IfOk, IfSome, OnOk};
 ghost use Rattle.line_log.specs.Damage.{IsOutside};
-ghost use Rattle.line_log.specs.Failures.{HasCause};
+ghost use Rattle.line_log.specs.Failures.{DiskErrorIsCounted};
 ghost use Rattle.line_log.specs.Tails.{IsTornRest};
 ghost use Rattle.line_log.specs.TornRestPrivate.{HasEnd, HasLineEnd, HasUsed};
 
 use crate::error::LogError;
-use crate::file::GROUP;
+use crate::file::MAX_GROUP_LEN;
 use crate::reading::{BLOCK, read_block};
 use sqlite_disk::Disk;
 use std::alloc::Global;
 
-/// What bytes of a file have: where the last one ends that isn't a blank, and where the first line ends.
+/// What bytes of a file have: where the last one ends that isn't a filler, and where the first line ends.
 #[derive(Clone, Copy, Drop)]
 pub(crate) struct Used {
     pub(crate) end: usize,
     pub(crate) line: usize,
 }
 
-/// Returns the end of the last byte that isn't a blank.
+/// Returns the end of the last byte that isn't a filler.
 fn used_len(block: &[u8]) -> usize
     ensures within { result ≤ length block.now }
-    ensures blank { (i : ℕ) → result ≤ i → i < length block.now → slice_index block.now i ≡ 13 }
+    ensures filler { (i : ℕ) → result ≤ i → i < length block.now → slice_index block.now i ≡ 13 }
     ensures last { 0 < result → slice_index block.now (result - 1) ≢ 13 }
 {
     let mut used = 0;
     'bytes: for i in 0..block.len() {
-        if block[i] != b'\r' {
+        if block[i] != b'\x1e' {
             used = i + 1;
         }
     }
@@ -48,7 +48,7 @@ fn line_end(block: &[u8]) -> Option<usize>
     None
 }
 
-/// Returns the end of the last byte that isn't a blank, with a block more.
+/// Returns the end of the last byte that isn't a filler, with a block more.
 fn next_end(end: usize, block: &[u8], at: usize, len: usize) -> usize
     requires inside { at + length block.now ≤ len }
     ensures { (file : List ℕ) (from : ℕ) → HasEnd file from at end → ((i : ℕ) → i < length block.now → slice_index file (at + i) ≡ slice_index block.now i) → HasEnd file from (at + length block.now) result }
@@ -87,7 +87,7 @@ pub(crate) fn used_from<D: Disk>(
     ensures clean { IsTrue (D.Disk.is_clean disk.new) → IsTrue (D.Disk.is_clean disk.old) }
     ensures seen { D.Disk.seen disk.new ≡ D.Disk.seen disk.old }
     ensures crash { (c : List ℕ) → D.Disk.may_leave disk.new c → D.Disk.may_leave disk.old c }
-    ensures counted { IfErr result (λ e. (IsTrue (D.Disk.is_clean disk.old) → len ≡ length (D.Disk.seen disk.old)) → HasCause (D.Disk.faults disk.old) (D.Disk.faults disk.new) e) }
+    ensures counted { IfErr result (λ e. (IsTrue (D.Disk.is_clean disk.old) → len ≡ length (D.Disk.seen disk.old)) → DiskErrorIsCounted (D.Disk.faults disk.old) (D.Disk.faults disk.new) e) }
     ensures faults { OnOk result (D.Disk.faults disk.new ≡ D.Disk.faults disk.old) }
     ensures outside { IfErr result (λ e. IsOutside e) }
     ensures used { IfOk result (λ used. IsTrue (D.Disk.is_clean disk.new) → HasUsed (D.Disk.seen disk.old) from len len used) }
@@ -106,7 +106,7 @@ pub(crate) fn used_from<D: Disk>(
 }
 
 /// Returns whether a torn write may have left what follows the front of a line at this place of a file, and the byte behind it, if that is
-/// a blank. If there is no front, it may have left anything.
+/// a filler. If there is no front, it may have left anything.
 pub(crate) fn is_torn_rest<D: Disk>(
     alloc: Global,
     disk: &mut D,
@@ -120,7 +120,7 @@ pub(crate) fn is_torn_rest<D: Disk>(
     ensures clean { IsTrue (D.Disk.is_clean disk.new) → IsTrue (D.Disk.is_clean disk.old) }
     ensures seen { D.Disk.seen disk.new ≡ D.Disk.seen disk.old }
     ensures crash { (c : List ℕ) → D.Disk.may_leave disk.new c → D.Disk.may_leave disk.old c }
-    ensures counted { IfErr result (λ e. (IsTrue (D.Disk.is_clean disk.old) → len ≡ length (D.Disk.seen disk.old)) → HasCause (D.Disk.faults disk.old) (D.Disk.faults disk.new) e) }
+    ensures counted { IfErr result (λ e. (IsTrue (D.Disk.is_clean disk.old) → len ≡ length (D.Disk.seen disk.old)) → DiskErrorIsCounted (D.Disk.faults disk.old) (D.Disk.faults disk.new) e) }
     ensures faults { OnOk result (D.Disk.faults disk.new ≡ D.Disk.faults disk.old) }
     ensures outside { IfErr result (λ e. IsOutside e) }
     ensures torn { IfOk result (λ torn. IsTrue torn → IsTrue (D.Disk.is_clean disk.new) → len ≡ length (D.Disk.seen disk.old) → 0 < front → IsTornRest (drop (at + front + 1) (D.Disk.seen disk.old))) }
@@ -131,5 +131,5 @@ pub(crate) fn is_torn_rest<D: Disk>(
     }
     let from = at + front + 1;
     let used = used_from(alloc, disk, from, len)?;
-    Ok(used.end.saturating_sub(from) <= GROUP || used.end <= used.line)
+    Ok(used.end.saturating_sub(from) <= MAX_GROUP_LEN || used.end <= used.line)
 }

@@ -1,25 +1,25 @@
 //! How are lines added to a log file, so that a crash leaves whole lines?
 
 ghost use Rattle.std.specs.Prelude.{◌≡◌, ◌+◌, ◌<◌, ◌≤◌, ◌^◌, ◌++◌, ℕ, Bool, true, false, List, length, replicate, IsTrue, IfErr, IfOk, OnOk};
-ghost use Rattle.line_log.specs.Failures.{LeavesLog, IsWriteFault};
+ghost use Rattle.line_log.specs.Failures.{LeavesLogUnchanged, IsWriteFault};
 ghost use Rattle.line_log.specs.WritingPrivate.{IsDiskFault, IsSmallText};
 ghost use Rattle.line_log.specs.Lines.{IsText, lines_in};
 ghost use Rattle.line_log.specs.Log.{IsCrashed, IsSynced, MixesIf};
 ghost use Rattle.line_log.specs.Tails.{MayEnd, tail_in};
 
 use crate::error::LogError;
-use crate::file::{LineFile, MOST};
+use crate::file::{LineFile, MAX_FILE_LEN};
 use sqlite_disk::Disk;
 use std::alloc::{AllocError, Global};
 
-/// How many blanks are written at once.
+/// How many fillers are written at once.
 const CHUNK: usize = 1 << 18;
 
-/// Returns this many blanks. The error is out of memory.
-fn blanks(alloc: Global, count: usize) -> Result<Vec<u8>, AllocError>
+/// Returns this many fillers. The error is out of memory.
+fn fillers(alloc: Global, count: usize) -> Result<Vec<u8>, AllocError>
     ensures { IfOk result (λ v. v.items ≡ replicate count 13) }
 {
-    vec![in alloc; b'\r'; count]
+    vec![in alloc; b'\x1e'; count]
 }
 
 impl<D: Disk> LineFile<D> {
@@ -38,14 +38,14 @@ impl<D: Disk> LineFile<D> {
         ensures added { OnOk result (IsTrue (D.Disk.is_clean self.old.disk) → lines_in (D.Disk.seen self.new.disk) ≡ lines_in (D.Disk.seen self.old.disk) ++ lines_in text.now) }
         ensures any_moment { IsTrue (D.Disk.is_clean self.old.disk) → (mixes : Bool) → MixesIf D.Disk.is_mixing mixes → (c : List ℕ) → D.Disk.may_leave self.new.disk c
             → IsCrashed mixes (lines_in (D.Disk.seen self.old.disk)) (lines_in (D.Disk.seen self.old.disk) ++ lines_in text.now) c }
-        ensures refused { IfErr result (λ e. LeavesLog e → self.new ≡ self.old) }
+        ensures refused { IfErr result (λ e. LeavesLogUnchanged e → self.new ≡ self.old) }
         ensures justified { IfErr result (λ e. IsWriteFault self.old.len (D.Disk.faults self.old.disk) (D.Disk.faults self.new.disk) e) }
     {
         self.make_room(alloc, text.len())?;
         self.write(text)
     }
 
-    /// Makes room for this many bytes, and a blank behind them.
+    /// Makes room for this many bytes, and a filler behind them.
     fn make_room(&mut self, alloc: Global, count: usize) -> Result<(), LogError>
         requires usable { IsTrue (D.Disk.is_usable self.old.disk) }
         requires short { count ≤ 2 ^ 23 }
@@ -57,24 +57,24 @@ impl<D: Disk> LineFile<D> {
         ensures same { OnOk result (IsTrue (D.Disk.is_clean self.old.disk) → lines_in (D.Disk.seen self.new.disk) ≡ lines_in (D.Disk.seen self.old.disk)) }
         ensures any_moment { IsTrue (D.Disk.is_clean self.old.disk) → (c : List ℕ) → D.Disk.may_leave self.new.disk c
             → (lines_in c ≡ lines_in (D.Disk.seen self.old.disk)) × MayEnd true (tail_in c) }
-        ensures refused { IfErr result (λ e. LeavesLog e → self.new ≡ self.old) }
+        ensures refused { IfErr result (λ e. LeavesLogUnchanged e → self.new ≡ self.old) }
         ensures justified { IfErr result (λ e. IsWriteFault self.old.len (D.Disk.faults self.old.disk) (D.Disk.faults self.new.disk) e) }
         ensures faults { OnOk result (D.Disk.faults self.new.disk ≡ D.Disk.faults self.old.disk) }
     {
         if count < self.len - self.end {
             return Ok(());
         }
-        if self.len > MOST {
-            return Err(LogError::TooLong);
+        if self.len > MAX_FILE_LEN {
+            return Err(LogError::FileTooLong);
         }
-        let blanks = blanks(alloc, count + CHUNK)?;
-        self.disk.write_at(self.len, &blanks)?;
+        let fillers = fillers(alloc, count + CHUNK)?;
+        self.disk.write_at(self.len, &fillers)?;
         self.disk.sync()?;
-        self.len += blanks.len();
+        self.len += fillers.len();
         Ok(())
     }
 
-    /// Writes lines over blanks, and syncs.
+    /// Writes lines over fillers, and syncs.
     fn write(&mut self, text: &[u8]) -> Result<(), LogError>
         requires usable { IsTrue (D.Disk.is_usable self.old.disk) }
         requires synced { IsTrue (D.Disk.is_clean self.old.disk) → IsSynced D.Disk.seen D.Disk.may_leave self.old }
@@ -99,7 +99,7 @@ impl<D: Disk> LineFile<D> {
         }
     }
 
-    /// Writes lines with one sync. A torn write must leave each byte blank or new. A start takes a torn write of more than 64 KiB for one
+    /// Writes lines with one sync. A torn write must leave each byte a filler or new. A start takes a torn write of more than 64 KiB for one
     /// only if it was of one line.
     fn write_at_once(&mut self, text: &[u8]) -> Result<(), LogError>
         requires usable { IsTrue (D.Disk.is_usable self.old.disk) }

@@ -34,7 +34,7 @@ fn opens(alloc: Global, lines: &[u8]) -> Result<bool, AllocError> {
 fn is_refused(alloc: Global, lines: &[u8], right: usize) -> Result<bool, AllocError> {
     let mut file = Vec::new(alloc);
     file.extend_from_slice(lines)?;
-    file.extend_from_slice(b"\r\r\r")?;
+    file.extend_from_slice(b"\x1e\x1e\x1e")?;
     let outcome = open_log(alloc, TornDisk::new(alloc, &file, true)?);
     let Err((error, disk)) = outcome else {
         return Ok(false);
@@ -123,7 +123,7 @@ fn missing_and_moved_lines_are_found(rt: HostRuntime) -> Result<(), Fail> {
 
 #[test]
 fn damage_that_was_not_read_is_not_cut_off(rt: HostRuntime) -> Result<(), Fail> {
-    let file: &[u8] = b"{\"n\":\x01}\n{\"n\":2}\n\r\r";
+    let file: &[u8] = b"{\"n\":\x01}\n{\"n\":2}\n\x1e\x1e";
     let Ok(reader) = LogReader::new(rt.alloc(), TornDisk::new(rt.alloc(), file, true)?) else {
         return Err(Fail::from("the file is not read"));
     };
@@ -174,7 +174,7 @@ fn count_lines(alloc: Global, file: &[u8]) -> Result<Option<usize>, AllocError> 
 }
 
 #[test]
-fn a_bit_that_makes_a_blank_is_found_before_64_kib_of_lines(rt: HostRuntime) -> Result<(), Fail> {
+fn a_bit_that_makes_a_filler_is_found_before_64_kib_of_lines(rt: HostRuntime) -> Result<(), Fail> {
     let mut file = long_file(rt.alloc())?;
     flip(&mut file, 3, 32);
     holds(
@@ -194,7 +194,7 @@ fn a_bit_that_makes_a_blank_is_found_before_64_kib_of_lines(rt: HostRuntime) -> 
 
 #[test]
 fn the_bytes_that_are_cut_off_are_counted(rt: HostRuntime) -> Result<(), Fail> {
-    let file: &[u8] = b"{\"n\":1\r\r\r";
+    let file: &[u8] = b"{\"n\":1\x1e\x1e\x1e";
     let Ok(reader) = LogReader::new(rt.alloc(), TornDisk::new(rt.alloc(), file, true)?) else {
         return Err(Fail::from("the file is not read"));
     };
@@ -204,8 +204,8 @@ fn the_bytes_that_are_cut_off_are_counted(rt: HostRuntime) -> Result<(), Fail> {
     holds(&rt, cut == 6, "six bytes are cut off");
     holds(
         &rt,
-        log.file.disk.bytes() == [b'\r'].as_slice(),
-        "one blank is left",
+        log.file.disk.bytes() == [b'\x1e'].as_slice(),
+        "one filler is left",
     );
     Ok(())
 }

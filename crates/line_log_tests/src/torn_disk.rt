@@ -9,7 +9,7 @@ use sqlite_disk::{Disk, Tally, digest_of};
 use std::alloc::{AllocError, Global};
 use std::io;
 
-/// How many bytes of a file a crash may mix. Those behind them are blanks.
+/// How many bytes of a file a crash may mix. Those behind them are fillers.
 const MIXED: usize = 600;
 
 /// What a torn write may leave besides old and new bytes.

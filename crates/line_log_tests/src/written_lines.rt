@@ -18,7 +18,7 @@ const FILE: &[u8] =
 const TEXT: &[u8] = b"{\"log\":\"regd 1\"}\n{\"n\":1}\n{\"n\":2}\n";
 
 /// Returns whether lines are refused as too much, without a change of the log.
-fn is_too_much<D: Disk>(alloc: Global, log: &mut LineLog<D>, text: &[u8]) -> bool
+fn is_too_long<D: Disk>(alloc: Global, log: &mut LineLog<D>, text: &[u8]) -> bool
     requires usable { IsTrue (D.Disk.is_usable log.old.file.disk) }
     requires synced { IsTrue (D.Disk.is_clean log.old.file.disk) → IsSynced D.Disk.seen D.Disk.may_leave log.old.file }
     ensures { IsTrue result → log.new ≡ log.old }
@@ -27,7 +27,7 @@ fn is_too_much<D: Disk>(alloc: Global, log: &mut LineLog<D>, text: &[u8]) -> boo
         return false;
     }
     match log.append(alloc, text) {
-        Err(LogError::TooMuch) => true,
+        Err(LogError::TextTooLong) => true,
         _ => false,
     }
 }
@@ -42,7 +42,7 @@ fn lines_of_more_than_64_kib_are_refused(rt: HostRuntime) -> Result<(), Fail> {
     let Ok((mut log, _)) = open_log(rt.alloc(), disk) else {
         return Err(Fail::from("no log"));
     };
-    if !is_too_much(rt.alloc(), &mut log, &long) {
+    if !is_too_long(rt.alloc(), &mut log, &long) {
         return Err(Fail::from("lines of 64 KiB and a byte are added"));
     }
     long.truncate((1 << 16) - 67);
@@ -69,14 +69,14 @@ fn each_line_has_the_hash_of_all_lines_up_to_it(rt: HostRuntime) -> Result<(), F
         return Err(Fail::from("a line is not added"));
     }
     let bytes = log.file.disk.bytes();
-    let Some(blanks) = bytes.get(FILE.len()..) else {
+    let Some(fillers) = bytes.get(FILE.len()..) else {
         return Err(Fail::from("the file is too short"));
     };
     holds(&rt, bytes.starts_with(FILE), "the lines with their hashes");
     holds(
         &rt,
-        blanks.iter().all(|byte| *byte == b'\r'),
-        "blanks behind the lines",
+        fillers.iter().all(|byte| *byte == b'\x1e'),
+        "fillers behind the lines",
     );
     let disk = TornDisk::new(rt.alloc(), bytes, true)?;
     let Ok((_, text)) = open_log(rt.alloc(), disk) else {

@@ -1,7 +1,7 @@
 use Rattle.std.proofs.Common.{rules, ◌≡◌, ◌++◌, ◌∷◌, [], ℕ, List, sym, ◌∙◌, ap, subst, append_assoc}
 use Rattle.std.specs.Prelude.{IsTrue}
 use Rattle.line_log.specs.Damage.{JustifiesError}
-use Rattle.line_log.specs.Failures.{HasCause}
+use Rattle.line_log.specs.Failures.{DiskErrorIsCounted}
 use Rattle.line_log.specs.Reading.{HasReadLines}
 use Rattle.line_log.specs.declared.error.LogError.{LogError}
 use Rattle.line_log.proofs.ReadLemmas.{of_error}
@@ -34,9 +34,9 @@ returns-in_err-next_line-clause-counted g c =
     let file = g.D.Disk.seen c.args.reader.now.disk in
     let i = c.lines.invariant in
     of_error c.from_residual.result
-    (λ (e : LogError). (IsTrue (g.D.Disk.is_clean c.args.reader.now.disk) → HasReadLines file c.args.reader.now []) → HasCause (g.D.Disk.faults c.args.reader.now.disk) (g.D.Disk.faults c.next_line.new.self.disk) e)
+    (λ (e : LogError). (IsTrue (g.D.Disk.is_clean c.args.reader.now.disk) → HasReadLines file c.args.reader.now []) → DiskErrorIsCounted (g.D.Disk.faults c.args.reader.now.disk) (g.D.Disk.faults c.next_line.new.self.disk) e)
     c.in_err-next_line.field-0.0 c.from_residual.ensures.1
-    (λ start. subst (λ (n : ℕ). HasCause n (g.D.Disk.faults c.next_line.new.self.disk) c.in_err-next_line.field-0.0) i.faults
+    (λ start. subst (λ (n : ℕ). DiskErrorIsCounted n (g.D.Disk.faults c.next_line.new.self.disk) c.in_err-next_line.field-0.0) i.faults
     (c.in_err-next_line.ensures.counted (λ clean.
     let (lines, has, is) = i.read clean (start (i.clean clean)) in
     (lines, subst (λ (f : List ℕ). HasReadLines f c.lines.reader lines) (sym i.seen) has))))

@@ -1,7 +1,7 @@
 use Rattle.std.proofs.Common.{◌+◌, List, ℕ, ◌∙◌, ap, subst, arith}
 use Rattle.sqlite_disk.specs.Disk.{Torn, Cut}
 use Rattle.line_log.specs.Lines.{lines_in}
-use Rattle.line_log.proofs.RecoverLemmas.{kept_cut, kept_last, blank_last, blank_rest}
+use Rattle.line_log.proofs.RecoverLemmas.{kept_cut, kept_last, filler_last, filler_rest}
 use Rattle.line_log.proofs.tail.cut_tail.Goals as goal
 
 pub returns-in_err-set_len-clause-any_moment : goal.returns-in_err-set_len-clause-any_moment
@@ -49,7 +49,7 @@ returns-clause-rest g c clean =
     let m = g.D.Disk.seen c.set_len.new.self in
     let front = c.requires.front clean in
     let torn = subst (λ (d : List ℕ). Torn c.args.end 1 d (g.D.Disk.seen c.write_at.new.self)) c.sync.ensures.seen c.write_at.ensures.others in
-    let done = blank_rest f m (g.D.Disk.seen c.write_at.new.self) c.args.end front c.in_ok-set_len.ensures.len (λ i low. c.set_len.ensures.others.below i (omega (arith, front.within)) (omega arith)) torn (c.in_ok-write_at.ensures.written (omega arith)) in
+    let done = filler_rest f m (g.D.Disk.seen c.write_at.new.self) c.args.end front c.in_ok-set_len.ensures.len (λ i low. c.set_len.ensures.others.below i (omega (arith, front.within)) (omega arith)) torn (c.in_ok-write_at.ensures.written (omega arith)) in
     rw c.sync-2.ensures.seen (done.0)
 
 pub returns-clause-same : goal.returns-clause-same
@@ -58,5 +58,5 @@ returns-clause-same g c clean =
     let m = g.D.Disk.seen c.set_len.new.self in
     let front = c.requires.front clean in
     let torn = subst (λ (d : List ℕ). Torn c.args.end 1 d (g.D.Disk.seen c.write_at.new.self)) c.sync.ensures.seen c.write_at.ensures.others in
-    let same = blank_last f m (g.D.Disk.seen c.write_at.new.self) c.args.end front c.in_ok-set_len.ensures.len (λ i low. c.set_len.ensures.others.below i (omega (arith, front.within)) (omega arith)) torn in
+    let same = filler_last f m (g.D.Disk.seen c.write_at.new.self) c.args.end front c.in_ok-set_len.ensures.len (λ i low. c.set_len.ensures.others.below i (omega (arith, front.within)) (omega arith)) torn in
     ap lines_in c.sync-2.ensures.seen ∙ same

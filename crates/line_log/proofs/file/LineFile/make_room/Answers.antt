@@ -38,12 +38,12 @@ returns-clause-synced g c clean =
     let f = g.D.Disk.seen c.args.self.now.disk in
     let n = g.D.Disk.seen c.write_at.new.self in
     let b = c.deref.result.now in
-    let b_is = c.deref.ensures.value ∙ c.in_ok-blanks.ensures in
-    let long : length b ≡ c.args.count + 262144 = ap length b_is ∙ length-replicate {A = ℕ} (c.args.count + 262144) 13 in
+    let b_is = c.deref.ensures.value ∙ c.in_ok-fillers.ensures in
+    let long : length b ≡ c.args.count + 262144 = ap length b_is ∙ length-replicate {A = ℕ} (c.args.count + 262144) 30 in
     let torn = subst (λ (k : ℕ). Torn k (length b) f n) s.len c.write_at.ensures.others in
     let holds = subst (λ (k : ℕ). Holds n k b) s.len (c.in_ok-write_at.ensures.written (omega (arith, long))) in
     let done = rest_with_room f c.args.self.now.end s.rest b n (omega (arith, c.args.self.now.room, s.len)) torn holds
-    (λ i low. ap (λ (l : List ℕ). slice_index l i) b_is ∙ get_or-replicate (c.args.count + 262144) i 13 0 (omega (arith, low, long))) in
+    (λ i low. ap (λ (l : List ℕ). slice_index l i) b_is ∙ get_or-replicate (c.args.count + 262144) i 30 0 (omega (arith, low, long))) in
     record {
       rest = rw c.sync.ensures.seen (done.0);
       len = rw c.sync.ensures.seen (omega (arith, s.len, done.1, c.len.ensures, ap length c.deref.ensures.value));
@@ -55,12 +55,12 @@ returns-then-count-self-clause-any_moment g c clean left may =
     let s = c.requires.synced clean in
     at_rest (g.D.Disk.seen c.args.self.now.disk) c.args.self.now.end s.rest left (omega (arith, c.args.self.now.room, s.len)) (s.durable left may)
 
-pub returns-then-self-gt-MOST-clause-any_moment : goal.returns-then-self-gt-MOST-clause-any_moment
-returns-then-self-gt-MOST-clause-any_moment g c clean left may =
+pub returns-then-self-gt-MAX_FILE_LEN-clause-any_moment : goal.returns-then-self-gt-MAX_FILE_LEN-clause-any_moment
+returns-then-self-gt-MAX_FILE_LEN-clause-any_moment g c clean left may =
     let s = c.requires.synced clean in
     at_rest (g.D.Disk.seen c.args.self.now.disk) c.args.self.now.end s.rest left (omega (arith, c.args.self.now.room, s.len)) (s.durable left may)
 
-pub returns-in_err-blanks-clause-any_moment : goal.returns-in_err-blanks-clause-any_moment
-returns-in_err-blanks-clause-any_moment g c clean left may =
+pub returns-in_err-fillers-clause-any_moment : goal.returns-in_err-fillers-clause-any_moment
+returns-in_err-fillers-clause-any_moment g c clean left may =
     let s = c.requires.synced clean in
     at_rest (g.D.Disk.seen c.args.self.now.disk) c.args.self.now.end s.rest left (omega (arith, c.args.self.now.room, s.len)) (s.durable left may)

@@ -9,7 +9,7 @@ use Rattle.line_log.specs.declared.error.LogError.{LogError}
 use Rattle.line_log.specs.declared.error.LogError.TheVariants.{NoMemory}
 use Rattle.line_log.proofs.HashLemmas.{text_more}
 use Rattle.line_log.proofs.ReadLemmas.{of_error, rest_whole, rest_tail, more_at, more_read, part_past, part_within}
-use Rattle.line_log.proofs.reader.LogReader.take.Goals as goal
+use Rattle.line_log.proofs.reader.LogReader.accept_line.Goals as goal
 
 pub returns-clause-taken : goal.returns-clause-taken
 returns-clause-taken g c lines file read =

@@ -2,7 +2,7 @@ use Rattle.std.proofs.Common.{◌≡◌, ◌-◌, ℕ, List, length, drop, min, 
 use Rattle.line_log.specs.Damage.{IsLongLine}
 use Rattle.line_log.specs.Reading.{IsPartOf, held_by}
 use Rattle.line_log.proofs.ReadLemmas.{long_line}
-use Rattle.line_log.proofs.reader.LogReader.look.Goals as goal
+use Rattle.line_log.proofs.reader.LogReader.peek_line.Goals as goal
 
 pub returns-in-None-clause-fault : goal.returns-in-None-clause-fault
 returns-in-None-clause-fault g c clean part =
