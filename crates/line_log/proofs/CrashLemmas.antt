@@ -1,5 +1,5 @@
 -- What a crash leaves of a file of lines.
-use Rattle.std.proofs.Common.{◌≡◌, ◌⊎◌, inl, inr, true, false, ℕ, suc, ◌+◌, ◌-◌, ◌<◌, ◌≤◌, List, [], ◌∷◌, ◌++◌, length, drop, refl, sym, ◌∙◌, ap, subst, arith, append_assoc, length-append, length-drop}
+use Rattle.std.proofs.Common.{◌≡◌, ◌⊎◌, inl, inr, true, false, ℕ, suc, ◌+◌, ◌-◌, ◌^◌, ◌<◌, ◌≤◌, List, [], ◌∷◌, ◌++◌, length, drop, refl, sym, ◌∙◌, ap, subst, arith, append_assoc, length-append, length-drop}
 use Rattle.std.proofs.lemmas.List.{append-nil, get_or_append_left, get_or-append_right, get_or-drop}
 use Rattle.std.proofs.lemmas.Bool.{cases_eq, cases_lt}
 use Rattle.std.specs.Prelude.{◌≢◌, slice_index}
@@ -47,18 +47,18 @@ module _ (ls : List (List ℕ)) (all : AllByRecursion IsLogLine ls) (end : ℕ) 
       ap tail_in whole ∙ past_text ls (drop (length (text_of ls)) c) all ∙ ap (λ (n : ℕ). tail_in (drop n c)) (sym is)
 
   -- a filler behind a text
-  pub filler_end : (c : List ℕ) → end ≤ length c → ((i : ℕ) → i < end → slice_index c i ≡ slice_index (text_of ls) i) → (end < length c → slice_index c end ≡ 30) → MayEnd true (tail_in c)
-  filler_end c within same filler =
+  pub filler_end : (c : List ℕ) → end ≤ length c → length c ≤ end + (2 ^ 24 + 2 ^ 18) → ((i : ℕ) → i < end → slice_index c i ≡ slice_index (text_of ls) i) → (end < length c → slice_index c end ≡ 30) → MayEnd true (tail_in c)
+  filler_end c within short same filler =
       let zero_more : end + 0 ≡ end = omega arith in
       subst (MayEnd true) (sym (after_tail c within same))
-      (filler_first (drop end c) (λ (some : 0 < length (drop end c)). get_or-drop end c 0 0 ∙ ap (slice_index c) zero_more ∙ filler (omega (arith, some, length-drop end c))))
+      (filler_first (drop end c) (omega (arith, short, length-drop end c)) (λ (some : 0 < length (drop end c)). get_or-drop end c 0 0 ∙ ap (slice_index c) zero_more ∙ filler (omega (arith, some, length-drop end c))))
 
   -- any byte but a gate behind a text
-  pub shut_end : (c : List ℕ) → end ≤ length c → ((i : ℕ) → i < end → slice_index c i ≡ slice_index (text_of ls) i) → slice_index c end ≢ 123 → MayEnd false (tail_in c)
-  shut_end c within same other =
+  pub shut_end : (c : List ℕ) → end ≤ length c → length c ≤ end + (2 ^ 24 + 2 ^ 18) → ((i : ℕ) → i < end → slice_index c i ≡ slice_index (text_of ls) i) → slice_index c end ≢ 123 → MayEnd false (tail_in c)
+  shut_end c within short same other =
       let zero_more : end + 0 ≡ end = omega arith in
       let head : slice_index (drop end c) 0 ≡ slice_index c end = get_or-drop end c 0 0 ∙ ap (slice_index c) zero_more in
-      subst (MayEnd false) (sym (after_tail c within same)) (any_first (drop end c) (λ (e : slice_index (drop end c) 0 ≡ 123). other (sym head ∙ e)))
+      subst (MayEnd false) (sym (after_tail c within same)) (any_first (drop end c) (omega (arith, short, length-drop end c)) (λ (e : slice_index (drop end c) 0 ≡ 123). other (sym head ∙ e)))
 
   -- a gate that is shut behind a text
   pub kept : (c : List ℕ) → HasText c ls end → lines_in c ≡ ls
@@ -117,19 +117,19 @@ module _ (ls : List (List ℕ)) (all : AllByRecursion IsLogLine ls) (end : ℕ) 
       }
 
   -- each byte of the text is there or a filler, a filler is behind it, and these are the bytes of a torn write
-  pub faded_end : (c : List ℕ) → end + length g < length c → ((i : ℕ) → i < end → slice_index c i ≡ slice_index (text_of ls) i)
+  pub faded_end : (c : List ℕ) → length g ≤ 2 ^ 23 → end + length g < length c → length c ≤ end + (2 ^ 24 + 2 ^ 18) → ((i : ℕ) → i < end → slice_index c i ≡ slice_index (text_of ls) i)
       → ((i : ℕ) → i < length g → (slice_index c (end + i) ≡ 30) ⊎ (slice_index c (end + i) ≡ slice_index g i)) → slice_index c (end + length g) ≡ 30 → IsTornRest (drop end c) → MayEnd true (tail_in c)
-  faded_end c within same each filler torn =
+  faded_end c few within short same each filler torn =
       let d = drop end c in
       let faded : IsFadedText g d = faded_text_at g d (omega (arith, length-drop end c))
       (λ i low. elim (each i low) [ inl old ↦ inl (get_or-drop end c i 0 ∙ old) | inr new ↦ inr (get_or-drop end c i 0 ∙ new) ])
       (get_or-drop end c (length g) 0 ∙ filler) in
-      subst (MayEnd true) (sym (after_tail ls all end is c (omega arith) same)) (torn_tail d torn (faded_tail gs d more (subst (λ (t : List ℕ). IsFadedText t d) (sym g_is) faded)))
+      subst (MayEnd true) (sym (after_tail ls all end is c (omega arith) same)) (torn_tail d (omega (arith, short, length-drop end c)) torn (faded_tail gs d (omega (arith, few, ap length g_is)) more (subst (λ (t : List ℕ). IsFadedText t d) (sym g_is) faded)))
 
   -- all of the text is there but the gate, which has any byte, and a filler is behind it
-  pub gate_after : (c : List ℕ) → 0 < length g → end + length g < length c → ((i : ℕ) → i < end → slice_index c i ≡ slice_index (text_of ls) i)
+  pub gate_after : (c : List ℕ) → 0 < length g → end + length g < length c → length c ≤ end + (2 ^ 24 + 2 ^ 18) → ((i : ℕ) → i < end → slice_index c i ≡ slice_index (text_of ls) i)
       → ((i : ℕ) → 0 < i → i < length g → slice_index c (end + i) ≡ slice_index g i) → slice_index c (end + length g) ≡ 30 → IsCrashed false ls (ls ++ gs) c
-  gate_after c some within same each filler = elim (cases_eq (slice_index c end) 123) [
+  gate_after c some within short same each filler = elim (cases_eq (slice_index c end) 123) [
     | inl open_gate ↦
         let gate : slice_index g 0 ≡ 123 = ap (λ (t : List ℕ). slice_index t 0) (sym g_is) ∙ text_gate gs more (omega (arith, ap length g_is)) in
         let added : (i : ℕ) → i < length g → slice_index c (end + i) ≡ slice_index g i = λ i low. elim (cases_eq i 0) [
@@ -142,11 +142,11 @@ module _ (ls : List (List ℕ)) (all : AllByRecursion IsLogLine ls) (end : ℕ) 
         let both = has_both c within same added no_gate in
         record {
           lines = between_new c (kept (ls ++ gs) (all_append ls gs all more) (end + length g) joined_length c both);
-          end = any_disk false (tail_in c) (filler_end (ls ++ gs) (all_append ls gs all more) (end + length g) joined_length c (omega arith) both.same (λ (some : end + length g < length c). filler));
+          end = any_disk false (tail_in c) (filler_end (ls ++ gs) (all_append ls gs all more) (end + length g) joined_length c (omega arith) (omega (arith, short)) both.same (λ (some : end + length g < length c). filler));
         }
     | inr shut_gate ↦ record {
       lines = between_old c (kept ls all end is c (record { within = omega arith; same = same; other = shut_gate }));
-      end = shut_end ls all end is c (omega arith) same shut_gate;
+      end = shut_end ls all end is c (omega arith) short same shut_gate;
     }
   ]
 

@@ -1,5 +1,5 @@
 -- What a reader of a log has read.
-use Rattle.std.proofs.Common.{◌≡◌, inl, inr, Bool, Result, Ok, Err, ℕ, ◌+◌, ◌-◌, ◌<◌, ◌≤◌, min, List, [], ◌∷◌, ◌++◌, length, take, drop, refl, sym, ◌∙◌, ap, subst, arith, append_assoc, length-append, length-drop}
+use Rattle.std.proofs.Common.{◌≡◌, inl, inr, Bool, Result, Ok, Err, ℕ, ◌+◌, ◌-◌, ◌^◌, ◌<◌, ◌≤◌, min, List, [], ◌∷◌, ◌++◌, length, take, drop, refl, sym, ◌∙◌, ap, subst, arith, append_assoc, length-append, length-drop}
 use Rattle.std.proofs.lemmas.List.{append-nil, get_or-drop, drop-drop, drop-append-le, length-take-le, take_at}
 use Rattle.std.proofs.lemmas.Bool.{cases_eq}
 use Rattle.std.specs.Prelude.{◌≢◌, slice_index, IfErr, IsErrAnd}
@@ -12,7 +12,7 @@ use Rattle.line_log.specs.Reading.{IsPartOf, HasReadLines, held_by}
 use Rattle.line_log.specs.ReadingPrivate.{BeginsAs, IsBreak, IsLookFault, IsNextFault, IsPastFault, IsTornAt, Tells}
 use Rattle.line_log.specs.WritingPrivate.{IsDiskFault}
 use Rattle.line_log.specs.Damage.{HasWrongEnd, JustifiesError, JustifiesFinish, IsLongLine, IsOutside}
-use Rattle.line_log.specs.Tails.{tail_in, unbroken, broken_by, shut_by, IsTornRest, MayEnd}
+use Rattle.line_log.specs.Tails.{tail_in, unbroken, broken_by, shut_by, IsTornRest, IsTornEnd, MayEnd}
 use Rattle.line_log.specs.declared.error.LogError.{LogError}
 use Rattle.line_log.specs.declared.error.LogError.TheVariants.{NoMemory, Disk, FileTooLong, TextTooLong, LineTooLong, Damaged, Unread}
 use Rattle.line_log.specs.declared.reader.LogReader.{LogReader}
@@ -66,46 +66,67 @@ module _ (file held : List ℕ) (at : ℕ) (within : at + length held ≤ length
     more_long first =
         omega (arith, first, low, within, len_is, length-append (drop (n + 1) held) (drop (length held) (drop at file)), length-drop (n + 1) held, length-drop (length held) (drop at file), length-drop at file)
 
-    broken : 0 < n → tail_in (drop at file) ≡ broken_by (slice_index held n) (drop (at + (n + 1)) file)
+    broken : 0 < n → tail_in (drop at file) ≡ broken_by n (slice_index held n) (drop (at + (n + 1)) file)
     broken some =
         ap tail_in held_first ∙ tail_broken held (drop (length held) (drop at file)) n low front other (omega (arith, some, long))
-        ∙ ap (broken_by (slice_index held n)) (rest_after n low)
+        ∙ ap (λ (k : ℕ). broken_by k (slice_index held n) (drop (n + 1) held ++ drop (length held) (drop at file))) long ∙ ap (broken_by n (slice_index held n)) (rest_after n low)
 
     shut : n ≡ 0 → tail_in (drop at file) ≡ shut_by (slice_index held n) (drop (n + 1) held ++ drop (length held) (drop at file))
     shut first = ap tail_in held_first ∙ tail_shut held (drop (length held) (drop at file)) n low front other (long ∙ first)
 
-    pub torn_may : IsTornAt mixes n (len - at) (slice_index held n) → (0 < n → IsTornRest (drop (at + (n + 1)) file)) → MayEnd mixes (tail_in (drop at file))
-    torn_may torn rest = elim (cases_eq n 0) [
+    rest_long : n + 1 + length (drop (at + (n + 1)) file) ≡ len - at
+    rest_long = omega (arith, low, within, len_is, length-drop (at + (n + 1)) file)
+
+    -- as many bytes follow the lines as were not read
+    pub torn_few : MayEnd mixes (tail_in (drop at file)) → len - at ≤ 2 ^ 24 + 2 ^ 18
+    torn_few may = elim (cases_eq n 0) [
       | inl first ↦
-          let shut_may : MayEnd mixes (shut_by (slice_index held n) (drop (n + 1) held ++ drop (length held) (drop at file))) = elim torn [
+          let few : 1 + length (drop (n + 1) held ++ drop (length held) (drop at file)) ≤ 2 ^ 24 + 2 ^ 18 = (subst (MayEnd mixes) (shut first) may).0 in
+          omega (arith, few, more_long first)
+      | inr later ↦
+          let few : n + 1 + length (drop (at + (n + 1)) file) ≤ 2 ^ 24 + 2 ^ 18 = (subst (MayEnd mixes) (broken (omega arith)) may).0 in
+          omega (arith, few, rest_long)
+    ]
+
+    -- the front is that of a line
+    pub torn_front : MayEnd mixes (tail_in (drop at file)) → n < 2 ^ 23
+    torn_front may = elim (cases_eq n 0) [
+      | inl first ↦ omega (arith, first)
+      | inr later ↦ (subst (MayEnd mixes) (broken (omega arith)) may).1.0
+    ]
+
+    pub torn_may : n < 2 ^ 23 → len - at ≤ 2 ^ 24 + 2 ^ 18 → IsTornAt mixes n (len - at) (slice_index held n) → (0 < n → IsTornRest (drop (at + (n + 1)) file)) → MayEnd mixes (tail_in (drop at file))
+    torn_may front_short few torn rest = elim (cases_eq n 0) [
+      | inl first ↦
+          let shut_may : IsTornEnd mixes (shut_by (slice_index held n) (drop (n + 1) held ++ drop (length held) (drop at file))) = elim torn [
             | inl filler ↦ inl filler
             | inr gate ↦ elim (gate.1) [
               | inl dis ↦ inr (inl dis)
               | inr one ↦ inr (inr (no_bytes (drop (n + 1) held ++ drop (length held) (drop at file)) (omega (arith, one, more_long first))))
             ]
           ] in
-          subst (MayEnd mixes) (sym (shut first)) shut_may
+          subst (MayEnd mixes) (sym (shut first)) (omega (arith, few, more_long first), shut_may)
       | inr later ↦
           let filler : slice_index held n ≡ 30 = elim torn [ inl is ↦ is | inr gate ↦ absurd (later gate.0) ] in
-          subst (MayEnd mixes) (sym (broken (omega arith))) (filler, rest (omega arith))
+          subst (MayEnd mixes) (sym (broken (omega arith))) (omega (arith, few, rest_long), front_short, filler, rest (omega arith))
     ]
 
     pub torn_only : MayEnd mixes (tail_in (drop at file)) → IsTornAt mixes n (len - at) (slice_index held n)
     torn_only may = elim (cases_eq n 0) [
       | inl first ↦
           let shut_may : MayEnd mixes (shut_by (slice_index held n) (drop (n + 1) held ++ drop (length held) (drop at file))) = subst (MayEnd mixes) (shut first) may in
-          elim shut_may [
+          elim (shut_may.1) [
             | inl filler ↦ inl filler
             | inr gate ↦ elim gate [
               | inl dis ↦ inr (first, inl dis)
               | inr none ↦ inr (first, inr (omega (arith, ap length none, more_long first)))
             ]
           ]
-      | inr later ↦ inl ((subst (MayEnd mixes) (broken (omega arith)) may).0)
+      | inr later ↦ inl ((subst (MayEnd mixes) (broken (omega arith)) may).1.1.0)
     ]
 
     pub torn_rest : 0 < n → MayEnd mixes (tail_in (drop at file)) → IsTornRest (drop (at + (n + 1)) file)
-    torn_rest some may = (subst (MayEnd mixes) (broken some) may).1
+    torn_rest some may = (subst (MayEnd mixes) (broken some) may).1.1.1
 
 -- one more line was read
 module _ (file : List ℕ) (lines : List (List ℕ)) (line : List ℕ) (n at : ℕ) (found rest : List ℕ) (is : found ≡ hashed_line (text_of lines) line) (long : length found ≡ n) (at_is : at ≡ length (text_of (hashed lines))) where
@@ -149,24 +170,29 @@ module _ {D : Type 0} {d : Ghosts D} (file : List ℕ) (r : LogReader D d) (part
   pub end_part : (mixes : Bool) → Tells r Part → r.len - r.at ≤ 1 → MayEnd mixes (tail_in (drop r.at file))
   end_part mixes tells short =
       let few : length (held_by r) ≤ 1 = omega (arith, short, tells.whole refl) in
-      subst (MayEnd mixes) (sym (part_end tells)) few
+      subst (MayEnd mixes) (sym (part_end tells)) (omega (arith, few), few)
 
   pub part_wrong : (mixes : Bool) → Tells r Part → 1 < r.len - r.at → MayEnd mixes (tail_in (drop r.at file)) → ⊥
   part_wrong mixes tells long may =
-      let few : length (held_by r) ≤ 1 = subst (MayEnd mixes) (part_end tells) may in
+      let few : length (held_by r) ≤ 1 = (subst (MayEnd mixes) (part_end tells) may).1 in
       omega (arith, long, few, tells.whole refl)
 
   read_byte : (n : ℕ) → slice_index (held_by r) n ≡ slice_index r.block.items (r.from + n)
   read_byte n = get_or-drop r.from r.block.items n 0
 
-  pub end_torn : (mixes : Bool) (n : ℕ) → Tells r (Broken n) → IsTornAt mixes n (r.len - r.at) (slice_index r.block.items (r.from + n)) → (0 < n → IsTornRest (drop (r.at + (n + 1)) file)) → MayEnd mixes (tail_in (drop r.at file))
-  end_torn mixes n tells torn rest =
-      torn_may file (held_by r) r.at part_within part.each n tells.begins.0 tells.begins.1 tells.begins.2 mixes r.len part.len
+  pub end_torn : (mixes : Bool) (n : ℕ) → Tells r (Broken n) → n < 2 ^ 23 → r.len - r.at ≤ 2 ^ 24 + 2 ^ 18 → IsTornAt mixes n (r.len - r.at) (slice_index r.block.items (r.from + n)) → (0 < n → IsTornRest (drop (r.at + (n + 1)) file)) → MayEnd mixes (tail_in (drop r.at file))
+  end_torn mixes n tells front_short few torn rest =
+      torn_may file (held_by r) r.at part_within part.each n tells.begins.0 tells.begins.1 tells.begins.2 mixes r.len part.len front_short few
       (subst (IsTornAt mixes n (r.len - r.at)) (sym (read_byte n)) torn) rest
 
   pub end_wrong : (mixes : Bool) (n : ℕ) → Tells r (Broken n) → (IsTornAt mixes n (r.len - r.at) (slice_index r.block.items (r.from + n)) → ⊥) → MayEnd mixes (tail_in (drop r.at file)) → ⊥
   end_wrong mixes n tells other may =
       other (subst (IsTornAt mixes n (r.len - r.at)) (read_byte n) (torn_only file (held_by r) r.at part_within part.each n tells.begins.0 tells.begins.1 tells.begins.2 mixes r.len part.len may))
+
+  pub long_wrong : (mixes : Bool) (n : ℕ) → Tells r (Broken n) → (n < 2 ^ 23 → r.len - r.at ≤ 2 ^ 24 + 2 ^ 18 → ⊥) → MayEnd mixes (tail_in (drop r.at file)) → ⊥
+  long_wrong mixes n tells other may =
+      other (torn_front file (held_by r) r.at part_within part.each n tells.begins.0 tells.begins.1 tells.begins.2 mixes r.len part.len may)
+      (torn_few file (held_by r) r.at part_within part.each n tells.begins.0 tells.begins.1 tells.begins.2 mixes r.len part.len may)
 
   pub rest_wrong : (mixes : Bool) (n : ℕ) → Tells r (Broken n) → 0 < n → (IsTornRest (drop (r.at + (n + 1)) file) → ⊥) → MayEnd mixes (tail_in (drop r.at file)) → ⊥
   rest_wrong mixes n tells some other may =

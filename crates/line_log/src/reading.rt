@@ -14,7 +14,7 @@ ghost use Rattle.line_log.specs.TornRestPrivate.{HasEnd};
 ghost use Rattle.line_log.specs.declared.first_line.FirstLine.TheVariants.{Whole};
 
 use crate::error::LogError;
-use crate::file::{MAX_LINE_LEN, LineFile, MAX_FILE_LEN};
+use crate::file::{LineFile, MAX_FILE_LEN, MAX_LINE_LEN, MAX_REST_LEN};
 use crate::first_line::{FirstLine, first_line};
 use crate::hashing::take_line;
 use crate::log::LineLog;
@@ -270,6 +270,9 @@ impl<D: Disk> LogReader<D> {
                 Ok(None)
             }
             FirstLine::Broken(front) => {
+                if !self.is_short(front) {
+                    return Err(LogError::Damaged(self.count));
+                }
                 if !is_torn_rest(alloc, &mut self.disk, self.at, front, self.len)? {
                     return Err(LogError::Damaged(self.count));
                 }
@@ -300,6 +303,14 @@ impl<D: Disk> LogReader<D> {
         self.at += len + 1;
         self.count += 1;
         Ok(())
+    }
+
+    /// Returns whether a crash may have left a front of this length behind the lines, and as much behind it.
+    fn is_short(&self, len: usize) -> bool
+        ensures short { IsTrue result → (len < 2 ^ 23) × (self.now.len - self.now.at ≤ 2 ^ 24 + 2 ^ 18) }
+        ensures other { result ≡ false → len < 2 ^ 23 → self.now.len - self.now.at ≤ 2 ^ 24 + 2 ^ 18 → ⊥ }
+    {
+        len < MAX_LINE_LEN && self.len - self.at <= MAX_REST_LEN
     }
 
     /// Returns whether a crash may have left the byte that follows a front of this length: a filler, and where a torn write may

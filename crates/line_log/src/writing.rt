@@ -79,6 +79,7 @@ impl<D: Disk> LineFile<D> {
         requires usable { IsTrue (D.Disk.is_usable self.old.disk) }
         requires synced { IsTrue (D.Disk.is_clean self.old.disk) → IsSynced D.Disk.seen D.Disk.may_leave self.old }
         requires text { IsText text.now }
+        requires short { length text.now ≤ 2 ^ 23 }
         requires small { IsSmallText text.now }
         requires room { self.old.end + length text.now < self.old.len }
         ensures clean { D.Disk.is_clean self.new.disk ≡ D.Disk.is_clean self.old.disk }
@@ -106,6 +107,7 @@ impl<D: Disk> LineFile<D> {
         requires synced { IsTrue (D.Disk.is_clean self.old.disk) → IsSynced D.Disk.seen D.Disk.may_leave self.old }
         requires text { IsText text.now }
         requires some { 0 < length text.now }
+        requires short { length text.now ≤ 2 ^ 23 }
         requires small { IsSmallText text.now }
         requires room { self.old.end + length text.now < self.old.len }
         requires mixing { IsTrue (D.Disk.is_mixing self.old.disk) }

@@ -7,4 +7,4 @@ pub returns-then-is_empty-clause-any_moment : goal.returns-then-is_empty-clause-
 returns-then-is_empty-clause-any_moment g c clean mixes kind left may =
     let f = g.D.Disk.seen c.args.self.now.disk in
     let s = c.requires.synced clean in
-    none_new mixes (lines_in f) (lines_in c.args.text.now) left (at_rest f c.args.self.now.end s.rest left (omega (arith, c.args.self.now.room, s.len)) (s.durable left may))
+    none_new mixes (lines_in f) (lines_in c.args.text.now) left (at_rest f c.args.self.now.end s.rest (omega (arith, c.args.self.now.short, s.len)) left (omega (arith, c.args.self.now.room, s.len)) (s.durable left may))

@@ -27,7 +27,7 @@ returns-in_err-write_at-clause-any_moment g c clean left may =
     let end = c.args.self.now.end in
     let t = c.args.text.now in
     let (before, was, torn) = c.write_at.ensures.crash left may in
-    none_new false (lines_in f) (lines_in t) left (torn_behind f end s.rest (end + 1) _ left (omega arith) (omega (arith, c.requires.room, s.len)) (rw (s.durable before was) at torn))
+    none_new false (lines_in f) (lines_in t) left (torn_behind f end s.rest (omega (arith, c.args.self.now.short, s.len)) (end + 1) (length (slice_range t 1 (length t))) left (omega arith) (omega (arith, shorter t c.requires.some, c.requires.room, c.args.self.now.short)) (omega (arith, c.requires.room, s.len)) (rw (s.durable before was) at torn))
 
 pub returns-in_err-sync-clause-any_moment : goal.returns-in_err-sync-clause-any_moment
 returns-in_err-sync-clause-any_moment g c clean left may =
@@ -36,7 +36,7 @@ returns-in_err-sync-clause-any_moment g c clean left may =
     let end = c.args.self.now.end in
     let t = c.args.text.now in
     let (before, was, torn) = c.write_at.ensures.crash left (c.sync.ensures.crash left may) in
-    none_new false (lines_in f) (lines_in t) left (torn_behind f end s.rest (end + 1) _ left (omega arith) (omega (arith, c.requires.room, s.len)) (rw (s.durable before was) at torn))
+    none_new false (lines_in f) (lines_in t) left (torn_behind f end s.rest (omega (arith, c.args.self.now.short, s.len)) (end + 1) (length (slice_range t 1 (length t))) left (omega arith) (omega (arith, shorter t c.requires.some, c.requires.room, c.args.self.now.short)) (omega (arith, c.requires.room, s.len)) (rw (s.durable before was) at torn))
 
 pub returns-in_err-write_at-2-clause-any_moment : goal.returns-in_err-write_at-2-clause-any_moment
 returns-in_err-write_at-2-clause-any_moment g c clean left may =
@@ -46,7 +46,7 @@ returns-in_err-write_at-2-clause-any_moment g c clean left may =
     let t = c.args.text.now in
     let m = g.D.Disk.seen c.write_at.new.self in
     let (before, was, step) = c.write_at-2.ensures.crash left may in
-    gate_between f end s.rest t c.requires.text (omega (arith, c.requires.room, s.len)) c.requires.some (slice_range t 1 (length t)) (shorter t c.requires.some) (part t c.requires.some)
+    gate_between f end s.rest (omega (arith, c.args.self.now.short, s.len)) t c.requires.text (omega (arith, c.requires.room, s.len)) c.requires.some (slice_range t 1 (length t)) (shorter t c.requires.some) (part t c.requires.some)
     m c.write_at.ensures.others c.in_ok-write_at.ensures.written left (length (take 1 t)) (one t c.requires.some) (rw (c.in_ok-sync.ensures.durable before was) at step)
 
 pub returns-in_err-sync-2-clause-any_moment : goal.returns-in_err-sync-2-clause-any_moment
@@ -57,7 +57,7 @@ returns-in_err-sync-2-clause-any_moment g c clean left may =
     let t = c.args.text.now in
     let m = g.D.Disk.seen c.write_at.new.self in
     let (before, was, step) = c.write_at-2.ensures.crash left (c.sync-2.ensures.crash left may) in
-    gate_between f end s.rest t c.requires.text (omega (arith, c.requires.room, s.len)) c.requires.some (slice_range t 1 (length t)) (shorter t c.requires.some) (part t c.requires.some)
+    gate_between f end s.rest (omega (arith, c.args.self.now.short, s.len)) t c.requires.text (omega (arith, c.requires.room, s.len)) c.requires.some (slice_range t 1 (length t)) (shorter t c.requires.some) (part t c.requires.some)
     m c.write_at.ensures.others c.in_ok-write_at.ensures.written left (length (take 1 t)) (one t c.requires.some) (rw (c.in_ok-sync.ensures.durable before was) at step)
 
 pub returns-clause-any_moment : goal.returns-clause-any_moment
@@ -68,7 +68,7 @@ returns-clause-any_moment g c clean left may =
     let t = c.args.text.now in
     let m = g.D.Disk.seen c.write_at.new.self in
     let (before, was, step) = c.write_at-2.ensures.crash left (c.sync-2.ensures.crash left may) in
-    gate_between f end s.rest t c.requires.text (omega (arith, c.requires.room, s.len)) c.requires.some (slice_range t 1 (length t)) (shorter t c.requires.some) (part t c.requires.some)
+    gate_between f end s.rest (omega (arith, c.args.self.now.short, s.len)) t c.requires.text (omega (arith, c.requires.room, s.len)) c.requires.some (slice_range t 1 (length t)) (shorter t c.requires.some) (part t c.requires.some)
     m c.write_at.ensures.others c.in_ok-write_at.ensures.written left (length (take 1 t)) (one t c.requires.some) (rw (c.in_ok-sync.ensures.durable before was) at step)
 
 pub returns-clause-synced : goal.returns-clause-synced
@@ -81,7 +81,7 @@ returns-clause-synced g c clean =
     let n = g.D.Disk.seen c.write_at-2.new.self in
     let first = c.write_at.ensures.others in
     let step = subst (λ (d : List ℕ). Torn end (length (take 1 t)) d n) c.sync.ensures.seen c.write_at-2.ensures.others in
-    let done = gate_rest f end s.rest t c.requires.text (omega (arith, c.requires.room, s.len)) c.requires.some (slice_range t 1 (length t)) (shorter t c.requires.some) (part t c.requires.some)
+    let done = gate_rest f end s.rest (omega (arith, c.args.self.now.short, s.len)) t c.requires.text (omega (arith, c.requires.room, s.len)) c.requires.some (slice_range t 1 (length t)) (shorter t c.requires.some) (part t c.requires.some)
     m first c.in_ok-write_at.ensures.written n (take 1 t) (one t c.requires.some) (get_or-take 1 t 0 0 (omega arith)) step (c.in_ok-write_at-2.ensures.written (omega (arith, one t c.requires.some))) in
     record {
       rest = rw c.sync-2.ensures.seen (done.0);
@@ -98,6 +98,6 @@ returns-clause-added g c clean =
     let m = g.D.Disk.seen c.write_at.new.self in
     let n = g.D.Disk.seen c.write_at-2.new.self in
     let step = subst (λ (d : List ℕ). Torn end (length (take 1 t)) d n) c.sync.ensures.seen c.write_at-2.ensures.others in
-    let done = gate_rest f end s.rest t c.requires.text (omega (arith, c.requires.room, s.len)) c.requires.some (slice_range t 1 (length t)) (shorter t c.requires.some) (part t c.requires.some)
+    let done = gate_rest f end s.rest (omega (arith, c.args.self.now.short, s.len)) t c.requires.text (omega (arith, c.requires.room, s.len)) c.requires.some (slice_range t 1 (length t)) (shorter t c.requires.some) (part t c.requires.some)
     m c.write_at.ensures.others c.in_ok-write_at.ensures.written n (take 1 t) (one t c.requires.some) (get_or-take 1 t 0 0 (omega arith)) step (c.in_ok-write_at-2.ensures.written (omega (arith, one t c.requires.some))) in
     rw c.sync-2.ensures.seen (done.1)

@@ -11,14 +11,14 @@ pub returns-in_err-hashed-clause-any_moment : goal.returns-in_err-hashed-clause-
 returns-in_err-hashed-clause-any_moment g c clean mixes kind lines has left may =
     let log = c.args.self.now.file in
     let s = has.synced in
-    let rest = at_rest (g.D.Disk.seen log.disk) log.end s.rest left (omega (arith, log.room, s.len)) (s.durable left may) in
+    let rest = at_rest (g.D.Disk.seen log.disk) log.end s.rest (omega (arith, log.short, s.len)) left (omega (arith, log.room, s.len)) (s.durable left may) in
     left_none mixes lines (lines_in c.args.text.now) left (rest.0 ∙ has.same) rest.1
 
 pub returns-then-size-gt-MAX_LINE_LEN-clause-any_moment : goal.returns-then-size-gt-MAX_LINE_LEN-clause-any_moment
 returns-then-size-gt-MAX_LINE_LEN-clause-any_moment g c clean mixes kind lines has left may =
     let log = c.args.self.now.file in
     let s = has.synced in
-    let rest = at_rest (g.D.Disk.seen log.disk) log.end s.rest left (omega (arith, log.room, s.len)) (s.durable left may) in
+    let rest = at_rest (g.D.Disk.seen log.disk) log.end s.rest (omega (arith, log.short, s.len)) left (omega (arith, log.room, s.len)) (s.durable left may) in
     left_none mixes lines (lines_in c.args.text.now) left (rest.0 ∙ has.same) rest.1
 
 pub returns-in_err-append-clause-any_moment : goal.returns-in_err-append-clause-any_moment
