@@ -9,3 +9,4 @@ pub mod ReadLemmas
 pub mod DigitLemmas
 pub mod RestartLemmas
 pub mod RestLemmas
+pub mod LongLemmas

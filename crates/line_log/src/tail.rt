@@ -11,7 +11,11 @@ use sqlite_disk::Disk;
 
 /// Leaves a byte behind the lines that begins none, if there is a byte. The lines end at `end`, and `has_brace` says whether a `{`
 /// follows them.
-pub(crate) fn overwrite_brace<D: Disk>(disk: &mut D, end: usize, has_brace: bool) -> Result<(), LogError>
+pub(crate) fn overwrite_brace<D: Disk>(
+    disk: &mut D,
+    end: usize,
+    has_brace: bool,
+) -> Result<(), LogError>
     requires usable { IsTrue (D.Disk.is_usable disk.old) }
     requires short { end ≤ 2 ^ 60 }
     requires durable { Only (D.Disk.seen disk.old) (D.Disk.may_leave disk.old) }
