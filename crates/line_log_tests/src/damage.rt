@@ -7,7 +7,7 @@ use std::alloc::{AllocError, Global};
 use std::process::Abort;
 use std::test::Fail;
 
-const TEXT: &[u8] = b"{\"log\":\"regd 1\"}\n{\"n\":1}\n{\"n\":2}\n";
+const TEXT: &[u8] = b"{\"log\":\"regd 1\"}\n{\"n\":1}\n{\"id\":\"0-0\"}\n";
 
 /// Returns the bytes of a file with the lines, up to the last LF.
 fn written(alloc: Global) -> Result<Vec<u8>, AllocError> {
@@ -145,12 +145,12 @@ fn damage_that_was_not_read_is_not_cut_off(rt: HostRuntime) -> Result<(), Fail> 
 fn long_file(alloc: Global) -> Result<Vec<u8>, AllocError> {
     let mut line = Vec::new(alloc);
     line.push(b'{')?;
-    line.resize(40 << 10, b'-')?;
+    line.resize(40 << 10, b'>')?;
     line.push(b'\n')?;
     let Ok((mut log, _)) = open_log(alloc, TornDisk::new(alloc, b"", true)?) else {
         return Err(AllocError);
     };
-    let first: &[u8] = b"{\"n-1\":1}\n";
+    let first: &[u8] = b"{\"n>1\":1}\n";
     if !is_text(first) || !is_text(&line) {
         return Err(AllocError);
     }
@@ -180,14 +180,14 @@ fn a_bit_that_makes_a_filler_is_found_before_64_kib_of_lines(rt: HostRuntime) ->
     holds(
         &rt,
         count_lines(rt.alloc(), &file)?.is_none(),
-        "a dash in the first line",
+        "a byte of the first line",
     );
     flip(&mut file, 3, 32);
     flip(&mut file, 50 << 10, 32);
     holds(
         &rt,
         count_lines(rt.alloc(), &file)? == Some(2),
-        "a dash in the last line, which seems torn",
+        "a byte of the last line, which seems torn",
     );
     Ok(())
 }
@@ -207,5 +207,36 @@ fn the_bytes_that_are_cut_off_are_counted(rt: HostRuntime) -> Result<(), Fail> {
         log.file.disk.bytes() == [b'\x1e'].as_slice(),
         "one filler is left",
     );
+    Ok(())
+}
+
+#[test]
+fn the_bytes_to_be_cut_off_are_counted_before(rt: HostRuntime) -> Result<(), Fail> {
+    let file: &[u8] = b"{\"n\":1\x1e\x1e\x1e";
+    let Ok(mut reader) = LogReader::new(rt.alloc(), TornDisk::new(rt.alloc(), file, true)?) else {
+        return Err(Fail::from("the file is not read"));
+    };
+    let Ok(rest) = reader.rest_len(rt.alloc()) else {
+        return Err(Fail::from("a torn file is refused"));
+    };
+    holds(
+        &rt,
+        rest == 6 && reader.disk.bytes() == file,
+        "six bytes follow the lines, and stay",
+    );
+    Ok(())
+}
+
+#[test]
+fn more_bytes_than_those_of_a_log_are_found(rt: HostRuntime) -> Result<(), Fail> {
+    let mut file = Vec::new(rt.alloc());
+    file.resize((1 << 24) + (1 << 18), b'\x1e')?;
+    holds(
+        &rt,
+        opens(rt.alloc(), &file)?,
+        "as many as the file of a log may have",
+    );
+    file.push(b'\x1e')?;
+    holds(&rt, !opens(rt.alloc(), &file)?, "one byte more");
     Ok(())
 }
