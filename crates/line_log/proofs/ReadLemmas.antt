@@ -108,7 +108,7 @@ module _ (file held : List ℕ) (at : ℕ) (within : at + length held ≤ length
           subst (MayEnd mixes) (sym (shut first)) (omega (arith, few, more_long first), shut_may)
       | inr later ↦
           let filler : slice_index held n ≡ 30 = elim torn [ inl is ↦ is | inr gate ↦ absurd (later gate.0) ] in
-          subst (MayEnd mixes) (sym (broken (omega arith))) (omega (arith, few, rest_long), front_short, filler, rest (omega arith))
+          subst (MayEnd mixes) (sym (broken (omega arith))) (omega (arith, few, rest_long), (front_short, filler, rest (omega arith)))
     ]
 
     pub torn_only : MayEnd mixes (tail_in (drop at file)) → IsTornAt mixes n (len - at) (slice_index held n)
@@ -122,11 +122,11 @@ module _ (file held : List ℕ) (at : ℕ) (within : at + length held ≤ length
               | inr none ↦ inr (first, inr (omega (arith, ap length none, more_long first)))
             ]
           ]
-      | inr later ↦ inl ((subst (MayEnd mixes) (broken (omega arith)) may).1.1.0)
+      | inr later ↦ inl ((subst (MayEnd mixes) (broken (omega arith)) may).1.1)
     ]
 
     pub torn_rest : 0 < n → MayEnd mixes (tail_in (drop at file)) → IsTornRest (drop (at + (n + 1)) file)
-    torn_rest some may = (subst (MayEnd mixes) (broken some) may).1.1.1
+    torn_rest some may = (subst (MayEnd mixes) (broken some) may).1.2
 
 -- one more line was read
 module _ (file : List ℕ) (lines : List (List ℕ)) (line : List ℕ) (n at : ℕ) (found rest : List ℕ) (is : found ≡ hashed_line (text_of lines) line) (long : length found ≡ n) (at_is : at ≡ length (text_of (hashed lines))) where

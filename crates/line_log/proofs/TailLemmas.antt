@@ -74,8 +74,7 @@ len_all (x ∷ line) (b ∷ d) = elim (cases_eq b 10) [
   | inl lf ↦
       let text : length (text_of (lines_from (x ∷ line) (b ∷ d))) ≡ length ((x ∷ line) ++ 10 ∷ text_of (lines_in d)) = ap (λ (l : List (List ℕ)). length (text_of l)) (lines.ends x line b d lf) in
       let rest : len_of (tail_from (suc (length line)) (b ∷ d)) ≡ len_of (tail_in d) = ap len_of (ends (length line) b d lf) in
-      let on : length d ≡ length (text_of (lines_in d)) + len_of (tail_in d) = len_all [] d in
-      omega (arith, text, rest, on, length-append (x ∷ line) (10 ∷ text_of (lines_in d)))
+      omega (arith, text, rest, len_all [] d, length-append (x ∷ line) (10 ∷ text_of (lines_in d)))
   | inr other ↦ elim (cases_lt b 32) [
     | inl low ↦
         let none : length (text_of (lines_from (x ∷ line) (b ∷ d))) ≡ 0 = ap (λ (l : List (List ℕ)). length (text_of l)) (lines.breaks x line b d other low) in
@@ -92,7 +91,7 @@ len_all (x ∷ line) (b ∷ d) = elim (cases_eq b 10) [
 
 -- a file is the text of its lines and what follows them
 pub behind_len : (d : List ℕ) → length d ≡ length (text_of (lines_in d)) + len_of (tail_in d)
-behind_len d = len_all [] d
+behind_len d = omega (arith, len_all [] d)
 
 -- ---- what a crash may leave
 

@@ -19,7 +19,7 @@ pub record BeginsWith (file : List ℕ) (lines : List (List ℕ)) (end : ℕ) : 
 abbrev pub IsShutAt : List ℕ → ℕ → Type 0
 IsShutAt file end = end < length file → slice_index file end ≢ 123
 
--- the file has the text of its lines, which is so long, and then fillers (30, RS)
+-- the file has the text of its lines, which is so long, and then fillers (0x1E, RS)
 pub record IsAtRest (file : List ℕ) (end : ℕ) : Type 0 where
   pub end_is : end ≡ length (text_of (lines_in file))
   pub text : (i : ℕ) → i < end → slice_index file i ≡ slice_index (text_of (lines_in file)) i

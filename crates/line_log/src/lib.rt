@@ -1,8 +1,8 @@
 //! Which lines does a log file hold, whatever a crash made of it?
 //!
-//! A file has lines and then fillers (bytes 30, RS). A line begins with `{`, has no byte below 32 and ends with an LF; the first byte that breaks this
-//! ends the lines. Each line has its hash behind it: a space and 32 hexadecimal digits, the first half of the SHA-256 of all lines up to it,
-//! each with its LF and without its hash. The theorems on crashes rest on no hash, only on what a disk promises
+//! A file has lines and then fillers (0x1E, RS). A line begins with `{`, has no byte below 32 and ends with an LF; the first byte that
+//! breaks this ends the lines. Each line has its hash behind it: a space and 32 hexadecimal digits, the first half of the SHA-256 of all
+//! lines up to it, each with its LF and without its hash. The theorems on crashes rest on no hash, only on what a disk promises
 //! (`sqlite_disk::Disk`). `docs/PROOFS.md` lists what that is in plain words.
 //!
 //! A file that was cut short inside a line is damaged. One that ends behind a line is a log with fewer lines, and so is one whose last lines

@@ -22,8 +22,8 @@ pub(crate) struct Used {
 /// Returns the end of the last byte that isn't a filler.
 fn used_len(block: &[u8]) -> usize
     ensures within { result ≤ length block.now }
-    ensures filler { (i : ℕ) → result ≤ i → i < length block.now → slice_index block.now i ≡ 13 }
-    ensures last { 0 < result → slice_index block.now (result - 1) ≢ 13 }
+    ensures filler { (i : ℕ) → result ≤ i → i < length block.now → slice_index block.now i ≡ 30 }
+    ensures last { 0 < result → slice_index block.now (result - 1) ≢ 30 }
 {
     let mut used = 0;
     'bytes: for i in 0..block.len() {

@@ -17,7 +17,7 @@ const CHUNK: usize = 1 << 18;
 
 /// Returns this many fillers. The error is out of memory.
 fn fillers(alloc: Global, count: usize) -> Result<Vec<u8>, AllocError>
-    ensures { IfOk result (λ v. v.items ≡ replicate count 13) }
+    ensures { IfOk result (λ v. v.items ≡ replicate count 30) }
 {
     vec![in alloc; b'\x1e'; count]
 }
