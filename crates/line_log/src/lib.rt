@@ -23,7 +23,7 @@
 //!
 //! - `log`, `file`, `reader`: the types; `error`: their error.
 //! - `appending`, `hashing`: lines get their hashes and are added; `writing`: bytes are written so that a crash leaves whole lines.
-//! - `reading`, `first_line`: a file is read line by line; `torn_rest`: what follows a broken line; `tail`: it gets its end back; `opening`: a log is opened and read whole.
+//! - `reading`, `peeking`, `first_line`: a file is read line by line; `torn_rest`: what follows a broken line; `tail`: it gets its end back; `opening`: a log is opened and read whole.
 //! - `laws`: theorems about the definitions; `restart`: the theorem on crashes and restarts.
 //!
 //! `docs/GLOSSARY.md` explains the terms.
@@ -37,6 +37,7 @@ mod hashing;
 mod laws;
 mod log;
 mod opening;
+mod peeking;
 mod reader;
 mod reading;
 mod restart;
