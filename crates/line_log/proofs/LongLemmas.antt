@@ -4,7 +4,7 @@ use Rattle.std.proofs.lemmas.List.{append-nil, get_or-append_right, get_or-drop,
 use Rattle.std.proofs.lemmas.Bool.{cases_eq, cases_lt}
 use Rattle.std.specs.Prelude.{slice_index}
 use Rattle.std.specs.List.{AllByRecursion}
-use Rattle.line_log.specs.Lines.{lines_from, lines_in, text_of, IsLogLine, IsLineFront}
+use Rattle.line_log.specs.Lines.{lines_from, lines_in, text_of, IsLineFront}
 use Rattle.line_log.specs.Tails.{tail_from, tail_in, MayEnd}
 use Rattle.line_log.specs.Damage.{IsLongLine}
 use Rattle.line_log.proofs.LineLemmas.{opens, inside, ends, lines_are, text_append, IsInside}

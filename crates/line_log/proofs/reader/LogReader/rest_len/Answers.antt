@@ -1,8 +1,8 @@
-use Rattle.std.proofs.Common.{ℕ, List, drop, sym, ◌∙◌, ap, subst}
+use Rattle.std.proofs.Common.{ℕ, List, sym, subst}
 use Rattle.std.specs.Prelude.{IsTrue}
 use Rattle.line_log.specs.Damage.{JustifiesFinish}
 use Rattle.line_log.specs.Reading.{HasReadLines}
-use Rattle.line_log.specs.Tails.{tail_in, MayEnd}
+use Rattle.line_log.specs.Tails.{MayEnd}
 use Rattle.line_log.specs.declared.error.LogError.{LogError}
 use Rattle.line_log.proofs.ReadLemmas.{looked, of_error, past_justified, read_all, read_end}
 use Rattle.line_log.proofs.RestLemmas.{is_cut}
