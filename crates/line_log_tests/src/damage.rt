@@ -226,17 +226,3 @@ fn the_bytes_to_be_cut_off_are_counted_before(rt: HostRuntime) -> Result<(), Fai
     );
     Ok(())
 }
-
-#[test]
-fn more_bytes_than_those_of_a_log_are_found(rt: HostRuntime) -> Result<(), Fail> {
-    let mut file = Vec::new(rt.alloc());
-    file.resize((1 << 24) + (1 << 18), b'\x1e')?;
-    holds(
-        &rt,
-        opens(rt.alloc(), &file)?,
-        "as many as the file of a log may have",
-    );
-    file.push(b'\x1e')?;
-    holds(&rt, !opens(rt.alloc(), &file)?, "one byte more");
-    Ok(())
-}
