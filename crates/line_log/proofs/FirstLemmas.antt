@@ -21,7 +21,7 @@ begun_then : (p rest : List ℕ) → IsLineFront p → lines_in (p ++ rest) ≡ 
 begun_then [] rest begun = refl
 begun_then (b ∷ p) rest begun = opens b (p ++ rest) begun.0 ∙ through b [] p rest begun.1
 
--- nothing but the beginning of a line
+-- nothing but a prefix of a line
 pub begun_none : (p : List ℕ) → IsLineFront p → lines_in p ≡ []
 begun_none [] begun = refl
 begun_none (b ∷ p) begun = ap lines_in (sym (append-nil (b ∷ p))) ∙ begun_then (b ∷ p) [] begun

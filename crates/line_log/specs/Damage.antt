@@ -7,7 +7,7 @@ use Rattle.line_log.specs.Tails.{tail_in, MayEnd}
 use Rattle.line_log.specs.declared.error.LogError.{LogError}
 use Rattle.line_log.specs.declared.error.LogError.TheVariants.{NoMemory, Disk, Damaged, LineTooLong, FileTooLong, Unread}
 
--- behind these lines the file has a line that is none with the right hash
+-- behind these lines the file has a line with another hash than its text has
 pub record HasWrongLine (file : List ℕ) (lines : List (List ℕ)) : Type 0 where
   pub found : List ℕ
   pub rest : List (List ℕ)

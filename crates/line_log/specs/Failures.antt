@@ -9,7 +9,7 @@ use Rattle.line_log.specs.declared.error.LogError.TheVariants.{NoMemory, Disk, T
 abbrev pub size_in_file : List ℕ → ℕ
 size_in_file text = length text + 33 * length (lines_in text)
 
--- The lines with their hashes are longer than what is added at once: 64 KiB, or 8 MiB if it is one line.
+-- The lines with their hashes are longer than one call may add: 64 KiB, or 8 MiB if it is one line.
 abbrev pub IsTooLong : List ℕ → Type 0
 IsTooLong text = (2 ^ 23 < size_in_file text) ⊎ ((2 ^ 16 < size_in_file text) × (1 < length (lines_in text)))
 

@@ -1,4 +1,4 @@
--- What the bytes of a log file stand for. A line begins with '{' (123), has no byte below 32, and ends with an LF (10). The first
+-- Which lines the bytes of a log file represent. A line begins with '{' (123), has no byte below 32, and ends with an LF (10). The first
 -- byte that breaks this ends the log.
 use Rattle.std.specs.Prelude.{◌≡◌, ℕ, ◌≤◌, ◌==◌, nat_lt, List, [], ◌∷◌, ◌++◌, if◌then◌else◌, ⊤}
 use Rattle.std.specs.List.{AllByRecursion}

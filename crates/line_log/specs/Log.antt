@@ -25,7 +25,7 @@ pub record IsAtRest (file : List ℕ) (end : ℕ) : Type 0 where
   pub text : (i : ℕ) → i < end → slice_index file i ≡ slice_index (text_of (lines_in file)) i
   pub filler : (i : ℕ) → end ≤ i → i < length file → slice_index file i ≡ 30
 
--- so many bytes follow the lines of the file, and then fillers to its end
+-- this number of bytes follow the lines of the file, and then fillers to its end
 pub record IsCutOff (file : List ℕ) (cut : ℕ) : Type 0 where
   pub filler : (i : ℕ) → length (text_of (lines_in file)) + cut ≤ i → i < length file → slice_index file i ≡ 30
   pub last : 0 < cut → slice_index file (length (text_of (lines_in file)) + cut - 1) ≢ 30

@@ -22,12 +22,12 @@ BeginsAs bytes (Whole n) = (n < length bytes) × IsLogLine (take n bytes) × (sl
 BeginsAs bytes Part = IsLineFront bytes
 BeginsAs bytes (Broken n) = (n < length bytes) × IsLineFront (take n bytes) × IsBreak (take n bytes) (slice_index bytes n)
 
--- The unread bytes in memory begin so, and if that is the beginning of a line and no more, nothing follows them in the file.
+-- The unread bytes in memory begin so, and if that is a prefix of a line and no more, nothing follows them in the file.
 pub record Tells {D : Type 0} {d : Ghosts D} (reader : LogReader D d) (found : FirstLine) : Type 0 where
   pub begins : BeginsAs (held_by reader) found
   pub whole : found ≡ Part → reader.at + length (held_by reader) ≡ reader.len
 
--- A crash may have left this byte behind the front of a line, where so many bytes of the file were not read: a filler, or in the place of
+-- A crash may have left this byte behind the front of a line, where this number of bytes of the file were not read: a filler, or in the place of
 -- the line's first byte any.
 abbrev pub IsTornAt : Bool → ℕ → ℕ → ℕ → Type 0
 IsTornAt mixes front left byte = (byte ≡ 30) ⊎ ((front ≡ 0) × ((mixes ≡ false) ⊎ (left ≡ 1)))

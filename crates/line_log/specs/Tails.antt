@@ -8,7 +8,7 @@ pub data Tail : Type 0 where
   broken_by : ℕ → ℕ → List ℕ → Tail
   shut_by : ℕ → List ℕ → Tail
 
--- what follows the whole lines, where so many bytes of the next one were read
+-- what follows the whole lines, where this number of bytes of the next one were read
 abbrev pub tail_from : ℕ → List ℕ → Tail
 tail_from n [] = unbroken n
 tail_from zero (b ∷ bytes) = if b == 123 then tail_from 1 bytes else shut_by b bytes

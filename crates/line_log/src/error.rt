@@ -17,11 +17,11 @@ pub enum LogError {
     Disk(io::Error),
     /// The file would be too long.
     FileTooLong,
-    /// Lines of more than 64 KiB with their hashes are to be added at once, or one of more than 8 MiB.
+    /// One call is to add several lines of more than 64 KiB with their hashes, or one of more than 8 MiB.
     TextTooLong,
-    /// The line behind so many doesn't end within 8 MiB.
+    /// The line behind this number of lines doesn't end within 8 MiB.
     LineTooLong(usize),
-    /// What follows so many lines is no line with the right hash, and no end that a crash leaves.
+    /// What follows this number of lines is no line with the right hash, and no end that a crash leaves.
     Damaged(usize),
     /// The file has lines that were not read.
     Unread,

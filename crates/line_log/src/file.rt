@@ -10,7 +10,7 @@ pub(crate) const MAX_FILE_LEN: usize = 1 << 60;
 /// The maximum length of a line of a file, with its hash and its LF. No line that `regd` prints is as long.
 pub(crate) const MAX_LINE_LEN: usize = 1 << 23;
 
-/// The maximum length of several lines that are added at once, with their hashes. A start takes no more than that for a torn write.
+/// The maximum length of several lines that one call adds, with their hashes. A start takes no more than that for a torn write.
 pub(crate) const MAX_GROUP_LEN: usize = 1 << 16;
 
 /// The maximum length of what follows the lines of a file. A file gets longer only if too little room is left for a line, and then it gets

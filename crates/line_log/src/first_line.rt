@@ -9,9 +9,9 @@ ghost use Rattle.line_log.specs.ReadingPrivate.{BeginsAs};
 pub(crate) enum FirstLine {
     /// A line of this length, and its LF.
     Whole(usize),
-    /// The beginning of a line, and no more.
+    /// A prefix of a line, and no more.
     Part,
-    /// The beginning of a line, of this length, and a byte that neither continues nor ends it.
+    /// A prefix of a line, of this length, and a byte that neither continues nor ends it.
     Broken(usize),
 }
 

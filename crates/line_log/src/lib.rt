@@ -6,7 +6,7 @@
 //! (`sqlite_disk::Disk`). `docs/PROOFS.md` lists what that is in plain words.
 //!
 //! A file that was cut short inside a line is damaged. One that ends behind a line is a log with fewer lines, and so is one whose last lines
-//! became fillers: these can't be told from lines that were never added. A caller who must know keeps the number of the last line and its
+//! became fillers: nothing distinguishes these from lines that were never added. A caller who must know keeps the number of the last line and its
 //! hash elsewhere. `docs/DECISIONS.md` lists what else looks as after a crash.
 //!
 //! - [`LogReader`] reads a file line by line, in memory bounded by a line, tests the hashes, and opens the log at the end.

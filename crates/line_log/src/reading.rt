@@ -25,7 +25,7 @@ use sha2::{Digest, Sha256};
 use sqlite_disk::Disk;
 use std::alloc::Global;
 
-/// How many bytes of a file are read at once.
+/// How many bytes of a file one call reads.
 pub(crate) const BLOCK: usize = 1 << 18;
 
 /// Reads a part of a file.

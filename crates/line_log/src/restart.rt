@@ -70,7 +70,7 @@ fn run<D: Disk>(alloc: Global, disk: D, texts: &[Vec<u8>]) -> (Option<Vec<u8>>, 
 }
 
 /// Opens a log, which may be an empty file, and adds texts on a disk that stops after this number of `calls`; that may be in the midst
-/// of the opening. Then the machine crashes, and the log is opened on a disk that stops after `more` calls. It crashes once more, and the
+/// of the opening. Then the machine crashes, and the log is opened on a disk that stops after `more` calls. It crashes again, and the
 /// log is opened again. Nothing that was acknowledged is lost, and each start reads the same (`specs/Restarts`). Returns nothing if a sync
 /// after a crash failed, or if the log doesn't open at last.
 pub fn reopened<D: Crash + Drop>(

@@ -12,7 +12,7 @@ use crate::file::{LineFile, MAX_FILE_LEN};
 use sqlite_disk::Disk;
 use std::alloc::{AllocError, Global};
 
-/// How many fillers are written at once.
+/// How many fillers one call writes.
 const CHUNK: usize = 1 << 18;
 
 /// Returns this many fillers. The error is out of memory.

@@ -1,4 +1,4 @@
-//! Does a log keep what it acknowledged, and nothing but a beginning of the rest, over a crash at each call of the disk?
+//! Does a log keep what it acknowledged, and nothing but a prefix of the rest, over a crash at each call of the disk?
 
 ghost use Rattle.std.specs.Prelude.{IsTrue};
 ghost use Rattle.line_log.specs.Log.{IsSynced};
@@ -27,7 +27,7 @@ struct Run {
     left: Vec<u8>,
 }
 
-/// Adds the texts that a log lacks, of whose text so many bytes were found, until a call fails. Returns the length of the texts that it has
+/// Adds the texts that a log lacks, of whose text this number of bytes were found, until a call fails. Returns the length of the texts that it has
 /// acknowledged.
 fn add<D: Disk>(alloc: Global, log: &mut LineLog<D>, found: usize) -> usize
     requires usable { IsTrue (D.Disk.is_usable log.old.file.disk) }
@@ -76,7 +76,7 @@ fn text_of_file(alloc: Global, file: &[u8], mixes: bool) -> Result<Vec<u8>, Allo
     }
 }
 
-/// Runs to a crash after each number of calls, and once more to a second crash. Asserts what the next start finds.
+/// Runs to a crash after each number of calls, and again to a second crash. Asserts what the next start finds.
 fn crash_twice(rt: &impl Abort, alloc: Global, mixes: bool, all: &[u8]) -> Result<(), AllocError> {
     let mut random = Random::new(if mixes { 1 } else { 2 });
     for calls in 0..24 {

@@ -30,7 +30,7 @@ fn opens(alloc: Global, lines: &[u8]) -> Result<bool, AllocError> {
     Ok(open_log(alloc, TornDisk::new(alloc, lines, true)?).is_ok())
 }
 
-/// Returns whether the file is refused as damaged behind so many lines, and not changed.
+/// Returns whether the file is refused as damaged behind this number of lines, and not changed.
 fn is_refused(alloc: Global, lines: &[u8], right: usize) -> Result<bool, AllocError> {
     let mut file = Vec::new(alloc);
     file.extend_from_slice(lines)?;
